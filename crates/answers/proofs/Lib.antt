@@ -1,0 +1,3 @@
+-- The laws of answers.
+pub mod Refusals
+pub mod Conversion

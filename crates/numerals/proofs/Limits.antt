@@ -1,0 +1,44 @@
+-- What is within the limits of digits and of the largest number, and what that tells.
+use Prim.Native.Nat.{ℕ, _+_, _≤_, _<_}
+use mathlib.Core.Path.{_≡_}
+use mathlib.Core.Bool.{true, _&&_}
+use mathlib.Core.List.{List}
+use mathlib.Core.Option.{none, some}
+use native.Mathlib.Omega.{arith}
+use lib.Dec.{leb, ltb}
+use borrow.Author.Tests.{le-leb, lt-leb, lt-ltb, leb-true, ltb-true}
+use Rattle.numerals.specs.Digits.{isDigit, allDigits, value, digits, largest, numberOf, digitsOf}
+use Rattle.numerals.proofs.Cases.{both, parts, keep, kept, discard}
+
+pub digit : (base x : ℕ) → 48 ≤ x → x < 48 + base → isDigit base x ≡ true
+digit base x low high = both (le-leb 48 x low) (lt-ltb x (48 + base) high)
+
+pub digit-bounds : (base x : ℕ) → isDigit base x ≡ true → (48 ≤ x) × (x < 48 + base)
+digit-bounds base x is =
+    let bounds = parts (leb 48 x) (ltb x (48 + base)) is in
+    (leb-true 48 x (bounds .0), ltb-true x (48 + base) (bounds .1))
+
+pub number-small : (base : ℕ) (s : List ℕ) → allDigits base s ≡ true → value base s ≤ largest → numberOf base s ≡ some (value base s)
+unfolding numberOf
+number-small base s all small = keep (value base s) (both all (le-leb (value base s) largest small))
+
+pub number-limits : (base : ℕ) (s : List ℕ) {n : ℕ} → numberOf base s ≡ some n → (allDigits base s ≡ true) × (value base s ≡ n) × (n ≤ largest)
+unfolding numberOf
+number-limits base s is =
+    let whole = kept (allDigits base s && leb (value base s) largest) (value base s) is in
+    let tests = parts (allDigits base s) (leb (value base s) largest) (whole .0) in
+    (tests .0, whole .1, omega (arith, leb-true (value base s) largest (tests .1)))
+
+pub digits-small : (base places n : ℕ) → n ≤ largest → digitsOf base places n ≡ some (digits base places n)
+unfolding digitsOf
+digits-small base places n small = keep (digits base places n) (le-leb n largest small)
+
+pub digits-large : (base places n : ℕ) → largest < n → digitsOf base places n ≡ none
+unfolding digitsOf
+digits-large base places n large = discard (digits base places n) (lt-leb n largest large)
+
+pub digits-limits : (base places n : ℕ) {s : List ℕ} → digitsOf base places n ≡ some s → (n ≤ largest) × (digits base places n ≡ s)
+unfolding digitsOf
+digits-limits base places n is =
+    let whole = kept (leb n largest) (digits base places n) is in
+    (leb-true n largest (whole .0), whole .1)

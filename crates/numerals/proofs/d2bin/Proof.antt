@@ -1,0 +1,14 @@
+use borrow.Author.Needs.{needs}
+use Rattle.numerals.specs.Conversions.{d2bin}
+use Rattle.numerals.proofs.d2bin.Statement.{statement}
+use Rattle.numerals.proofs.d2bin.Tie as tie
+
+to-number-requires : tie.Need-to-number-requires
+to-number-requires c κs = search needs
+
+returns : tie.Need-returns
+unfolding d2bin
+returns c = c .to-number .ensures
+
+pub d2bin-spec : {M : Type 1} → statement M
+d2bin-spec = tie.close (tie.spec to-number-requires returns)

@@ -1,0 +1,4 @@
+-- Numbers in decimal and octal digits.
+pub mod Digits
+pub mod Numeral
+pub mod Conversions

@@ -1,0 +1,5 @@
+-- The laws of Radix-50.
+pub mod Characters
+pub mod Packing
+pub mod Names
+pub mod Conversions

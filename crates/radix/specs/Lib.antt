@@ -1,0 +1,6 @@
+-- Radix-50: characters and their codes, words of three, legal names and extensions, RADPK and RADUP.
+pub mod Characters
+pub mod Codes
+pub mod Packing
+pub mod Names
+pub mod Conversions

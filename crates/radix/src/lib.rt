@@ -1,0 +1,232 @@
+// Radix-50: the word type, characters and codes, legal names and extensions, RADPK and RADUP.
+ghost use mathlib.Core.Path.{_≡_};
+ghost use Prim.Native.Nat.{_<_};
+ghost use mathlib.Core.Bool.{_&&_};
+ghost use lib.Dec.{eqb};
+ghost use Rattle.radix.specs.Characters.{codeOf, characterOf};
+ghost use Rattle.radix.specs.Codes.{codeIn, characterIn};
+ghost use Rattle.radix.specs.Packing.{packed, firstCode, secondCode, thirdCode, threeIf};
+ghost use Rattle.radix.specs.Names.{isLetterOrDigitIn, extensionTest, legalName, legalExtension};
+ghost use Rattle.radix.specs.Conversions.{radpk, radup};
+use answers::Answer;
+
+// A word of three characters. A host may pass any number as one: from END up no character is in it.
+pub struct Radix50(pub usize);
+
+impl Radix50 {
+    pub const BLANK: usize = 0;
+
+    pub const END: usize = 64000;
+
+    pub fn pack(a: usize, b: usize, c: usize) -> Self
+        requires { ⌜ (a < 40) × (b < 40) × (c < 40) ⌝ }
+        ensures { λ r. ⌜ r .0 ≡ packed a b c ⌝ }
+    {
+        Self(1600 * a + 40 * b + c)
+    }
+
+    pub fn first(self) -> usize
+        ensures { λ r. ⌜ r ≡ firstCode (self .0) ⌝ }
+    {
+        self.0 / 1600
+    }
+
+    pub fn second(self) -> usize
+        ensures { λ r. ⌜ r ≡ secondCode (self .0) ⌝ }
+    {
+        self.0 / 40 % 40
+    }
+
+    pub fn third(self) -> usize
+        ensures { λ r. ⌜ r ≡ thirdCode (self .0) ⌝ }
+    {
+        self.0 % 40
+    }
+
+    pub fn is_legal_extension(self) -> bool
+        ensures { λ r. ⌜ r ≡ legalExtension (self .0) ⌝ }
+    {
+        is_then_blanks(self.first(), self.second(), self.third())
+    }
+}
+
+pub enum Code {
+    Of(usize),
+    Nothing,
+}
+
+pub enum Character {
+    Of(u8),
+    Nothing,
+}
+
+pub fn code_of(character: u8) -> Code
+    ensures { λ r. ⌜ codeIn r ≡ codeOf character ⌝ }
+{
+    let x = character as usize;
+    if x == 32 {
+        return Code::Of(0);
+    }
+    if x == 36 {
+        return Code::Of(27);
+    }
+    if x == 46 {
+        return Code::Of(28);
+    }
+    if x < 48 {
+        return Code::Nothing;
+    }
+    if x <= 57 {
+        return Code::Of(x - 18);
+    }
+    if x < 65 {
+        return Code::Nothing;
+    }
+    if x <= 90 {
+        return Code::Of(x - 64);
+    }
+    Code::Nothing
+}
+
+pub fn character_of(code: usize) -> Character
+    ensures { λ r. ⌜ characterIn r ≡ characterOf code ⌝ }
+{
+    if code == 0 {
+        return Character::Of(32);
+    }
+    if code <= 26 {
+        return Character::Of((code + 64) as u8);
+    }
+    if code == 27 {
+        return Character::Of(36);
+    }
+    if code == 28 {
+        return Character::Of(46);
+    }
+    if code == 29 {
+        return Character::Nothing;
+    }
+    if code <= 39 {
+        return Character::Of((code + 18) as u8);
+    }
+    Character::Nothing
+}
+
+// Is the character of a code a letter or a digit?
+fn is_in_name(code: usize) -> bool
+    ensures { λ r. ⌜ r ≡ isLetterOrDigitIn (characterOf code) ⌝ }
+{
+    if code == 0 {
+        return false;
+    }
+    if code <= 26 {
+        return true;
+    }
+    if code < 30 {
+        return false;
+    }
+    code <= 39
+}
+
+fn is_blank(b: usize, c: usize) -> bool
+    ensures { λ r. ⌜ r ≡ (eqb b 0 && eqb c 0) ⌝ }
+{
+    if b == 0 {
+        return c == 0;
+    }
+    false
+}
+
+// Are the characters of three codes letters and digits, then blanks only?
+fn is_then_blanks(a: usize, b: usize, c: usize) -> bool
+    ensures { λ r. ⌜ r ≡ extensionTest (threeIf (characterOf a) (characterOf b) (characterOf c)) ⌝ }
+{
+    if is_in_name(a) {
+        if is_in_name(b) {
+            if is_in_name(c) {
+                return true;
+            }
+            return c == 0;
+        }
+        return is_blank(b, c);
+    }
+    if a == 0 {
+        return is_blank(b, c);
+    }
+    false
+}
+
+pub fn is_legal_name(first: Radix50, second: Radix50) -> bool
+    ensures { λ r. ⌜ r ≡ legalName (first .0) (second .0) ⌝ }
+{
+    if first.first() == 0 {
+        return false;
+    }
+    if !first.is_legal_extension() {
+        return false;
+    }
+    if first.third() == 0 {
+        return second.0 == Radix50::BLANK;
+    }
+    second.is_legal_extension()
+}
+
+pub fn radpk(characters: &[u8]) -> Answer
+    ensures { λ r. ⌜ r ≡ radpk (now (characters .entry)) ⌝ }
+{
+    if characters.len() != 3 {
+        return Answer {
+            code: 0o41,
+            number: 0,
+        };
+    }
+    let Code::Of(a) = code_of(characters[0]) else {
+        return Answer {
+            code: 0o60,
+            number: 0,
+        };
+    };
+    let Code::Of(b) = code_of(characters[1]) else {
+        return Answer {
+            code: 0o60,
+            number: 0,
+        };
+    };
+    let Code::Of(c) = code_of(characters[2]) else {
+        return Answer {
+            code: 0o60,
+            number: 0,
+        };
+    };
+    let word = Radix50::pack(a, b, c);
+    Answer {
+        code: 0,
+        number: word.0,
+    }
+}
+
+pub fn radup(word: usize, characters: &mut [u8]) -> usize
+    ensures { λ r. ⌜ r ≡ radup word (now (characters .entry)) .code ⌝ }
+    ensures { λ r. ⌜ now (characters .exit) ≡ radup word (now (characters .entry)) .buffer ⌝ }
+{
+    if characters.len() != 3 {
+        return 0o41;
+    }
+    if Radix50::END <= word {
+        return 0o60;
+    }
+    let packed = Radix50(word);
+    let Character::Of(x) = character_of(packed.first()) else {
+        return 0o60;
+    };
+    let Character::Of(y) = character_of(packed.second()) else {
+        return 0o60;
+    };
+    let Character::Of(z) = character_of(packed.third()) else {
+        return 0o60;
+    };
+    characters[0] = x;
+    characters[1] = y;
+    characters[2] = z;
+    0
+}

@@ -1,0 +1,50 @@
+// The boundary to a host in C: one thin function for each name, over numbers and byte slices, with no condition on the caller.
+ghost use mathlib.Core.Path.{_≡_};
+ghost use Rattle.radix.specs.Conversions.{radpk, radup};
+ghost use Rattle.numerals.specs.Conversions.{d2bin, bin2d, o2bin, bin2o};
+use answers::Answer;
+
+#[no_mangle]
+pub extern "C" fn abz_radpk(characters: &[u8]) -> Answer
+    ensures { λ r. ⌜ r ≡ radpk (now (characters .entry)) ⌝ }
+{
+    radix::radpk(characters)
+}
+
+#[no_mangle]
+pub extern "C" fn abz_radup(word: usize, characters: &mut [u8]) -> usize
+    ensures { λ r. ⌜ r ≡ radup word (now (characters .entry)) .code ⌝ }
+    ensures { λ r. ⌜ now (characters .exit) ≡ radup word (now (characters .entry)) .buffer ⌝ }
+{
+    radix::radup(word, characters)
+}
+
+#[no_mangle]
+pub extern "C" fn abz_d2bin(characters: &[u8]) -> Answer
+    ensures { λ r. ⌜ r ≡ d2bin (now (characters .entry)) ⌝ }
+{
+    numerals::d2bin(characters)
+}
+
+#[no_mangle]
+pub extern "C" fn abz_bin2d(number: usize, characters: &mut [u8]) -> usize
+    ensures { λ r. ⌜ r ≡ bin2d number (now (characters .entry)) .code ⌝ }
+    ensures { λ r. ⌜ now (characters .exit) ≡ bin2d number (now (characters .entry)) .buffer ⌝ }
+{
+    numerals::bin2d(number, characters)
+}
+
+#[no_mangle]
+pub extern "C" fn abz_o2bin(characters: &[u8]) -> Answer
+    ensures { λ r. ⌜ r ≡ o2bin (now (characters .entry)) ⌝ }
+{
+    numerals::o2bin(characters)
+}
+
+#[no_mangle]
+pub extern "C" fn abz_bin2o(number: usize, characters: &mut [u8]) -> usize
+    ensures { λ r. ⌜ r ≡ bin2o number (now (characters .entry)) .code ⌝ }
+    ensures { λ r. ⌜ now (characters .exit) ≡ bin2o number (now (characters .entry)) .buffer ⌝ }
+{
+    numerals::bin2o(number, characters)
+}

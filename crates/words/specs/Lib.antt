@@ -1,0 +1,2 @@
+-- The words of a slice of bytes.
+pub mod Word

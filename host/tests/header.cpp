@@ -1,0 +1,18 @@
+// Compiled only. C++ takes the header, twice too, and the functions keep their C names: had the header not declared
+// them so, the declarations below would contradict it.
+#include "abezolit.h"
+#include "abezolit.h"
+
+extern "C" {
+abz_answer abz_radpk(const uint8_t *, size_t);
+size_t abz_radup(size_t, uint8_t *, size_t);
+abz_answer abz_d2bin(const uint8_t *, size_t);
+size_t abz_bin2d(size_t, uint8_t *, size_t);
+abz_answer abz_o2bin(const uint8_t *, size_t);
+size_t abz_bin2o(size_t, uint8_t *, size_t);
+}
+
+bool taken(const uint8_t *chars, size_t chars_len)
+{
+    return abz_radpk(chars, chars_len).code == ABZ_OK;
+}
