@@ -1,22 +1,94 @@
--- The laws of conversions: the answer of each case, and that a pair of conversions undo each other.
+-- The laws of conversions: which code is given and why, the answer of each case, what a refusal leaves, and that a pair of conversions undo each other.
 use Prim.Native.Nat.{ℕ}
-use mathlib.Core.Path.{_≡_, refl, sym, ap, _∙_}
-use mathlib.Core.Bool.{Bool, true, false, not, cond}
-use mathlib.Core.List.{List, [], _∷_}
+use mathlib.Core.Path.{_≡_, refl, sym, ap}
+use mathlib.Core.Logic.{_⊎_, inl, inr, _↔_}
+use mathlib.Core.Bool.{true}
+use mathlib.Core.List.{List}
 use mathlib.Core.Option.{Option, none, some}
 use native.Mathlib.Omega.{arith}
 use native.Mathlib.Decide.{ℕ-discrete}
-use lib.Dec.{eqb}
 use lib.ListN.{length}
-use borrow.Author.Tests.{eq-eqb, ne-eqb, eqb-true}
-use Rattle.answers.specs.declared.Answer.{Answer}
-use Rattle.answers.specs.Refusals.{Row, row, tableOrder, inOrder, firstOf, onSuccess, answered, lent}
-use Rattle.answers.specs.Conversion.{missing, orElse, conversionRows, toNumber, Written, toCharacters}
+use borrow.Author.Tests.{eq-eqb, ne-eqb}
+use Rattle.answers.specs.Refusals.{tableOrder, inOrder, firstOf, onSuccess, answered, lent}
+use Rattle.answers.specs.Conversion.{orElse, conversionRows, toNumber, Written, toCharacters}
 
 -- 41 stands before 60 in the table
 pub conversion-ordered : {A : Type 0} (size : ℕ) (bytes : List ℕ) (result : Option A) → inOrder tableOrder 0 (conversionRows size bytes result) ≡ true
 unfolding conversionRows
 conversion-ordered size bytes result = refl
+
+-- The code of a conversion, either way, with its cause.
+pub data Cause {A : Type 0} (size : ℕ) (bytes : List ℕ) : Option A → ℕ → Type 0 where
+  other-size : {result : Option A} → (length bytes ≡ size → ⊥) → Cause size bytes result 0o41
+  not-of-set : length bytes ≡ size → Cause size bytes none 0o60
+  converted : {a : A} → length bytes ≡ size → Cause size bytes (some a) 0
+
+module _ {A : Type 0} (size : ℕ) (bytes : List ℕ) where
+  code-41 : (result : Option A) → (length bytes ≡ size → ⊥) → firstOf (conversionRows size bytes result) ≡ 0o41
+  unfolding conversionRows firstOf
+  code-41 result other = rw (ne-eqb (length bytes) size other)
+
+  code-60 : (result : Option A) → length bytes ≡ size → result ≡ none → firstOf (conversionRows size bytes result) ≡ 0o60
+  unfolding conversionRows firstOf
+  code-60 result same nothing = rw (eq-eqb (length bytes) size same, nothing)
+
+  code-0 : (result : Option A) (a : A) → length bytes ≡ size → result ≡ some a → firstOf (conversionRows size bytes result) ≡ 0
+  unfolding conversionRows firstOf
+  code-0 result a same is = rw (eq-eqb (length bytes) size same, is)
+
+  -- each code has its cause
+  pub cause : (result : Option A) → Cause size bytes result (firstOf (conversionRows size bytes result))
+  cause result = sized (ℕ-discrete (length bytes) size) result
+    where
+      sized : Dec (length bytes ≡ size) → (o : Option A) → Cause size bytes o (firstOf (conversionRows size bytes o))
+      sized (no other) o = rw (code-41 o other) (other-size other)
+      sized (yes same) none = rw (code-60 none same refl) (not-of-set same)
+      sized (yes same) (some a) = rw (code-0 (some a) a same refl) (converted same)
+
+  of-three : (o : Option A) (code : ℕ) → Cause size bytes o code → (code ≡ 0) ⊎ ((code ≡ 0o41) ⊎ (code ≡ 0o60))
+  of-three o code (other-size other) = inr (inl refl)
+  of-three o code (not-of-set same) = inr (inr refl)
+  of-three o code (converted same) = inl refl
+
+  cause-41 : (o : Option A) (code : ℕ) → Cause size bytes o code → code ≡ 0o41 → length bytes ≡ size → ⊥
+  cause-41 o code (other-size other) is same = other same
+  cause-41 o code (not-of-set same) is same₂ = omega arith
+  cause-41 o code (converted same) is same₂ = omega arith
+
+  cause-60 : (o : Option A) (code : ℕ) → Cause size bytes o code → code ≡ 0o60 → (length bytes ≡ size) × (o ≡ none)
+  cause-60 o code (other-size other) is = absurd (omega arith)
+  cause-60 o code (not-of-set same) is = (same, refl)
+  cause-60 o code (converted same) is = absurd (omega arith)
+
+  cause-0 : (o : Option A) (code : ℕ) → Cause size bytes o code → code ≡ 0 → (length bytes ≡ size) × ((a : A) × (o ≡ some a))
+  cause-0 o code (other-size other) is = absurd (omega arith)
+  cause-0 o code (not-of-set same) is = absurd (omega arith)
+  cause-0 o code (converted {a} same) is = (same, (a, refl))
+
+  module _ (result : Option A) where
+    -- no conversion has another code
+    pub code-of-three : (firstOf (conversionRows size bytes result) ≡ 0)
+        ⊎ ((firstOf (conversionRows size bytes result) ≡ 0o41) ⊎ (firstOf (conversionRows size bytes result) ≡ 0o60))
+    code-of-three = of-three result (firstOf (conversionRows size bytes result)) (cause result)
+
+    -- 41 exactly if the buffer is of another size, whatever else is wrong
+    pub code-41-iff : firstOf (conversionRows size bytes result) ≡ 0o41 ↔ (length bytes ≡ size → ⊥)
+    code-41-iff = (cause-41 result (firstOf (conversionRows size bytes result)) (cause result), code-41 result)
+
+    -- 60 exactly if it is of the size and the input is not of the set; what that means is said by the conversion
+    pub code-60-iff : {NotOfSet : Type 0} → (length bytes ≡ size → (result ≡ none ↔ NotOfSet))
+        → (firstOf (conversionRows size bytes result) ≡ 0o60 ↔ ((length bytes ≡ size) × NotOfSet))
+    code-60-iff means = (
+      λ is. let why = cause-60 result (firstOf (conversionRows size bytes result)) (cause result) is in (why .0, means (why .0) .0 (why .1)),
+      λ why. code-60 result (why .0) (means (why .0) .1 (why .1)),
+    )
+
+    -- 0 exactly if it is of the size and the input converts
+    pub code-0-iff : firstOf (conversionRows size bytes result) ≡ 0 ↔ ((length bytes ≡ size) × ((a : A) × (result ≡ some a)))
+    code-0-iff = (
+      cause-0 result (firstOf (conversionRows size bytes result)) (cause result),
+      λ taken. code-0 result (taken .1 .0) (taken .0) (taken .1 .1),
+    )
 
 module _ (size : ℕ) (number : List ℕ → Option ℕ) (characters : List ℕ) where
   pub number-41 : (length characters ≡ size → ⊥) → toNumber size number characters ≡ record { code = 0o41; number = 0 }
@@ -33,15 +105,8 @@ module _ (size : ℕ) (number : List ℕ → Option ℕ) (characters : List ℕ)
 
   -- a success was of the size asked, and of the set
   pub number-taken : toNumber size number characters .code ≡ 0 → (length characters ≡ size) × ((n : ℕ) × (number characters ≡ some n))
-  number-taken success = sized (ℕ-discrete (length characters) size)
-    where
-      settled : length characters ≡ size → (o : Option ℕ) → number characters ≡ o → (length characters ≡ size) × ((n : ℕ) × (number characters ≡ some n))
-      settled same (some n) is = (same, (n, is))
-      settled same none is = absurd (let z : _≡_ {A = ℕ} 0o60 0 = sym (ap (λ r. r .code) (number-60 same is)) ∙ success in omega arith)
-
-      sized : Dec (length characters ≡ size) → (length characters ≡ size) × ((n : ℕ) × (number characters ≡ some n))
-      sized (yes same) = settled same (number characters) refl
-      sized (no other) = absurd (let z : _≡_ {A = ℕ} 0o41 0 = sym (ap (λ r. r .code) (number-41 other)) ∙ success in omega arith)
+  unfolding toNumber answered
+  number-taken success = code-0-iff size characters (number characters) .0 success
 
 module _ (size : ℕ) (characters : ℕ → Option (List ℕ)) (number : ℕ) (buffer : List ℕ) where
   pub characters-41 : (length buffer ≡ size → ⊥) → toCharacters size characters number buffer ≡ record { code = 0o41; buffer = buffer }
@@ -58,15 +123,27 @@ module _ (size : ℕ) (characters : ℕ → Option (List ℕ)) (number : ℕ) (b
 
   -- a success was of the size asked, and of the set
   pub characters-taken : toCharacters size characters number buffer .code ≡ 0 → (length buffer ≡ size) × ((s : List ℕ) × (characters number ≡ some s))
-  characters-taken success = sized (ℕ-discrete (length buffer) size)
-    where
-      settled : length buffer ≡ size → (o : Option (List ℕ)) → characters number ≡ o → (length buffer ≡ size) × ((s : List ℕ) × (characters number ≡ some s))
-      settled same (some s) is = (same, (s, is))
-      settled same none is = absurd (let z : _≡_ {A = ℕ} 0o60 0 = sym (ap (λ r. r .code) (characters-60 same is)) ∙ success in omega arith)
+  unfolding toCharacters
+  characters-taken success = code-0-iff size buffer (characters number) .0 success
 
-      sized : Dec (length buffer ≡ size) → (length buffer ≡ size) × ((s : List ℕ) × (characters number ≡ some s))
-      sized (yes same) = settled same (characters number) refl
-      sized (no other) = absurd (let z : _≡_ {A = ℕ} 0o41 0 = sym (ap (λ r. r .code) (characters-41 other)) ∙ success in omega arith)
+-- what stands beside a code other than 0
+on-refusal : {A : Type 0} (code : ℕ) (success refusal : A) → (code ≡ 0 → ⊥) → onSuccess code success refusal ≡ refusal
+unfolding onSuccess
+on-refusal code success refusal refused = rw (ne-eqb code 0 refused)
+
+-- "A refusal returns its code, any other number in the answer 0"
+pub number-refused : (size : ℕ) (number : List ℕ → Option ℕ) (characters : List ℕ) → (toNumber size number characters .code ≡ 0 → ⊥)
+    → toNumber size number characters .number ≡ 0
+unfolding toNumber answered
+number-refused size number characters refused =
+    on-refusal (firstOf (conversionRows size characters (number characters))) (orElse 0 (number characters)) 0 refused
+
+-- "and nothing in the image or a lent buffer changes."
+pub characters-refused : (size : ℕ) (characters : ℕ → Option (List ℕ)) (number : ℕ) (buffer : List ℕ)
+    → (toCharacters size characters number buffer .code ≡ 0 → ⊥) → toCharacters size characters number buffer .buffer ≡ buffer
+unfolding toCharacters lent
+characters-refused size characters number buffer refused =
+    on-refusal (firstOf (conversionRows size buffer (characters number))) (orElse buffer (characters number)) buffer refused
 
 -- an answer of characters in its two parts, as a call gives them
 pub in-parts : {result : Written} {code : ℕ} {buffer : List ℕ} → result ≡ record { code = code; buffer = buffer } → (code ≡ result .code) × (buffer ≡ result .buffer)

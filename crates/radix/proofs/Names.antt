@@ -334,3 +334,11 @@ name-iff first second = (λ test. means (charactersOf first) (charactersOf secon
           starts-named (l .name) (l .least) (l .made),
         )
         (then-blanks-filled (l .name) (6 - length (l .name)) (l .made))
+
+-- a legal name's first word is not 0: an entry whose first word is 0 has no legal name
+pub name-not-zero : (first second : ℕ) → LegalName first second → first ≡ 0 → ⊥
+name-not-zero first second legal is =
+    let code : firstCode first ≡ 0 = omega arith in
+    let never : false ≡ true = name-blank first second code ∙ name-iff first second .1 legal in
+    let z : _≡_ {A = ℕ} 0 1 = cc in
+    omega arith

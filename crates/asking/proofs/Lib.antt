@@ -1,0 +1,4 @@
+-- The laws of keys, of finding, of rights and of outcomes.
+pub mod Keys
+pub mod Rights
+pub mod Outcome

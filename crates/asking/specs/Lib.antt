@@ -1,0 +1,4 @@
+-- What all requests on an image share.
+pub mod Outcome
+pub mod Keys
+pub mod Rights

@@ -1,0 +1,4 @@
+-- What a request may change, and what it keeps.
+pub mod Framed
+pub mod Described
+pub mod Growth

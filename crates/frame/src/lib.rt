@@ -1,0 +1,1 @@
+// What stays of a pack when a request changes some words of it: laws alone, no code.

@@ -1,0 +1,142 @@
+-- How often a number stands in a list, and sums over numbers in a row.
+use Prim.Native.Nat.{ℕ, suc, zero, _+_, _-_, _*_, _≤_, _<_}
+use mathlib.Core.Path.{_≡_, refl, sym, ap, _∙_}
+use mathlib.Core.List.{List, [], _∷_}
+use native.Mathlib.Omega.{arith}
+use native.Mathlib.Decide.{ℕ-discrete}
+use lib.Dec.{ltb}
+use lib.ListN.{length, getD}
+use borrow.Author.Tests.{eq-eqb, ne-eqb, lt-ltb, le-ltb}
+use Rattle.pack.specs.File.{one, count}
+use Rattle.pack.specs.Consistent.{total}
+
+pub count-nil : (b : ℕ) → count b [] ≡ 0
+unfolding count
+count-nil b = refl
+
+pub count-same : (b x : ℕ) (xs : List ℕ) → b ≡ x → count b (x ∷ xs) ≡ 1 + count b xs
+unfolding count
+count-same b x xs is = simp (eq-eqb b x is)
+
+pub count-other : (b x : ℕ) (xs : List ℕ) → (b ≡ x → ⊥) → count b (x ∷ xs) ≡ count b xs
+unfolding count
+count-other b x xs other = simp (ne-eqb b x other) (omega arith)
+
+pub count-split : (b x : ℕ) (xs : List ℕ) → count b (x ∷ xs) ≡ count b (x ∷ []) + count b xs
+unfolding count
+count-split b x xs = omega arith
+
+-- a number that stands at a place is counted, and twice where it stands at two
+pub count-at : (xs : List ℕ) (p b : ℕ) → p < length xs → getD xs p 0 ≡ b → 0 < count b xs
+count-at [] p b inside is = absurd (omega arith)
+count-at (x ∷ xs) zero b inside is = omega (arith, count-same b x xs (sym is))
+count-at (x ∷ xs) (suc p) b inside is = omega (arith, count-at xs p b (omega arith) is, count-split b x xs)
+
+pub count-two : (xs : List ℕ) (p q b : ℕ) → p < q → q < length xs → getD xs p 0 ≡ b → getD xs q 0 ≡ b → 2 ≤ count b xs
+count-two [] p q b order inside is also = absurd (omega arith)
+count-two (x ∷ xs) p zero b order inside is also = absurd (omega arith)
+count-two (x ∷ xs) zero (suc q) b order inside is also = omega (arith, count-same b x xs (sym is), count-at xs q b (omega arith) also)
+count-two (x ∷ xs) (suc p) (suc q) b order inside is also =
+    omega (arith, count-two xs p q b (omega arith) (omega arith) is also, count-split b x xs)
+
+pub total-none : (f : ℕ → ℕ) (from : ℕ) → total f from 0 ≡ 0
+unfolding total
+total-none f from = refl
+
+pub total-same : (f g : ℕ → ℕ) (from k : ℕ) → ((i : ℕ) → from ≤ i → i < from + k → f i ≡ g i) → total f from k ≡ total g from k
+unfolding total
+total-same f g from zero same = refl
+total-same f g from (suc k) same =
+    omega (arith, same from (omega arith) (omega arith), total-same f g (from + 1) k (λ i low high. same i (omega arith) (omega arith)))
+
+pub total-add : (f g : ℕ → ℕ) (from k : ℕ) → total (λ i. f i + g i) from k ≡ total f from k + total g from k
+unfolding total
+total-add f g from zero = refl
+total-add f g from (suc k) = omega (arith, total-add f g (from + 1) k)
+
+-- the same in each summand
+pub total-each : (n from k : ℕ) → total (λ i. n) from k ≡ k * n
+unfolding total
+total-each n from zero = omega arith
+total-each n from (suc k) = omega (arith, total-each n (from + 1) k)
+
+pub total-split : (f : ℕ → ℕ) (from j k : ℕ) → total f from (j + k) ≡ total f from j + total f (from + j) k
+unfolding total
+total-split f from zero k =
+    let size : 0 + k ≡ k = omega arith in
+    let start : from + 0 ≡ from = omega arith in
+    omega (arith, ap (λ (n : ℕ). total f from n) size, ap (λ (n : ℕ). total f n k) start)
+total-split f from (suc j) k =
+    let size : suc j + k ≡ suc (j + k) = omega arith in
+    let start : from + suc j ≡ from + 1 + j = omega arith in
+    omega (arith, ap (λ (n : ℕ). total f from n) size, ap (λ (n : ℕ). total f n k) start, total-split f (from + 1) j k)
+
+pub total-last : (f : ℕ → ℕ) (from k : ℕ) → total f from (suc k) ≡ total f from k + f (from + k)
+unfolding total
+total-last f from k =
+    let size : k + 1 ≡ suc k = omega arith in
+    omega (arith, ap (λ (n : ℕ). total f from n) size, total-split f from k 1)
+
+pub total-has : (f : ℕ → ℕ) (i from k : ℕ) → from ≤ i → i < from + k → f i ≤ total f from k
+unfolding total
+total-has f i from zero low high = absurd (omega arith)
+total-has f i from (suc k) low high =
+    elim (ℕ-discrete from i)
+    [ yes is ↦ omega (arith, ap f is) | no other ↦ omega (arith, total-has f i (from + 1) k (omega (arith, other)) (omega arith)) ]
+
+pub total-two : (f : ℕ → ℕ) (i j from k : ℕ) → i < j → from ≤ i → j < from + k → f i + f j ≤ total f from k
+unfolding total
+total-two f i j from zero order low high = absurd (omega arith)
+total-two f i j from (suc k) order low high =
+    elim (ℕ-discrete from i) [
+      | yes is ↦ omega (arith, ap f is, total-has f j (from + 1) k (omega arith) (omega arith))
+      | no other ↦ omega (arith, total-two f i j (from + 1) k order (omega (arith, other)) (omega arith))
+    ]
+
+-- sums of sums, in either order
+pub total-exchange : (f : ℕ → ℕ → ℕ) (low n from k : ℕ)
+    → total (λ b. total (λ e. f e b) from k) low n ≡ total (λ e. total (λ b. f e b) low n) from k
+unfolding total
+total-exchange f low n from zero = omega (arith, total-each 0 low n)
+total-exchange f low n from (suc k) =
+    total-add (λ b. f from b) (λ b. total (λ e. f e b) (from + 1) k) low n
+    ∙ ap (λ (s : ℕ). total (λ b. f from b) low n + s) (total-exchange f low n (from + 1) k)
+
+-- a number counted at each number: once at itself
+count-below : (x from k : ℕ) → x < from → total (λ b. count b (x ∷ [])) from k ≡ 0
+unfolding total
+count-below x from zero low = refl
+count-below x from (suc k) low =
+    omega (arith, count-other from x [] (λ is. omega arith), count-nil from, count-below x (from + 1) k (omega arith))
+
+count-single : (x from k : ℕ) → from ≤ x → x < from + k → total (λ b. count b (x ∷ [])) from k ≡ 1
+unfolding total
+count-single x from zero low high = absurd (omega arith)
+count-single x from (suc k) low high =
+    elim (ℕ-discrete from x) [
+      | yes is ↦ omega (arith, count-same from x [] is, count-nil from, count-below x (from + 1) k (omega (arith, is)))
+      | no other ↦ omega (arith, count-other from x [] other, count-nil from, count-single x (from + 1) k (omega (arith, other)) (omega arith))
+    ]
+
+-- the numbers of a list, all below n, counted number by number make its length
+pub count-all : (xs : List ℕ) (n : ℕ) → ((b : ℕ) → 0 < count b xs → b < n) → total (λ b. count b xs) 0 n ≡ length xs
+count-all [] n below = total-same (λ b. count b []) (λ b. 0) 0 n (λ b low high. count-nil b) ∙ omega (arith, total-each 0 0 n)
+count-all (x ∷ xs) n below =
+    let first : x < n = below x (omega (arith, count-same x x xs refl)) in
+    total-same (λ b. count b (x ∷ xs)) (λ b. count b (x ∷ []) + count b xs) 0 n (λ b low high. count-split b x xs)
+    ∙ total-add (λ b. count b (x ∷ [])) (λ b. count b xs) 0 n
+    ∙ omega (arith, count-single x 0 n (omega arith) (omega arith), count-all xs n (λ b more. below b (omega (arith, more, count-split b x xs))))
+
+-- how many of n numbers from 0 on are below s
+pub total-below : (s n : ℕ) → s ≤ n → total (λ b. one (ltb b s)) 0 n ≡ s
+total-below s n fits =
+    let size : s + (n - s) ≡ n = omega arith in
+    omega (
+      arith,
+      ap (λ (k : ℕ). total (λ b. one (ltb b s)) 0 k) size,
+      total-split (λ b. one (ltb b s)) 0 s (n - s),
+      total-same (λ b. one (ltb b s)) (λ b. 1) 0 s (λ b low high. ap one (lt-ltb b s (omega arith))),
+      total-each 1 0 s,
+      total-same (λ b. one (ltb b s)) (λ b. 0) (0 + s) (n - s) (λ b low high. ap one (le-ltb b s (omega arith))),
+      total-each 0 (0 + s) (n - s),
+    )

@@ -1,0 +1,96 @@
+-- The place of a block in a list of blocks, and the entry whose file has it.
+use Prim.Native.Nat.{ℕ, suc, zero, _+_, _-_, _≤_, _<_}
+use mathlib.Core.Path.{_≡_, refl, sym, ap, _∙_}
+use mathlib.Core.Logic.{_↔_}
+use mathlib.Core.Bool.{Bool, true, false, cond}
+use mathlib.Core.List.{List, [], _∷_}
+use mathlib.Core.Option.{Option, none, some}
+use native.Mathlib.Omega.{arith}
+use native.Mathlib.Decide.{decLt}
+use lib.Dec.{eqb}
+use lib.ListN.{length, getD}
+use borrow.Author.Tests.{eqb-true, eqb-false}
+use Rattle.pack.specs.declared.Geometry.{Geometry}
+use Rattle.pack.specs.declared.Owner.{Owner}
+use Rattle.pack.specs.declared.Owner.the-variants.{Free, Held}
+use Rattle.pack.specs.File.{count}
+use Rattle.pack.specs.Entry.{blocksAt}
+use Rattle.pack.specs.Consistent.{total}
+use Rattle.pack.specs.Owner.{placeFrom, heldOr, holder}
+use Rattle.owners.proofs.Counting.{count-nil, count-same, count-other, count-at, count-two}
+
+-- a place that is found is one of the list, and the block stands there
+pub record Found (b q p : ℕ) (xs : List ℕ) : Type 0 where
+  pub from : q ≤ p
+  pub inside : p - q < length xs
+  pub is : getD xs (p - q) 0 ≡ b
+
+pub place-found : (b q p : ℕ) (xs : List ℕ) → placeFrom b q xs ≡ some p → Found b q p xs
+place-found b q p [] found = let never : _≡_ {A = ℕ} 0 1 = cc in absurd (omega arith)
+place-found b q p (x ∷ xs) found = by (eqb b x) refl found (place-found b (q + 1) p xs)
+  where
+    by : (here : Bool) → eqb b x ≡ here → cond here (some q) (placeFrom b (q + 1) xs) ≡ some p
+        → (placeFrom b (q + 1) xs ≡ some p → Found b (q + 1) p xs) → Found b q p (x ∷ xs)
+    by true here found later =
+        let place : q ≡ p = cc in
+        let none-between : p - q ≡ 0 = omega arith in
+        record { from = omega arith; inside = omega arith; is = rw none-between (sym (eqb-true b x here)) }
+    by false here found later =
+        let behind : Found b (q + 1) p xs = later found in
+        let next : p - q ≡ suc (p - (q + 1)) = omega arith in
+        record { from = omega arith; inside = omega arith; is = rw next (behind .is) }
+
+pub place-none : (b q : ℕ) (xs : List ℕ) → placeFrom b q xs ≡ none ↔ count b xs ≡ 0
+place-none b q [] = (λ none-found. count-nil b, λ uncounted. refl)
+place-none b q (x ∷ xs) = by (eqb b x) refl (place-none b (q + 1) xs)
+  where
+    by : (here : Bool) → eqb b x ≡ here → (placeFrom b (q + 1) xs ≡ none ↔ count b xs ≡ 0)
+        → cond here (some q) (placeFrom b (q + 1) xs) ≡ none ↔ count b (x ∷ xs) ≡ 0
+    by true here later = (
+      λ none-found. let never : _≡_ {A = ℕ} 0 1 = cc in absurd (omega arith),
+      λ uncounted. absurd (omega (arith, count-same b x xs (eqb-true b x here))),
+    )
+    by false here later = (
+      λ none-found. count-other b x xs (eqb-false b x here) ∙ later .0 none-found,
+      λ uncounted. later .1 (sym (count-other b x xs (eqb-false b x here)) ∙ uncounted),
+    )
+
+-- what is counted once stands at one place
+pub place-unique : (xs : List ℕ) (p q b : ℕ) → count b xs ≤ 1 → p < length xs → q < length xs → getD xs p 0 ≡ b → getD xs q 0 ≡ b → p ≡ q
+place-unique xs p q b once p-inside q-inside is also = by (decLt p q) (decLt q p)
+  where
+    by : Dec (p < q) → Dec (q < p) → p ≡ q
+    by (yes before) w = absurd (omega (arith, count-two xs p q b before q-inside is also))
+    by (no n) (yes before) = absurd (omega (arith, count-two xs q p b before p-inside also is))
+    by (no n) (no m) = omega (arith, n, m)
+
+-- and that place is the one found
+pub place-only : (b q p : ℕ) (xs : List ℕ) → count b xs ≤ 1 → p < length xs → getD xs p 0 ≡ b → placeFrom b q xs ≡ some (q + p)
+place-only b q p xs once inside is = by (placeFrom b q xs) refl
+  where
+    by : (o : Option ℕ) → placeFrom b q xs ≡ o → o ≡ some (q + p)
+    by none found = absurd (omega (arith, count-at xs p b inside is, place-none b q xs .0 found))
+    by (some r) found =
+        let there : Found b q r xs = place-found b q r xs found in
+        let same : r ≡ q + p = omega (arith, place-unique xs (r - q) p b once (there .inside) inside (there .is) is) in
+        ap some same
+
+-- whom `holder` finds among k entries from e on: nobody where no file reaches b, else an entry with a place of b
+pub data Finds (img : List ℕ) (g : Geometry) (b e k : ℕ) : Owner → Type 0 where
+  nobody : total (λ i. count b (blocksAt img g i)) e k ≡ 0 → Finds img g b e k Free
+  entry : {i p : ℕ} → e ≤ i → i < e + k → placeFrom b 0 (blocksAt img g i) ≡ some p → Finds img g b e k (Held i (record { 0 = p }))
+
+finds-more : {img : List ℕ} {g : Geometry} {b e k : ℕ} {o : Owner} → count b (blocksAt img g e) ≡ 0 → Finds img g b (e + 1) k o → Finds img g b e (suc k) o
+unfolding total
+finds-more uncounted (nobody zeros) = nobody (omega arith)
+finds-more uncounted (entry {i} low high found) = entry {i = i} (omega arith) (omega arith) found
+
+pub holder-finds : (img : List ℕ) (g : Geometry) (b e k : ℕ) → Finds img g b e k (holder img g b e k)
+unfolding holder total
+holder-finds img g b e zero = nobody refl
+holder-finds img g b e (suc k) = by (placeFrom b 0 (blocksAt img g e)) refl (holder-finds img g b (e + 1) k)
+  where
+    by : (o : Option ℕ) → placeFrom b 0 (blocksAt img g e) ≡ o → Finds img g b (e + 1) k (holder img g b (e + 1) k)
+        → Finds img g b e (suc k) (heldOr e (holder img g b (e + 1) k) o)
+    by none found later = finds-more (place-none b 0 (blocksAt img g e) .0 found) later
+    by (some p) found later = entry {i = e} (omega arith) (omega arith) found

@@ -1,0 +1,3 @@
+-- What is said of the owners of blocks beyond the pack's own definitions.
+pub mod Owner
+pub mod Free

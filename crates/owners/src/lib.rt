@@ -1,0 +1,1 @@
+// Whose a block of a pack is, and how many are nobody's.

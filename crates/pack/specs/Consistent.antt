@@ -1,0 +1,33 @@
+-- A consistent image.
+use Prim.Native.Nat.{ℕ, suc, zero, _+_, _≤_, _<_}
+use mathlib.Core.Path.{_≡_}
+use mathlib.Core.List.{List}
+use Rattle.pack.specs.declared.Geometry.{Geometry}
+use Rattle.pack.specs.Geometry.{geometryOf, slots}
+use Rattle.pack.specs.Header.{RightHeader}
+use Rattle.pack.specs.File.{count}
+use Rattle.pack.specs.Entry.{entryOf, blocksAt, Empty, RightEntry, SameFile}
+
+-- the sum of a function over `k` numbers, the first of them `from`
+unfoldable pub total : (ℕ → ℕ) → ℕ → ℕ → ℕ
+total f from zero = 0
+total f from (suc k) = f from + total f (from + 1) k
+
+-- how often the files of all entries, under measures g, reach block b
+abbrev pub heldIn : List ℕ → Geometry → ℕ → ℕ
+heldIn img g b = total (λ e. count b (blocksAt img g e)) 0 (slots g)
+
+-- how often files reach block b
+unfoldable pub held : List ℕ → ℕ → ℕ
+held img b = heldIn img (geometryOf img) b
+
+pub record Consistent (img : List ℕ) : Type 0 where
+  -- "Consistent: the image is 512n bytes; all the above holds" of block 0;
+  pub header : RightHeader img
+  -- all the above holds of each entry: it is empty, or "used entries have ..", with the rules of its file
+  pub entries : (e : ℕ) → e < slots (geometryOf img) → RightEntry img (geometryOf img) e
+  -- "and differ in name, extension or UIC;"
+  pub differ : (e f : ℕ) → e < f → f < slots (geometryOf img) → (Empty img (geometryOf img) e → ⊥)
+      → SameFile (entryOf img (geometryOf img) e) (entryOf img (geometryOf img) f) → ⊥
+  -- "no block is held twice;"
+  pub once : (b : ℕ) → held img b ≤ 1

@@ -1,0 +1,37 @@
+-- The forms of a pack. Word 0 of an image is its form, and all that a form decides stands here; document 01 has form 1 alone.
+use Prim.Native.Nat.{ℕ, _+_}
+use mathlib.Core.Bool.{cond}
+use lib.Dec.{eqb}
+
+-- "word 0 is 1"; "A block is 256 words", of "64-word segments": the segments in a block, 0 where the form is not known
+unfoldable pub segmentsOf : ℕ → ℕ
+segmentsOf form = cond (eqb form 1) 4 0
+
+-- "word 1 is n, the blocks in all, 16 to 1024"
+abbrev pub leastBlocks : ℕ
+leastBlocks = 16
+
+unfoldable pub mostBlocksOf : ℕ → ℕ
+mostBlocksOf form = 1024
+
+-- "word 2 is c, 1 to 8"
+abbrev pub leastContents : ℕ
+leastContents = 1
+
+unfoldable pub mostContentsOf : ℕ → ℕ
+mostContentsOf form = 8
+
+-- "word 3 is u, 0 to 64"
+unfoldable pub mostUicsOf : ℕ → ℕ
+mostUicsOf form = 64
+
+-- "Blocks 1 to c: 16 entries each .. Other blocks are bodies": the number of the first body in a pack of c blocks of contents
+unfoldable pub bodiesOf : ℕ → ℕ → ℕ
+bodiesOf form contents = contents + 1
+
+-- the most blocks and the most segments in a block of any form
+abbrev pub mostBlocks : ℕ
+mostBlocks = 1024
+
+abbrev pub mostSegments : ℕ
+mostSegments = 4

@@ -1,0 +1,34 @@
+-- The examples of document 01 hold.
+use mathlib.Core.Path.{refl}
+use Rattle.answers.proofs.Conversion.{characters-60, characters-given}
+use Rattle.answers.specs.Refusals.{firstOf, onSuccess, answered}
+use Rattle.answers.specs.Conversion.{conversionRows, toNumber}
+use Rattle.radix.specs.Characters.{table, codeOf, characterOf}
+use Rattle.radix.specs.Packing.{wordOf, charactersOf}
+use Rattle.radix.specs.Conversions.{radpk, radup}
+use Rattle.numerals.specs.Digits.{value, numberOf, digitsOf}
+use Rattle.numerals.specs.Conversions.{d2bin, bin2d, o2bin, bin2o}
+use Rattle.promises.specs.Examples.{Examples}
+
+pub examples : Examples
+unfolding radpk radup d2bin bin2d o2bin bin2o toNumber conversionRows answered onSuccess firstOf wordOf charactersOf codeOf characterOf table numberOf value digitsOf
+examples =
+    record {
+      p1 = (
+        record { forth = refl; back = λ buffer same. characters-given 3 charactersOf 17680 buffer same refl },
+        record { forth = refl; back = λ buffer same. characters-given 6 (digitsOf 8 6) 17680 buffer same refl },
+      );
+      p2 = record { forth = refl; back = λ buffer same. characters-given 3 charactersOf 7191 buffer same refl };
+      p3 = (
+        record { forth = refl; back = λ buffer same. characters-given 3 charactersOf 63999 buffer same refl },
+        λ buffer same. characters-60 3 charactersOf 64000 buffer same refl,
+      );
+      p4 = (
+        record { forth = refl; back = λ buffer same. characters-given 5 (digitsOf 10 5) 65535 buffer same refl },
+        (refl, λ buffer same. characters-60 5 (digitsOf 10 5) 65536 buffer same refl),
+      );
+      p5 = (
+        record { forth = refl; back = λ buffer same. characters-given 6 (digitsOf 8 6) 0o177777 buffer same refl },
+        (refl, λ buffer same. characters-60 6 (digitsOf 8 6) 0o200000 buffer same refl),
+      );
+    }

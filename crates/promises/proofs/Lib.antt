@@ -1,0 +1,6 @@
+-- The proofs of what is promised.
+pub mod Examples
+pub mod Digits
+pub mod Conversions
+pub mod Demands
+pub mod Hollow

@@ -1,0 +1,36 @@
+-- The examples that document 01 marks P, as one table: a row for each, in its words.
+use Prim.Native.Nat.{ℕ}
+use Prim.Native.String.{String}
+use mathlib.Core.Path.{_≡_}
+use mathlib.Core.List.{List}
+use lib.ListN.{length}
+use Rattle.answers.specs.declared.Answer.{Answer}
+use Rattle.answers.specs.Conversion.{Written}
+use Rattle.radix.specs.Conversions.{radpk, radup}
+use Rattle.numerals.specs.Conversions.{d2bin, bin2d, o2bin, bin2o}
+use Rattle.promises.specs.Text.{bytes}
+
+-- a text converts to a number, and the number to the text, in a buffer of that size whatever it held
+pub record Converts (toNumber : List ℕ → Answer) (toCharacters : ℕ → List ℕ → Written) (size : ℕ) (text : String) (number : ℕ) : Type 0 where
+  pub forth : toNumber (bytes text) ≡ record { code = 0; number = number }
+  pub back : (buffer : List ℕ) → length buffer ≡ size → toCharacters number buffer ≡ record { code = 0; buffer = bytes text }
+
+-- a number is refused with 60, and the buffer is left as it was
+abbrev pub NumberRefused : (ℕ → List ℕ → Written) → ℕ → ℕ → Type 0
+NumberRefused toCharacters size number = (buffer : List ℕ) → length buffer ≡ size → toCharacters number buffer ≡ record { code = 0o60; buffer = buffer }
+
+-- a text is refused with 60, and the number is 0
+abbrev pub TextRefused : (List ℕ → Answer) → String → Type 0
+TextRefused toNumber text = toNumber (bytes text) ≡ record { code = 0o60; number = 0 }
+
+pub record Examples : Type 0 where
+  -- P1 `KB ` = 17680 (042420).
+  pub p1 : Converts radpk radup 3 "KB " 17680 × Converts o2bin bin2o 6 "042420" 17680
+  -- P2 `DS1` = 7191.
+  pub p2 : Converts radpk radup 3 "DS1" 7191
+  -- P3 `999` = 63999; 64000 refused.
+  pub p3 : Converts radpk radup 3 "999" 63999 × NumberRefused radup 3 64000
+  -- P4 decimal 65535 taken, 65536 refused.
+  pub p4 : Converts d2bin bin2d 5 "65535" 65535 × (TextRefused d2bin "65536" × NumberRefused bin2d 5 65536)
+  -- P5 octal 177777 taken, 200000 refused.
+  pub p5 : Converts o2bin bin2o 6 "177777" 0o177777 × (TextRefused o2bin "200000" × NumberRefused bin2o 6 0o200000)
