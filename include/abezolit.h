@@ -15,7 +15,8 @@
  *           where the call did what is said of it, and else the cause of the refusal. Where several causes
  *           hold, the one that is named first at the call is given.
  *
- * Refusals  A refusal changes no byte of any slice, and every other member of its answer is 0.
+ * Refusals  A refusal changes no byte of any slice, and every other member of its answer is 0, unless it is said at
+ *           the call that a member then tells the place of the fault.
  *
  * Memory    Nothing is kept between calls: the same arguments always give the same answer and the same bytes,
  *           and calls on different slices may run at the same time.
@@ -32,9 +33,13 @@ extern "C" {
 
 /* The codes. They are octal numbers wherever they are written down, so code 41 is 041 here, and printed by %zo. */
 enum {
-    ABZ_OK         = 0,
-    ABZ_ARGUMENT   = 041, /* an argument that the call does not take, as a buffer of another size */
-    ABZ_CONVERSION = 060  /* what is to be converted is not of its set, or too large */
+    ABZ_OK           = 0,
+    ABZ_INCONSISTENT = 040, /* the image is not a consistent pack, as told under Packs */
+    ABZ_NAME         = 015, /* a name or an extension is not legal */
+    ABZ_ARGUMENT     = 041, /* an argument that the call does not take, as a buffer of another size */
+    ABZ_EXISTENCE    = 2,   /* there is no such file; where a file is to get this name, there is one already */
+    ABZ_NO_BLOCK     = 044, /* there is no such block */
+    ABZ_CONVERSION   = 060  /* what is to be converted is not of its set, or too large */
 };
 
 typedef struct {
@@ -77,6 +82,109 @@ abz_answer abz_o2bin(const uint8_t *chars, size_t chars_len);
 
 /* Writes a number as 6 octal digits, leading zeros too. ABZ_CONVERSION: the number is above 177777 octal (65535). */
 size_t abz_bin2o(size_t number, uint8_t *chars, size_t chars_len);
+
+/*
+ * Packs
+ *
+ * An image is a whole disk pack as bytes: its users, its list of files, and the files. The host lends it to each
+ * call on the pack, and a call that changes the pack does so there. Where an image comes from and where it is kept,
+ * in a file for instance, is the host's business: the service opens, reads and writes no file.
+ *
+ * A block is 512 bytes, which are 256 words of 16 bits, low byte first. The n blocks of an image are:
+ *
+ *   0             the header. Word 0 is the form, 1; word 1 is n, 16 to 1024; word 2 is c, 1 to 8; word 3 is u, 0 to
+ *                 64; then come u UICs, distinct and not 0, of those who may own files; every other word is 0.
+ *   1 to c        the contents, 16 entries of 16 words to a block. Entry e, counted from 0 and on through the blocks,
+ *                 starts at byte 512 + 32 * e of the image. An empty entry is all 0; any other is a file's:
+ *                     0, 1      name
+ *                     2         extension
+ *                     3         UIC of the owner
+ *                     4         protect code, 0 to 255
+ *                     5         kind, ABZ_CONTIGUOUS or ABZ_LINKED
+ *                     6         first block
+ *                     7         length, in blocks
+ *                     8         last block
+ *                     9         writer: 0 none, 1 open for update, 2 for output, 3 for extension
+ *                     10        readers, how many
+ *                     11 to 15  0
+ *   c + 1 to n-1  the bodies, each free or of one file. A contiguous file has all blocks from its first to its last,
+ *                 and all their bytes. A linked file is a chain: word 0 of each block is the number of the next, 0 in
+ *                 the last, and the 510 bytes behind are the file's. One with no block has words 6, 7 and 8 all 0.
+ *
+ * A UIC is 256 * group + user. A file is named by four numbers:
+ *
+ *   name1, name2  1 to 6 of A to Z and 0 to 9, then blanks up to six, as two Radix-50 words, the first three
+ *                 characters in name1; abz_radpk makes such words.
+ *   extension     0 to 3 of A to Z and 0 to 9, then blanks up to three, as one word; so 0 if there is none.
+ *   uic           the owner's. 0 means the caller's: the number caller is taken, which is the UIC of the user for
+ *                 whom the host calls.
+ *
+ * A name or extension of another shape is not legal, and so is every number from 64000 up. A caller or uic may be
+ * any number; no file has one that is not in the pack's list.
+ *
+ * A pack is consistent if the image has all that is said above and is exactly 512 * n bytes long, and if
+ *   - each file has a legal name and extension and a UIC of the list, and no two files have all four numbers alike;
+ *   - each block of a file is a body, and no block is held twice, by two files or by one;
+ *   - a contiguous file has at least one block, and its last block is first block + length - 1;
+ *   - a linked file's chain has exactly as many blocks as its length says and ends at its last block;
+ *   - a contiguous file's writer is 0 or 1, a linked one's 0, 2 or 3;
+ *   - a file's readers, and 1 more if it has a writer, are at most 62.
+ * What the free blocks and those of contiguous files hold does not matter.
+ *
+ * Every call but abz_format takes any bytes for an image, of any length, and refuses with ABZ_INCONSISTENT before
+ * all else where they are no consistent pack. No call makes a consistent pack inconsistent.
+ */
+
+/* The kinds of files. */
+enum {
+    ABZ_CONTIGUOUS = 1,
+    ABZ_LINKED     = 2
+};
+
+/*
+ * Makes an empty pack of an image, whatever that held: block 0 becomes the header with form, n = blocks, c = contents
+ * and the UICs in uics, two bytes each, low byte first; blocks 1 to c become 0. All other blocks are free then, and
+ * keep their bytes: what files of before had there is still to be seen.
+ *   ABZ_ARGUMENT  form is not 1, blocks not 16 to 1024, contents not 1 to 8, or image_len not 512 * blocks; uics_len
+ *                 is odd or above 128; a UIC is 0, or is twice in uics.
+ */
+size_t abz_format(uint8_t *image, size_t image_len, size_t form, size_t blocks, size_t contents,
+                  const uint8_t *uics, size_t uics_len);
+
+typedef struct {
+    size_t code;
+    size_t kind, first, length, protect, writer, readers; /* words 5, 6, 7, 4, 9 and 10 of the file's entry */
+} abz_look_answer;
+
+/*
+ * What the entry of a file says. No right is needed, the file may be open, and caller serves only where uic is 0.
+ *   ABZ_INCONSISTENT
+ *   ABZ_NAME          the name or the extension is not legal;
+ *   ABZ_EXISTENCE     there is no such file.
+ */
+abz_look_answer abz_look(const uint8_t *image, size_t image_len, size_t caller,
+                         size_t name1, size_t name2, size_t extension, size_t uic);
+
+/* What a block can be. */
+enum {
+    ABZ_SYSTEM = 0, /* header or contents: 0 to c */
+    ABZ_FREE   = 1, /* a body that no file holds */
+    ABZ_HELD   = 2  /* a body that one file holds */
+};
+
+typedef struct {
+    size_t code;
+    size_t kind;         /* one of these three; a refusal has 0 here too, so look at the code first */
+    size_t entry, place; /* with ABZ_HELD the entry of the file and the block's place in it, from 0; else 0 */
+} abz_owner_answer;
+
+/*
+ * Whose a block is. Asked for each block from 0 to n - 1 it gives an account of the whole pack: each file shows up
+ * length times, once with each place below its length, and what is left is free.
+ *   ABZ_INCONSISTENT
+ *   ABZ_NO_BLOCK      block is n or more.
+ */
+abz_owner_answer abz_owner(const uint8_t *image, size_t image_len, size_t block);
 
 #ifdef __cplusplus
 }

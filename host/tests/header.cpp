@@ -10,6 +10,10 @@ abz_answer abz_d2bin(const uint8_t *, size_t);
 size_t abz_bin2d(size_t, uint8_t *, size_t);
 abz_answer abz_o2bin(const uint8_t *, size_t);
 size_t abz_bin2o(size_t, uint8_t *, size_t);
+
+size_t abz_format(uint8_t *, size_t, size_t, size_t, size_t, const uint8_t *, size_t);
+abz_look_answer abz_look(const uint8_t *, size_t, size_t, size_t, size_t, size_t, size_t);
+abz_owner_answer abz_owner(const uint8_t *, size_t, size_t);
 }
 
 bool taken(const uint8_t *chars, size_t chars_len)

@@ -2,3 +2,6 @@
 pub mod Keys
 pub mod Rights
 pub mod Outcome
+pub mod Stage
+pub mod Opens
+pub mod Writing

@@ -2,3 +2,6 @@
 pub mod Outcome
 pub mod Keys
 pub mod Rights
+pub mod Asked
+pub mod Opens
+pub mod Written

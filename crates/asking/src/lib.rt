@@ -1,8 +1,18 @@
-// What all requests share: the key of a file, finding its entry, and rights.
+// What all requests share: the key of a file, finding its entry, rights, opens, and the words of an entry that are written.
 ghost use mathlib.Core.Path.{_≡_};
+ghost use mathlib.Core.Bool.{true};
+ghost use Prim.Native.Nat.{ℕ, _+_, _≤_, _<_};
+ghost use lib.ListN.{getD, replicate};
+ghost use Rattle.pack.specs.Form.{mostBlocks};
+ghost use Rattle.pack.specs.Consistent.{held};
+ghost use Rattle.consistency.specs.Test.{consistent};
 ghost use Rattle.pack.specs.Geometry.{Sized, slots};
+ghost use Rattle.asking.specs.Opens.{isOpen, isFull};
+ghost use Rattle.asking.specs.Written.{setEntryWord, clearEntryWords, clearEntry};
 ghost use Rattle.asking.specs.Keys.{keyOf, legalKey, matches, findFrom, foundIn};
+ghost use Rattle.asking.specs.Asked.{askedOf};
 ghost use Rattle.asking.specs.Rights.{inField, owners, may, granted};
+use consistency::Opened;
 use pack::Entry;
 use pack::Geometry;
 use pack::Key;
@@ -23,6 +33,12 @@ pub enum Right {
 pub enum Grant {
     Granted,
     Denied,
+}
+
+// The file of a key: the pack's measures, its entry's number, and its entry; or a refusal's code.
+pub enum Asked {
+    File(Geometry, usize, Entry),
+    Refused(usize),
 }
 
 pub fn key_of(caller: usize, name1: usize, name2: usize, extension: usize, uic: usize) -> Key
@@ -125,4 +141,64 @@ pub fn ask_right(right: Right, caller: usize, x: Entry) -> Grant
         return Grant::Granted;
     }
     Grant::Denied
+}
+
+// The map is lent all zero, and where the image is consistent it then says how often each block is held.
+pub fn ask_file(img: &[u8], map: &mut [u8], key: Key, wrong: bool) -> Asked
+    requires { ⌜ now map ≡ replicate mostBlocks 0 ⌝ }
+    ensures { λ r. ⌜ r ≡ askedOf (now (img .entry)) key wrong ⌝ }
+    ensures { λ r. ⌜ (consistent (now (img .entry)) ≡ true → (b : ℕ) → getD (now (map .exit)) b 0 ≡ held (now (img .entry)) b) ⌝ }
+{
+    let Opened::Good(g) = consistency::open_pack(img, map) else {
+        return Asked::Refused(0o40);
+    };
+    if !is_legal(key) {
+        return Asked::Refused(0o15);
+    }
+    if wrong {
+        return Asked::Refused(0o41);
+    }
+    let Found::At(e) = find(img, g, key) else {
+        return Asked::Refused(0o2);
+    };
+    let x = pack::read_entry(img, g, e);
+    Asked::File(g, e, x)
+}
+
+pub fn is_open(x: Entry) -> bool
+    ensures { λ r. ⌜ r ≡ isOpen x ⌝ }
+{
+    if 0 < x.writer {
+        return true;
+    }
+    0 < x.readers
+}
+
+pub fn is_full(x: Entry) -> bool
+    ensures { λ r. ⌜ r ≡ isFull x ⌝ }
+{
+    if 0 < x.writer {
+        return 61 <= x.readers;
+    }
+    62 <= x.readers
+}
+
+pub fn set_entry_word(img: &mut [u8], g: Geometry, e: usize, i: usize, word: usize)
+    requires { ⌜ Sized (now img) g ⌝ }
+    requires { ⌜ (e < slots g) × (i < 16) × (word < 65536) ⌝ }
+    ensures { λ r. ⌜ now (img .exit) ≡ setEntryWord (now (img .entry)) g e i word ⌝ }
+{
+    words::set_word(img, 64 * g.segments.0 + 16 * e + i, word);
+}
+
+pub fn clear_entry(img: &mut [u8], g: Geometry, e: usize)
+    requires { ⌜ Sized (now img) g ⌝ }
+    requires { ⌜ e < slots g ⌝ }
+    ensures { λ r. ⌜ now (img .exit) ≡ clearEntry (now (img .entry)) g e ⌝ }
+{
+    let mut i = 0;
+    while i < 16 {
+        set_entry_word(img, g, e, i, 0);
+        i += 1;
+    }
 }

@@ -4,4 +4,6 @@ pub mod Places
 pub mod Blocks
 pub mod Owner
 pub mod Free
+pub mod Search
 pub mod Sum
+pub mod Asked

@@ -8,10 +8,11 @@ use Rattle.radix.specs.Packing.{wordOf, charactersOf}
 use Rattle.radix.specs.Conversions.{radpk, radup}
 use Rattle.numerals.specs.Digits.{value, numberOf, digitsOf}
 use Rattle.numerals.specs.Conversions.{d2bin, bin2d, o2bin, bin2o}
+use Rattle.asking.specs.Rights.{may, inField}
 use Rattle.promises.specs.Examples.{Examples}
 
 pub examples : Examples
-unfolding radpk radup d2bin bin2d o2bin bin2o toNumber conversionRows answered onSuccess firstOf wordOf charactersOf codeOf characterOf table numberOf value digitsOf
+unfolding radpk radup d2bin bin2d o2bin bin2o toNumber conversionRows answered onSuccess firstOf wordOf charactersOf codeOf characterOf table numberOf value digitsOf may inField
 examples =
     record {
       p1 = (
@@ -31,4 +32,5 @@ examples =
         record { forth = refl; back = λ buffer same. characters-given 6 (digitsOf 8 6) 0o177777 buffer same refl },
         (refl, λ buffer same. characters-60 6 (digitsOf 8 6) 0o200000 buffer same refl),
       );
+      p13 = (refl, refl);
     }

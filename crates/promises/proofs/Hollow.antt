@@ -9,7 +9,7 @@ use Rattle.answers.specs.declared.Answer.{Answer}
 use Rattle.answers.specs.Conversion.{Written}
 use Rattle.radix.specs.Conversions.{radpk, radup}
 use Rattle.numerals.specs.Conversions.{d2bin, bin2d, o2bin, bin2o}
-use Rattle.promises.specs.Text.{bytes}
+use Rattle.words.specs.Text.{bytes}
 use Rattle.promises.specs.Examples.{Converts, NumberRefused}
 use Rattle.promises.specs.Conversions.{NoFixedAnswer, NoHollowWriting}
 use Rattle.promises.proofs.Examples.{examples}

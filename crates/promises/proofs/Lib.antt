@@ -4,3 +4,5 @@ pub mod Digits
 pub mod Conversions
 pub mod Demands
 pub mod Hollow
+pub mod Codes
+pub mod Pack

@@ -1,14 +1,17 @@
 -- The examples that document 01 marks P, as one table: a row for each, in its words.
-use Prim.Native.Nat.{ℕ}
+use Prim.Native.Nat.{ℕ, _+_, _*_}
 use Prim.Native.String.{String}
 use mathlib.Core.Path.{_≡_}
+use mathlib.Core.Bool.{true, false}
 use mathlib.Core.List.{List}
 use lib.ListN.{length}
 use Rattle.answers.specs.declared.Answer.{Answer}
 use Rattle.answers.specs.Conversion.{Written}
 use Rattle.radix.specs.Conversions.{radpk, radup}
 use Rattle.numerals.specs.Conversions.{d2bin, bin2d, o2bin, bin2o}
-use Rattle.promises.specs.Text.{bytes}
+use Rattle.words.specs.Text.{bytes}
+use Rattle.asking.specs.declared.Right.the-variants.{Read, Write}
+use Rattle.asking.specs.Rights.{may}
 
 -- a text converts to a number, and the number to the text, in a buffer of that size whatever it held
 pub record Converts (toNumber : List ℕ → Answer) (toCharacters : ℕ → List ℕ → Written) (size : ℕ) (text : String) (number : ℕ) : Type 0 where
@@ -23,6 +26,10 @@ NumberRefused toCharacters size number = (buffer : List ℕ) → length buffer �
 abbrev pub TextRefused : (List ℕ → Answer) → String → Type 0
 TextRefused toNumber text = toNumber (bytes text) ≡ record { code = 0o60; number = 0 }
 
+-- "UIC (group high byte, user low byte)"
+abbrev pub uicOf : ℕ → ℕ → ℕ
+uicOf group user = 256 * group + user
+
 pub record Examples : Type 0 where
   -- P1 `KB ` = 17680 (042420).
   pub p1 : Converts radpk radup 3 "KB " 17680 × Converts o2bin bin2o 6 "042420" 17680
@@ -34,3 +41,5 @@ pub record Examples : Type 0 where
   pub p4 : Converts d2bin bin2d 5 "65535" 65535 × (TextRefused d2bin "65536" × NumberRefused bin2d 5 65536)
   -- P5 octal 177777 taken, 200000 refused.
   pub p5 : Converts o2bin bin2o 6 "177777" 0o177777 × (TextRefused o2bin "200000" × NumberRefused bin2o 6 0o200000)
+  -- P13 protect 3, owner [23,10]: [12,4] may read, not write.
+  pub p13 : (may Read (uicOf 0o12 0o4) (uicOf 0o23 0o10) 3 ≡ true) × (may Write (uicOf 0o12 0o4) (uicOf 0o23 0o10) 3 ≡ false)

@@ -1,2 +1,3 @@
 -- The laws of words.
 pub mod Laws
+pub mod Parts

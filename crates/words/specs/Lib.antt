@@ -1,2 +1,3 @@
--- The words of a slice of bytes.
+-- The words of a slice of bytes, and bytes written as a text.
 pub mod Word
+pub mod Text

@@ -1,7 +1,7 @@
 // Words of a lent slice of bytes: 16 bits, low byte first.
 ghost use mathlib.Core.Path.{_≡_};
 ghost use Prim.Native.Nat.{_+_, _*_, _<_};
-ghost use lib.ListN.{length};
+ghost use lib.ListN.{length, replicate};
 ghost use Rattle.words.specs.Word.{wordAt, setWord};
 
 pub fn word_at(bytes: &[u8], i: usize) -> usize
@@ -20,4 +20,25 @@ pub fn set_word(bytes: &mut [u8], i: usize, word: usize)
 {
     bytes[2 * i] = (word % 256) as u8;
     bytes[2 * i + 1] = (word / 256) as u8;
+}
+
+pub fn fill(part: &mut [u8], from: &[u8])
+    requires { ⌜ length (now part) ≡ length (now from) ⌝ }
+    ensures { λ r. ⌜ now (part .exit) ≡ now (from .entry) ⌝ }
+{
+    let mut i = 0;
+    while i < from.len() {
+        part[i] = from[i];
+        i += 1;
+    }
+}
+
+pub fn clear(part: &mut [u8])
+    ensures { λ r. ⌜ now (part .exit) ≡ replicate (length (now (part .entry))) 0 ⌝ }
+{
+    let mut i = 0;
+    while i < part.len() {
+        part[i] = 0;
+        i += 1;
+    }
 }

@@ -1,0 +1,28 @@
+-- That files differ in name, extension or UIC, as a test of each pair of entries.
+use Prim.Native.Nat.{ℕ, suc, zero, _+_}
+use mathlib.Core.Bool.{Bool, true, cond, not, _&&_}
+use mathlib.Core.List.{List}
+use lib.Dec.{eqb}
+use Rattle.pack.specs.declared.Geometry.{Geometry}
+use Rattle.pack.specs.Entry.{entryWord}
+
+-- two entries have the same name, extension and UIC
+unfoldable pub sameTest : List ℕ → Geometry → ℕ → ℕ → Bool
+sameTest img g e f =
+    eqb (entryWord img g e 0) (entryWord img g f 0)
+    && (eqb (entryWord img g e 1) (entryWord img g f 1)
+    && (eqb (entryWord img g e 2) (entryWord img g f 2) && eqb (entryWord img g e 3) (entryWord img g f 3)))
+
+-- entry e differs from each of the `k` entries from f on
+unfoldable pub apartTest : List ℕ → Geometry → ℕ → ℕ → ℕ → Bool
+apartTest img g e f zero = true
+apartTest img g e f (suc k) = not (sameTest img g e f) && apartTest img g e (f + 1) k
+
+-- entry e is empty, or differs from each of the `k` entries behind it
+unfoldable pub uniqueTest : List ℕ → Geometry → ℕ → ℕ → Bool
+uniqueTest img g e k = cond (eqb (entryWord img g e 0) 0) true (apartTest img g e (e + 1) k)
+
+-- so does each of the `k` entries from e on
+unfoldable pub differTest : List ℕ → Geometry → ℕ → ℕ → Bool
+differTest img g e zero = true
+differTest img g e (suc k) = uniqueTest img g e k && differTest img g (e + 1) k

@@ -1,0 +1,35 @@
+-- A walk over the blocks of a file, which takes each on a map. The map has 1 at a block that is taken and 0 at another.
+use Prim.Native.Nat.{ℕ}
+use mathlib.Core.Bool.{Bool, true, false, cond, _&&_}
+use mathlib.Core.List.{List, [], _∷_}
+use lib.Dec.{eqb, leb, ltb}
+use lib.ListN.{getD, set}
+use Rattle.pack.specs.declared.Geometry.{Geometry}
+use Rattle.pack.specs.File.{nextOf, chain, after, lastOf}
+use Rattle.consistency.specs.declared.Walked.{Walked}
+use Rattle.consistency.specs.declared.Walked.the-variants.{End, Stopped}
+
+-- each block in turn lies from `low` on and below `end`, and is not taken yet
+unfoldable pub takes : ℕ → ℕ → List ℕ → List ℕ → Bool
+takes low end map [] = true
+takes low end map (b ∷ bs) = leb low b && (ltb b end && (eqb (getD map b 0) 0 && takes low end (set map b 1) bs))
+
+-- the map with those blocks taken
+unfoldable pub mark : List ℕ → List ℕ → List ℕ
+mark map [] = map
+mark map (b ∷ bs) = mark (set map b 1) bs
+
+-- the `length` blocks of a file of a kind from `first` on
+unfoldable pub blocksFrom : List ℕ → Geometry → ℕ → ℕ → ℕ → List ℕ
+blocksFrom img g kind length first = chain (nextOf img g kind) length first
+
+-- all of them are bodies that can be taken: then the last of them, or `other` where there is none, and the number behind it
+unfoldable pub walkOf : List ℕ → Geometry → ℕ → List ℕ → ℕ → ℕ → ℕ → Walked
+walkOf img g kind map other length first =
+    cond (takes (g .bodies .0) (g .blocks) map (blocksFrom img g kind length first))
+    (End (record { 0 = lastOf (nextOf img g kind) other length first }) (record { 0 = after (nextOf img g kind) length first }))
+    Stopped
+
+abbrev pub ended : Walked → Bool
+ended (End last next) = true
+ended Stopped = false

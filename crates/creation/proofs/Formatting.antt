@@ -1,0 +1,152 @@
+-- What Format comes to: its test says exactly what its rule says, and a request is refused with 41 and nothing changed, or done.
+use Prim.Native.Nat.{ℕ, _%_}
+use mathlib.Core.Path.{_≡_, refl, sym, ap, _∙_}
+use mathlib.Core.Bool.{Bool, true, false, not}
+use mathlib.Core.List.{List, [], _++_}
+use mathlib.Core.Logic.{_↔_, _⊎_, inl, inr}
+use native.Mathlib.Omega.{arith}
+use lib.Dec.{eqb}
+use lib.ListN.{length, drop, replicate}
+use borrow.Author.Tests.{eq-eqb, ne-eqb, eqb-true}
+use Rattle.answers.specs.Refusals.{tableOrder, inOrder}
+use Rattle.answers.proofs.Refusals.{refuse, pass, clear}
+use Rattle.pack.specs.Test.{measured, distinct}
+use Rattle.pack.proofs.Tests.{and-left, and-right, and-both, go-on, stop, true-not-false}
+use Rattle.pack.proofs.Headers.{measured-is, is-measured, distinct-is, is-distinct}
+use Rattle.asking.specs.Outcome.{Outcome}
+use Rattle.asking.proofs.Outcome.{settled-refused, settled-success}
+use Rattle.creation.specs.Format.{uicsIn, Formattable, formatTest, systemBytes, headed, formatted, formatRows, format}
+use Rattle.creation.proofs.Room.{header-inside}
+use Rattle.creation.proofs.Writing.{formatted-is}
+
+-- each answer of the test, rung by rung
+module _ (long form blocks contents : ℕ) (uics : List ℕ) where
+  pub half-word : (length uics % 2 ≡ 0 → ⊥) → false ≡ formatTest long form blocks contents uics
+  unfolding formatTest
+  half-word odd = stop _ _ (ne-eqb _ 0 odd)
+
+  module _ (whole : length uics % 2 ≡ 0) where
+    pub not-measured : measured long form blocks contents (uicsIn uics) ≡ false → false ≡ formatTest long form blocks contents uics
+    unfolding formatTest
+    not-measured fails = go-on (eq-eqb _ 0 whole) (stop _ _ fails)
+
+    pub by-uics : measured long form blocks contents (uicsIn uics) ≡ true → {answer : Bool} → answer ≡ distinct uics 0 (uicsIn uics)
+        → answer ≡ formatTest long form blocks contents uics
+    unfolding formatTest
+    by-uics holds is = go-on (eq-eqb _ 0 whole) (go-on holds is)
+
+  -- the test says exactly what the rule says
+  pub test-formattable : formatTest long form blocks contents uics ≡ true → Formattable long form blocks contents uics
+  unfolding formatTest
+  test-formattable t =
+      let behind = and-right (eqb (length uics % 2) 0) _ t in
+      let m = measured-is long form blocks contents (uicsIn uics) (and-left (measured long form blocks contents (uicsIn uics)) _ behind) in
+      let d = distinct-is uics 0 (uicsIn uics) (and-right (measured long form blocks contents (uicsIn uics)) _ behind) in
+      record {
+        whole = eqb-true _ 0 (and-left (eqb (length uics % 2) 0) _ t);
+        known = m .known;
+        blocksLeast = m .blocksLeast;
+        blocksMost = m .blocksMost;
+        contentsLeast = m .contentsLeast;
+        contentsMost = m .contentsMost;
+        room = m .room;
+        uicsMost = m .uicsMost;
+        size = m .size;
+        uicsNotZero = λ i inside. d .some i (omega arith) (omega arith);
+        uicsDistinct = λ i j order inside. d .apart i j (omega arith) order (omega arith);
+      }
+
+  pub formattable-measured : Formattable long form blocks contents uics → measured long form blocks contents (uicsIn uics) ≡ true
+  formattable-measured f =
+      is-measured long form blocks contents (uicsIn uics) (record {
+        known = f .known;
+        blocksLeast = f .blocksLeast;
+        blocksMost = f .blocksMost;
+        contentsLeast = f .contentsLeast;
+        contentsMost = f .contentsMost;
+        room = f .room;
+        uicsMost = f .uicsMost;
+        size = f .size;
+      })
+
+  pub formattable-test : Formattable long form blocks contents uics → formatTest long form blocks contents uics ≡ true
+  unfolding formatTest
+  formattable-test f =
+      and-both (eq-eqb _ 0 (f .whole))
+      (and-both (formattable-measured f)
+      (is-distinct uics 0 (uicsIn uics) (record {
+        some = λ w low high. f .uicsNotZero w (omega arith);
+        apart = λ v w low less high. f .uicsDistinct v w less (omega arith);
+      })))
+
+  pub format-iff : formatTest long form blocks contents uics ≡ true ↔ Formattable long form blocks contents uics
+  format-iff = (test-formattable, formattable-test)
+
+-- the two outcomes
+module _ (image : List ℕ) (form blocks contents : ℕ) (uics : List ℕ) where
+  pub format-refused : formatTest (length image) form blocks contents uics ≡ false
+      → format image form blocks contents uics ≡ record { code = 0o41; numbers = []; image = image; buffer = uics }
+  unfolding format formatRows
+  format-refused fails = settled-refused _ _ _ _ (refuse [] (ap not fails)) (λ is. omega arith)
+
+  pub format-done : formatTest (length image) form blocks contents uics ≡ true
+      → format image form blocks contents uics ≡ record { code = 0; numbers = []; image = formatted image form blocks contents uics; buffer = uics }
+  unfolding format formatRows
+  format-done holds = settled-success _ _ _ _ (pass 0o41 [] (ap not holds) ∙ clear)
+
+  -- "Of several, the first in this table is given."
+  pub format-ordered : inOrder tableOrder 0 (formatRows image form blocks contents uics) ≡ true
+  unfolding formatRows
+  format-ordered = refl
+
+  -- the code is 0, or 41 exactly if the rule does not hold
+  pub format-codes : (format image form blocks contents uics .code ≡ 0) ⊎ (format image form blocks contents uics .code ≡ 0o41)
+  format-codes = by (formatTest (length image) form blocks contents uics) refl
+    where
+      by : (test : Bool) → formatTest (length image) form blocks contents uics ≡ test
+          → (format image form blocks contents uics .code ≡ 0) ⊎ (format image form blocks contents uics .code ≡ 0o41)
+      by true holds = inl (ap (λ (o : Outcome). o .code) (format-done holds))
+      by false fails = inr (ap (λ (o : Outcome). o .code) (format-refused fails))
+
+  pub format-refuses : format image form blocks contents uics .code ≡ 0o41 ↔ (Formattable (length image) form blocks contents uics → ⊥)
+  format-refuses = by (formatTest (length image) form blocks contents uics) refl
+    where
+      by : (test : Bool) → formatTest (length image) form blocks contents uics ≡ test
+          → format image form blocks contents uics .code ≡ 0o41 ↔ (Formattable (length image) form blocks contents uics → ⊥)
+      by true holds = (
+        λ code f. omega (arith, code, ap (λ (o : Outcome). o .code) (format-done holds)),
+        λ never. absurd (never (test-formattable (length image) form blocks contents uics holds)),
+      )
+      by false fails = (
+        λ code f. true-not-false (sym (formattable-test (length image) form blocks contents uics f) ∙ fails),
+        λ never. ap (λ (o : Outcome). o .code) (format-refused fails),
+      )
+
+  -- "nothing in the image or a lent buffer changes"
+  pub format-unchanged : (format image form blocks contents uics .code ≡ 0 → ⊥)
+      → (format image form blocks contents uics .image ≡ image) × (format image form blocks contents uics .buffer ≡ uics)
+  format-unchanged refused = by (formatTest (length image) form blocks contents uics) refl
+    where
+      by : (test : Bool) → formatTest (length image) form blocks contents uics ≡ test
+          → (format image form blocks contents uics .image ≡ image) × (format image form blocks contents uics .buffer ≡ uics)
+      by true holds = absurd (refused (ap (λ (o : Outcome). o .code) (format-done holds)))
+      by false fails = (ap (λ (o : Outcome). o .image) (format-refused fails), ap (λ (o : Outcome). o .buffer) (format-refused fails))
+
+  -- the code and the image of each, as the code comes to them
+  pub refused-code : formatTest (length image) form blocks contents uics ≡ false → 0o41 ≡ format image form blocks contents uics .code
+  refused-code fails = sym (ap (λ (o : Outcome). o .code) (format-refused fails))
+
+  pub refused-image : formatTest (length image) form blocks contents uics ≡ false → image ≡ format image form blocks contents uics .image
+  refused-image fails = sym (ap (λ (o : Outcome). o .image) (format-refused fails))
+
+  module _ (holds : formatTest (length image) form blocks contents uics ≡ true) where
+    pub done-code : 0 ≡ format image form blocks contents uics .code
+    done-code = sym (ap (λ (o : Outcome). o .code) (format-done holds))
+
+    pub done-image : {cleared left : List ℕ} → cleared ≡ replicate (systemBytes form contents) 0 ++ drop (systemBytes form contents) image
+        → left ≡ headed cleared form blocks contents uics → left ≡ format image form blocks contents uics .image
+    done-image {cleared} {left} clears heads =
+        heads
+        ∙ ap (λ (l : List ℕ). headed l form blocks contents uics) clears
+        ∙ formatted-is image form blocks contents uics (header-inside (test-formattable (length image) form blocks contents uics holds))
+        ∙ sym (ap (λ (o : Outcome). o .image) (format-done holds))

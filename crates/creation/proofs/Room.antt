@@ -1,0 +1,55 @@
+-- What the measures of a formattable image leave room for: the system's bytes in the image, the header in them, and each number in a word.
+use Prim.Native.Nat.{ℕ, _+_, _*_, _≤_, _<_}
+use mathlib.Core.Path.{_≡_, refl, sym, subst}
+use mathlib.Core.Bool.{Bool, true, false, cond}
+use mathlib.Core.List.{List}
+use native.Mathlib.Omega.{arith}
+use lib.Dec.{eqb}
+use lib.ListN.{length}
+use borrow.Author.Tests.{eqb-true}
+use Rattle.pack.specs.Form.{segmentsOf, bodiesOf}
+use Rattle.pack.proofs.Measures.{segments-few, blocks-most, contents-before, uics-fit, block-room}
+use Rattle.creation.specs.Format.{uicsIn, Formattable, systemBytes}
+
+-- a form that is known is a word
+pub form-small : (form : ℕ) → 0 < segmentsOf form → form < 65536
+unfolding segmentsOf
+form-small form known = small (eqb form 1) refl known
+  where
+    small : (one : Bool) → eqb form 1 ≡ one → 0 < cond one 4 0 → form < 65536
+    small true is h = omega (arith, eqb-true form 1 is)
+    small false is h = absurd (omega arith)
+
+pub system-is : (bodies segments form contents : ℕ) → bodies ≡ bodiesOf form contents → segments ≡ segmentsOf form
+    → bodies * (128 * segments) ≡ systemBytes form contents
+system-is bodies segments form contents first per = rw (first, per)
+
+module _ {long form blocks contents : ℕ} {uics : List ℕ} (f : Formattable long form blocks contents uics) where
+  pub system-room : systemBytes form contents ≤ long
+  system-room = omega (arith, f .size, block-room (segmentsOf form) (f .room))
+
+  pub uics-whole : length uics ≡ 2 * uicsIn uics
+  uics-whole = omega (arith, f .whole)
+
+  pub header-room : 8 + length uics ≤ 128 * segmentsOf form
+  header-room = omega (arith, uics-whole, uics-fit form (uicsIn uics) (f .known) (f .uicsMost))
+
+  pub header-inside : 8 + length uics ≤ systemBytes form contents
+  header-inside = omega (arith, header-room, f .known, block-room (segmentsOf form) (contents-before form contents))
+
+  pub blocks-small : blocks < 65536
+  blocks-small = omega (arith, f .blocksMost, blocks-most form)
+
+  pub contents-small : contents < 65536
+  contents-small = omega (arith, contents-before form contents, f .room, blocks-small)
+
+  pub uics-small : uicsIn uics < 65536
+  uics-small = omega (arith, uics-whole, header-room, segments-few form)
+
+  pub header-long : 8 + length uics ≤ long
+  header-long = omega (arith, header-inside, system-room)
+
+-- another list as long is formattable alike
+pub same-long : {long long′ form blocks contents : ℕ} {uics : List ℕ} → Formattable long form blocks contents uics → long′ ≡ long
+    → Formattable long′ form blocks contents uics
+same-long {long} {long′} {form} {blocks} {contents} {uics} f is = subst (λ (n : ℕ). Formattable n form blocks contents uics) (sym is) f

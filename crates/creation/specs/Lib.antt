@@ -1,0 +1,2 @@
+-- Requests that make something.
+pub mod Format

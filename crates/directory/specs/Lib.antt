@@ -1,0 +1,2 @@
+-- Requests that change one entry at most.
+pub mod Look

@@ -1,0 +1,54 @@
+use Prim.Native.Nat.{ℕ}
+use mathlib.Core.Path.{sym}
+use native.Mathlib.Omega.{arith}
+use lib.ListN.{length-replicate}
+use lib.Seq.{length-take-le}
+use borrow.Author.Needs.{needs}
+use Rattle.printing.specs.Parts.{longestText}
+use Rattle.listing.proofs.main.Statement.{statement}
+use Rattle.listing.proofs.main.Tie as tie
+
+slice-aggregate-read-full : tie.Need-slice-aggregate-read-full
+slice-aggregate-read-full c = search needs
+
+read-full-requires : tie.Need-read-full-requires
+read-full-requires c κs = search needs
+
+array-share-prefix-image : tie.Need-array-share-prefix-image
+array-share-prefix-image c = search needs
+
+slice-aggregate-print-listing : tie.Need-slice-aggregate-print-listing
+slice-aggregate-print-listing c = search needs
+
+slice-aggregate-print-listing-2 : tie.Need-slice-aggregate-print-listing-2
+slice-aggregate-print-listing-2 c = search needs
+
+print-listing-requires : tie.Need-print-listing-requires
+print-listing-requires c κs = search needs
+
+array-share-prefix-text : tie.Need-array-share-prefix-text
+array-share-prefix-text c = search needs
+
+slice-aggregate-write-all : tie.Need-slice-aggregate-write-all
+slice-aggregate-write-all c = sym (length-take-le _ _ (omega (arith, c .before .before .print-listing .kept .1 .0, c .before .before .print-listing .ensures .1 .1, length-replicate {A = ℕ} longestText 0)))
+
+write-all-requires : tie.Need-write-all-requires
+write-all-requires c κs = search needs
+
+returns : tie.Need-returns
+returns c = search needs
+
+pub main-spec : {M : Type 1} → statement M
+main-spec =
+    tie.close
+    (tie.spec
+    slice-aggregate-read-full
+    read-full-requires
+    array-share-prefix-image
+    slice-aggregate-print-listing
+    slice-aggregate-print-listing-2
+    print-listing-requires
+    array-share-prefix-text
+    slice-aggregate-write-all
+    write-all-requires
+    returns)

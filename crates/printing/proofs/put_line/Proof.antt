@@ -1,0 +1,42 @@
+use native.Mathlib.Omega.{arith}
+use borrow.Author.Needs.{needs}
+use Rattle.printing.proofs.Lines.{put-parts}
+use Rattle.printing.proofs.put_line.Statement.{statement}
+use Rattle.printing.proofs.put_line.Tie as tie
+
+put-name-requires : tie.Need-put-name-requires
+put-name-requires c κs = search needs
+
+put-size-requires : tie.Need-put-size-requires
+put-size-requires c κs = search needs
+
+put-uic-requires : tie.Need-put-uic-requires
+put-uic-requires c κs = search needs
+
+put-number-requires : tie.Need-put-number-requires
+put-number-requires c κs = search needs
+
+slice-aggregate-put-bytes : tie.Need-slice-aggregate-put-bytes
+slice-aggregate-put-bytes c = search needs
+
+put-bytes-requires : tie.Need-put-bytes-requires
+put-bytes-requires c κs = search needs
+
+same-length : tie.Need-same-length
+same-length c = search needs
+
+returns : tie.Need-returns
+returns c = (put-parts _ (c .before .before .before .before .before .before .before .before .before .before .before .before .before .before .before .before .before .before .before .put-name .ensures .0) (c .before .before .before .before .before .before .before .before .before .before .before .before .before .before .before .put-size .ensures .0) (c .before .before .before .before .before .before .before .before .before .before .before .put-uic .ensures .0) (c .before .before .before .before .before .before .before .put-number .ensures) (c .before .before .put-bytes .ensures), omega arith)
+
+pub put-line-spec : {M : Type 1} → statement M
+put-line-spec =
+    tie.close
+    (tie.spec
+    put-name-requires
+    put-size-requires
+    put-uic-requires
+    put-number-requires
+    slice-aggregate-put-bytes
+    put-bytes-requires
+    same-length
+    returns)

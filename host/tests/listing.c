@@ -1,0 +1,285 @@
+/* The listing program, run on packs that are built here word by word, against texts that are written out. */
+#define _POSIX_C_SOURCE 200809L
+
+#include <stdbool.h>
+#include <string.h>
+
+#include "check.h"
+
+enum {
+    BLOCK = 512,
+    WORDS = BLOCK / 2,
+    ENTRY = 16, /* words of an entry, and entries of a block */
+    LONGEST = 65536,
+    ROOM = LONGEST + 3 * BLOCK,
+    TEXT = 8192
+};
+
+#define PROGRAM "target/bin/listing"
+#define IMAGE "target/host/listing.image"
+#define REFUSED "REFUSED 40\n"
+
+/* ---- Packs ---- */
+
+static uint8_t image[ROOM];
+static size_t length;
+
+static void set_word(size_t at, size_t word)
+{
+    image[2 * at] = (uint8_t)(word % 256);
+    image[2 * at + 1] = (uint8_t)(word / 256);
+}
+
+static size_t uic(size_t group, size_t user)
+{
+    return 256 * group + user;
+}
+
+/* Every byte of a body is set, since none is to be looked at but the links of linked files. */
+static void format(size_t blocks, size_t contents, size_t uics, const size_t *list)
+{
+    length = blocks * BLOCK;
+    memset(image, 0, (contents + 1) * BLOCK);
+    memset(image + (contents + 1) * BLOCK, 0xA5, length - (contents + 1) * BLOCK);
+    set_word(0, 1);
+    set_word(1, blocks);
+    set_word(2, contents);
+    set_word(3, uics);
+    for (size_t i = 0; i < uics; i++)
+        set_word(4 + i, list[i]);
+}
+
+static size_t radix(const char *characters)
+{
+    static const char alphabet[] = " ABCDEFGHIJKLMNOPQRSTUVWXYZ$.?0123456789";
+    size_t word = 0;
+
+    for (int i = 0; i < 3; i++)
+        word = 40 * word + (size_t)(strchr(alphabet, characters[i]) - alphabet);
+    return word;
+}
+
+/* A name is nine characters: six, and three of the extension. */
+static void set_entry(size_t e, const char *name, size_t owner, size_t protect, size_t kind, size_t first, size_t count, size_t last)
+{
+    size_t at = WORDS + e * ENTRY;
+
+    for (size_t i = 0; i < 3; i++)
+        set_word(at + i, radix(name + 3 * i));
+    set_word(at + 3, owner);
+    set_word(at + 4, protect);
+    set_word(at + 5, kind);
+    set_word(at + 6, first);
+    set_word(at + 7, count);
+    set_word(at + 8, last);
+}
+
+static void set_opens(size_t e, size_t writer, size_t readers)
+{
+    set_word(WORDS + e * ENTRY + 9, writer);
+    set_word(WORDS + e * ENTRY + 10, readers);
+}
+
+static void set_contiguous(size_t e, const char *name, size_t owner, size_t protect, size_t first, size_t count)
+{
+    set_entry(e, name, owner, protect, 1, first, count, first + count - 1);
+}
+
+/* The blocks of a linked file end with a 0. */
+static void set_linked(size_t e, const char *name, size_t owner, size_t protect, const size_t *blocks)
+{
+    size_t count = 0;
+
+    for (; blocks[count]; count++)
+        set_word(blocks[count] * WORDS, blocks[count + 1]);
+    set_entry(e, name, owner, protect, 2, blocks[0], count, count ? blocks[count - 1] : 0);
+}
+
+/* ---- The program ---- */
+
+static void write_image(void)
+{
+    FILE *file = fopen(IMAGE, "wb");
+
+    CHECK_NUMBER(file && fwrite(image, 1, length, file) == length && fclose(file) == 0, true, "writing " IMAGE);
+}
+
+/* What a command writes is the text, all of it and nothing else, and the command's status is 0. */
+static void try_command(const char *command, const char *text, const char *name)
+{
+    static char got[TEXT + 1];
+    FILE *output = popen(command, "r");
+    size_t count = fread(got, 1, sizeof got, output);
+
+    CHECK_NUMBER(pclose(output), 0, "%s: status", name);
+    CHECK_NUMBER(count, strlen(text), "%s: bytes written", name);
+    CHECK_BYTES((uint8_t *)got, (const uint8_t *)text, count < strlen(text) ? count : strlen(text), "%s: text", name);
+}
+
+static void try_image(const char *text, const char *name)
+{
+    write_image();
+    try_command(PROGRAM " < " IMAGE, text, name);
+}
+
+/* ---- The tests ---- */
+
+/* "Format with n = 16, c = 1, UIC [23,10]; ALLOC FREQ.DAT, N = 9, protect 3." */
+static void build_example(void)
+{
+    format(16, 1, 1, (size_t[]){ uic(023, 010) });
+    set_contiguous(0, "FREQ  DAT", uic(023, 010), 3, 13, 3);
+}
+
+static void example(void)
+{
+    build_example();
+    try_image("BLOCKS 00016 FREE 00011\n"
+              "FREQ  .DAT C 00003 [023,010] 003\n",
+              "example");
+}
+
+static void empty_pack(void)
+{
+    format(16, 1, 0, NULL);
+    try_image("BLOCKS 00016 FREE 00014\n", "empty pack");
+
+    format(100, 8, 2, (size_t[]){ uic(1, 0), uic(0, 1) });
+    try_image("BLOCKS 00100 FREE 00091\n", "empty pack of 8 blocks of contents");
+}
+
+/* Entries stand apart, in another order than their blocks, and the last in the second block of contents. */
+static void build_mixed(void)
+{
+    format(20, 2, 3, (size_t[]){ uic(0377, 0377), uic(1, 0), uic(0, 0123) });
+    set_linked(1, "A     9Z ", uic(0377, 0377), 0377, (size_t[]){ 19, 3, 7, 0 });
+    set_contiguous(4, "ZZZZZZ   ", uic(1, 0), 0, 4, 2);
+    set_linked(5, "0X2Y4ZDAT", uic(0, 0123), 0100, (size_t[]){ 0 });
+    set_linked(15, "FREQ  DAT", uic(1, 0), 052, (size_t[]){ 12, 0 });
+    set_contiguous(31, "FREQ  DAT", uic(0377, 0377), 7, 17, 1);
+    set_opens(1, 3, 61);
+    set_opens(4, 1, 0);
+    set_opens(5, 2, 0);
+}
+
+static void mixed(void)
+{
+    build_mixed();
+    try_image("BLOCKS 00020 FREE 00010\n"
+              "A     .9Z  L 00003 [377,377] 377\n"
+              "ZZZZZZ.    C 00002 [001,000] 000\n"
+              "0X2Y4Z.DAT L 00000 [000,123] 100\n"
+              "FREQ  .DAT L 00001 [001,000] 052\n"
+              "FREQ  .DAT C 00001 [377,377] 007\n",
+              "linked, contiguous and empty files");
+}
+
+/* One word of the mixed pack changed, each time another rule broken. */
+static void damaged(void)
+{
+    static const struct {
+        const char *rule;
+        size_t at, word;
+    } changes[] = {
+        { "form", 0, 2 },
+        { "fewer blocks than the image has", 1, 19 },
+        { "no contents", 2, 0 },
+        { "a UIC twice", 5, 0177777 },
+        { "a UIC 0", 6, 0 },
+        { "rest of block 0", WORDS - 1, 1 },
+        { "a name with a code of no character", WORDS + 1 * ENTRY, 29 },
+        { "a name that begins with a blank", WORDS + 1 * ENTRY, 1 },
+        { "an extension with a period", WORDS + 4 * ENTRY + 2, 28 },
+        { "a UIC that is not listed", WORDS + 4 * ENTRY + 3, 0401 },
+        { "protect code", WORDS + 4 * ENTRY + 4, 256 },
+        { "kind", WORDS + 4 * ENTRY + 5, 3 },
+        { "a linked file as a contiguous one", WORDS + 1 * ENTRY + 5, 1 },
+        { "first block in the contents", WORDS + 31 * ENTRY + 6, 2 },
+        { "length", WORDS + 4 * ENTRY + 7, 3 },
+        { "last block", WORDS + 1 * ENTRY + 8, 3 },
+        { "writer", WORDS + 1 * ENTRY + 9, 1 },
+        { "62 readers and a writer", WORDS + 1 * ENTRY + 10, 62 },
+        { "word 15 of an entry", WORDS + 31 * ENTRY + 15, 1 },
+        { "an entry that is not all zero", WORDS + 2 * ENTRY + 4, 1 },
+        { "a chain that loops", 7 * WORDS, 19 },
+        { "a chain that leaves the pack", 3 * WORDS, 20 },
+        { "a chain that is too short", 3 * WORDS, 0 },
+        { "a chain that is too long", 7 * WORDS, 8 },
+        { "a chain into another file", 3 * WORDS, 4 },
+        { "two files of one name, extension and UIC", WORDS + 31 * ENTRY + 3, 0400 },
+    };
+
+    for (size_t i = 0; i < sizeof changes / sizeof *changes; i++) {
+        build_mixed();
+        set_word(changes[i].at, changes[i].word);
+        try_image(REFUSED, changes[i].rule);
+    }
+}
+
+/* Nothing at all, parts of a pack, and bytes behind it. */
+static void other_lengths(void)
+{
+    static const size_t lengths[] = { 0, 1, 2, 3, 7, 8, 9, 511, 512, 513, 1023, 1024, 2048, 8190, 8191, 8193, 8704, LONGEST };
+
+    for (size_t i = 0; i < sizeof lengths / sizeof *lengths; i++) {
+        char name[64];
+
+        memset(image, 0, sizeof image);
+        build_example();
+        length = lengths[i];
+        sprintf(name, "the example in %zu bytes", length);
+        try_image(REFUSED, name);
+    }
+}
+
+/* Each entry of 8 blocks of contents has a file, so that the text is as long as it can be. */
+static void build_largest(size_t blocks, char *text)
+{
+    format(blocks, 8, 1, (size_t[]){ uic(2, 3) });
+    text += sprintf(text, "BLOCKS %05zu FREE %05zu\n", blocks, blocks - 128);
+    for (size_t e = 0; e < 128; e++) {
+        char name[16];
+
+        sprintf(name, "N%05zuEXT", e);
+        if (e < 119) {
+            set_contiguous(e, name, uic(2, 3), 0, 127 - e, 1);
+            text += sprintf(text, "%.6s.EXT C 00001 [002,003] 000\n", name);
+        } else {
+            set_linked(e, name, uic(2, 3), 0, (size_t[]){ 0 });
+            text += sprintf(text, "%.6s.EXT L 00000 [002,003] 000\n", name);
+        }
+    }
+}
+
+/* From a pipe the image comes in parts: a byte, then the rest in what the pipe can hold. */
+static void largest(void)
+{
+    static const char parts[] = "(head -c 1 " IMAGE "; sleep 0.1; tail -c +2 " IMAGE ") 2>/dev/null | " PROGRAM;
+    static char text[TEXT];
+
+    build_largest(128, text);
+    CHECK_NUMBER(length, LONGEST, "largest: length");
+    CHECK_NUMBER(strlen(text), 24 + 128 * 33, "largest: length of the text");
+    try_image(text, "largest");
+    try_command(parts, text, "largest, from a pipe");
+
+    length++;
+    try_image(REFUSED, "largest and a byte more");
+    try_command(parts, REFUSED, "largest and a byte more, from a pipe");
+
+    build_largest(129, text);
+    try_image(REFUSED, "a consistent pack of 129 blocks");
+    try_command(parts, REFUSED, "a consistent pack of 129 blocks, from a pipe");
+    try_command("cat " IMAGE " " IMAGE " " IMAGE " 2>/dev/null | " PROGRAM, REFUSED, "three packs");
+}
+
+int main(void)
+{
+    example();
+    empty_pack();
+    mixed();
+    damaged();
+    other_lengths();
+    largest();
+    return check_end("listing");
+}
