@@ -31,20 +31,33 @@
 extern "C" {
 #endif
 
-/* The codes. They are octal numbers wherever they are written down, so code 41 is 041 here, and printed by %zo. */
+/*
+ * The codes, in the order in which causes are named. They are octal numbers wherever they are written down, so code 41
+ * is 041 here, and printed by %zo.
+ */
 enum {
     ABZ_OK           = 0,
     ABZ_INCONSISTENT = 040, /* the image is not a consistent pack, as told under Packs */
     ABZ_NAME         = 015, /* a name or an extension is not legal */
     ABZ_ARGUMENT     = 041, /* an argument that the call does not take, as a buffer of another size */
+    ABZ_NO_USER      = 013, /* a file is to be created under a UIC that is not in the pack's list */
     ABZ_EXISTENCE    = 2,   /* there is no such file; where a file is to get this name, there is one already */
+    ABZ_RIGHT        = 6,   /* the caller lacks the right, as told under Rights */
+    ABZ_NOT_LINKED   = 5,   /* a contiguous file is to be opened for extension */
+    ABZ_KIND         = 043, /* the file is of the other kind than the call takes */
+    ABZ_WRITER       = 4,   /* the file has a writer already */
+    ABZ_OPEN         = 014, /* the file is open, and the call takes closed ones only */
+    ABZ_NOT_OPEN     = 045, /* the file is not open in the way that the call needs */
     ABZ_NO_BLOCK     = 044, /* there is no such block */
+    ABZ_OPENS        = 3,   /* the file has 62 opens already, the most there can be */
+    ABZ_NO_ENTRY     = 012, /* the contents have no empty entry for another file */
+    ABZ_NO_ROOM      = 042, /* there is no free block, or too few of them in a row */
     ABZ_CONVERSION   = 060  /* what is to be converted is not of its set, or too large */
 };
 
 typedef struct {
     size_t code;
-    size_t number; /* with ABZ_OK what the call says, else 0 */
+    size_t number; /* with ABZ_OK what the call says, else as under Refusals */
 } abz_answer;
 
 /*
@@ -131,8 +144,8 @@ size_t abz_bin2o(size_t number, uint8_t *chars, size_t chars_len);
  *   - a file's readers, and 1 more if it has a writer, are at most 62.
  * What the free blocks and those of contiguous files hold does not matter.
  *
- * Every call but abz_format takes any bytes for an image, of any length, and refuses with ABZ_INCONSISTENT before
- * all else where they are no consistent pack. No call makes a consistent pack inconsistent.
+ * Every call on an image but abz_format takes any bytes for it, of any length, and refuses with ABZ_INCONSISTENT
+ * before all else where they are no consistent pack. No call makes a consistent pack inconsistent.
  */
 
 /* The kinds of files. */
@@ -144,7 +157,7 @@ enum {
 /*
  * Makes an empty pack of an image, whatever that held: block 0 becomes the header with form, n = blocks, c = contents
  * and the UICs in uics, two bytes each, low byte first; blocks 1 to c become 0. All other blocks are free then, and
- * keep their bytes: what files of before had there is still to be seen.
+ * keep their bytes, so what earlier files had there can still be seen in the image.
  *   ABZ_ARGUMENT  form is not 1, blocks not 16 to 1024, contents not 1 to 8, or image_len not 512 * blocks; uics_len
  *                 is odd or above 128; a UIC is 0, or is twice in uics.
  */
@@ -174,7 +187,7 @@ enum {
 
 typedef struct {
     size_t code;
-    size_t kind;         /* one of these three; a refusal has 0 here too, so look at the code first */
+    size_t kind;         /* one of these three; 0 in a refusal too, so look at the code first */
     size_t entry, place; /* with ABZ_HELD the entry of the file and the block's place in it, from 0; else 0 */
 } abz_owner_answer;
 
@@ -185,6 +198,161 @@ typedef struct {
  *   ABZ_NO_BLOCK      block is n or more.
  */
 abz_owner_answer abz_owner(const uint8_t *image, size_t image_len, size_t block);
+
+/*
+ * Rights
+ *
+ * The protect code of a file says what a caller may do with it:
+ *   - the owner, who has the file's UIC, may read, and unless bit 6 (0100) is set also write and delete;
+ *   - another of the group, where caller / 256 is the file's UIC / 256, goes by bits 3 to 5, protect / 8 % 8;
+ *   - anyone else goes by bits 0 to 2, protect % 8.
+ * In these three bits 0 is read, write and delete; 1 is read and write; 2 and 3 are read; 4 to 7 are nothing. The group
+ * may so be given less than all others. Bit 7 (0200) marks a file that is to be kept at Finish; it is no right.
+ *
+ * Opens
+ *
+ * A pack says how often its files are open, but not by whom, and keeps that in the image until they are closed. A file
+ * has one writer at most (word 9) and some readers (word 10), together 62 at most. It is open if it has either.
+ *
+ * Each call that follows is one request on one file, or two. It changes what is said at it and nothing else: the other
+ * words of that entry, the other entries, the header and all bodies stay. So the blocks of a file that is deleted keep
+ * their bytes.
+ */
+
+/* How a file can be open: its writer, and for CLOSE also a reader. */
+enum {
+    ABZ_UPDATE = 1, /* by OPENU */
+    ABZ_OUTPUT = 2, /* by OPENO */
+    ABZ_EXTEND = 3, /* by OPENE */
+    ABZ_INPUT  = 4  /* by OPENI; not a writer */
+};
+
+/*
+ * OPENI: opens a file for input. It has one reader more then. Files of both kinds are taken, and also such as are open
+ * for update or for extension.
+ *   ABZ_INCONSISTENT
+ *   ABZ_NAME          the name or the extension is not legal;
+ *   ABZ_EXISTENCE     there is no such file, or it is open for output;
+ *   ABZ_RIGHT         the caller may not read it;
+ *   ABZ_OPENS         its readers, and 1 more if it has a writer, are 62.
+ */
+size_t abz_openi(uint8_t *image, size_t image_len, size_t caller,
+                 size_t name1, size_t name2, size_t extension, size_t uic);
+
+/*
+ * OPENU: opens a contiguous file for update. Its writer is ABZ_UPDATE then; its readers stay.
+ *   ABZ_INCONSISTENT
+ *   ABZ_NAME          the name or the extension is not legal;
+ *   ABZ_EXISTENCE     there is no such file, or it is open for output;
+ *   ABZ_RIGHT         the caller may not write to it;
+ *   ABZ_KIND          it is linked;
+ *   ABZ_WRITER        it has a writer;
+ *   ABZ_OPENS         it has 62 readers.
+ */
+size_t abz_openu(uint8_t *image, size_t image_len, size_t caller,
+                 size_t name1, size_t name2, size_t extension, size_t uic);
+
+/*
+ * OPENE: opens a linked file for extension. Its writer is ABZ_EXTEND then; its readers stay.
+ *   ABZ_INCONSISTENT
+ *   ABZ_NAME          the name or the extension is not legal;
+ *   ABZ_EXISTENCE     there is no such file, or it is open for output;
+ *   ABZ_RIGHT         the caller may not write to it;
+ *   ABZ_NOT_LINKED    it is contiguous;
+ *   ABZ_WRITER        it has a writer;
+ *   ABZ_OPENS         it has 62 readers.
+ */
+size_t abz_opene(uint8_t *image, size_t image_len, size_t caller,
+                 size_t name1, size_t name2, size_t extension, size_t uic);
+
+/*
+ * CLOSE: takes one open away from a file. With mode ABZ_UPDATE, ABZ_OUTPUT or ABZ_EXTEND it has no writer then, with
+ * ABZ_INPUT one reader less. No right is needed, whoever opened it, and caller serves only where uic is 0.
+ *   ABZ_INCONSISTENT
+ *   ABZ_NAME          the name or the extension is not legal;
+ *   ABZ_ARGUMENT      mode is none of the four;
+ *   ABZ_EXISTENCE     there is no such file;
+ *   ABZ_NOT_OPEN      its writer is not mode; or mode is ABZ_INPUT, and it has no reader.
+ */
+size_t abz_close(uint8_t *image, size_t image_len, size_t caller,
+                 size_t name1, size_t name2, size_t extension, size_t uic, size_t mode);
+
+/*
+ * DELET: deletes a file of either kind. Its entry is empty then, all 0, and its blocks are free.
+ *   ABZ_INCONSISTENT
+ *   ABZ_NAME          the name or the extension is not legal;
+ *   ABZ_EXISTENCE     there is no such file;
+ *   ABZ_RIGHT         the caller may not delete it;
+ *   ABZ_OPEN          it is open.
+ */
+size_t abz_delet(uint8_t *image, size_t image_len, size_t caller,
+                 size_t name1, size_t name2, size_t extension, size_t uic);
+
+/*
+ * KEEP: sets bit 7 of a file's protect code, if it is not set yet. The file may be open.
+ *   ABZ_INCONSISTENT
+ *   ABZ_NAME          the name or the extension is not legal;
+ *   ABZ_EXISTENCE     there is no such file;
+ *   ABZ_RIGHT         the caller is not the owner; what the protect code says does not matter.
+ */
+size_t abz_keep(uint8_t *image, size_t image_len, size_t caller,
+                size_t name1, size_t name2, size_t extension, size_t uic);
+
+/*
+ * RENAM: gives a file a new name, extension and protect code. The owner stays, and so does all else. It cannot change
+ * the protect code alone: to keep its name too, a file is renamed twice.
+ *   ABZ_INCONSISTENT
+ *   ABZ_NAME          the name or the extension is not legal, the old or the new;
+ *   ABZ_ARGUMENT      protect is above 255;
+ *   ABZ_EXISTENCE     there is no such file; or its owner has one of the new name and extension, be it this file;
+ *   ABZ_RIGHT         the caller may not write to it;
+ *   ABZ_OPEN          it is open.
+ */
+size_t abz_renam(uint8_t *image, size_t image_len, size_t caller,
+                 size_t name1, size_t name2, size_t extension, size_t uic,
+                 size_t new_name1, size_t new_name2, size_t new_extension, size_t protect);
+
+/*
+ * APPND: puts a linked file, the second, at the end of another, the first, which keeps name, owner and protect code.
+ * The first has the blocks of both then, its own before the others, and the second's entry is empty, all 0. Nothing
+ * is moved: all that changes in the bodies is the link in the first file's last block, and that only where both files
+ * have blocks. Either may have none. uic and second_uic may differ, and 0 means the caller's in both.
+ *   ABZ_INCONSISTENT
+ *   ABZ_NAME          the name or the extension of either is not legal;
+ *   ABZ_ARGUMENT      both are the same file, whether there is one or not;
+ *   ABZ_EXISTENCE     there is no such file, for either;
+ *   ABZ_RIGHT         the caller may not write to the first, or may not delete the second;
+ *   ABZ_KIND          either is contiguous;
+ *   ABZ_OPEN          either is open.
+ */
+size_t abz_appnd(uint8_t *image, size_t image_len, size_t caller,
+                 size_t name1, size_t name2, size_t extension, size_t uic,
+                 size_t second_name1, size_t second_name2, size_t second_extension, size_t second_uic);
+
+/*
+ * Creating
+ *
+ * The two calls that make a file. Its entry becomes the lowest one that is empty. A caller creates files of his own
+ * only, so uic is 0 or his. Each refuses with, in this order:
+ *   ABZ_INCONSISTENT
+ *   ABZ_NAME          the name or the extension is not legal;
+ *   ABZ_ARGUMENT      protect is above 255; for ALLOC also: segments is 0;
+ *   ABZ_NO_USER       the owner to be is not in the pack's list;
+ *   ABZ_EXISTENCE     there is such a file already;
+ *   ABZ_RIGHT         uic is neither 0 nor the caller's;
+ *   ABZ_NO_ENTRY      no entry is empty;
+ *   ABZ_NO_ROOM       ALLOC only: nowhere are so many blocks free in a row.
+ *
+ * ALLOC makes a contiguous file that is closed and large enough for so many segments of 64 words, 4 to a block: it has
+ * segments / 4 blocks, rounded up, of any number. Of all places where so many blocks are free in a row, it gets the one
+ * that starts highest; number is its first block. The blocks are not written and hold what they held.
+ *
+ * OPENO makes a linked file that has no block and is open for output: its writer is ABZ_OUTPUT. It needs no free block.
+ */
+abz_answer abz_alloc(uint8_t *image, size_t image_len, size_t caller,
+                     size_t name1, size_t name2, size_t extension, size_t uic, size_t protect, size_t segments);
+size_t abz_openo(uint8_t *image, size_t image_len, size_t caller,
+                 size_t name1, size_t name2, size_t extension, size_t uic, size_t protect);
 
 #ifdef __cplusplus
 }

@@ -14,6 +14,16 @@ size_t abz_bin2o(size_t, uint8_t *, size_t);
 size_t abz_format(uint8_t *, size_t, size_t, size_t, size_t, const uint8_t *, size_t);
 abz_look_answer abz_look(const uint8_t *, size_t, size_t, size_t, size_t, size_t, size_t);
 abz_owner_answer abz_owner(const uint8_t *, size_t, size_t);
+size_t abz_openi(uint8_t *, size_t, size_t, size_t, size_t, size_t, size_t);
+size_t abz_openu(uint8_t *, size_t, size_t, size_t, size_t, size_t, size_t);
+size_t abz_opene(uint8_t *, size_t, size_t, size_t, size_t, size_t, size_t);
+size_t abz_close(uint8_t *, size_t, size_t, size_t, size_t, size_t, size_t, size_t);
+size_t abz_delet(uint8_t *, size_t, size_t, size_t, size_t, size_t, size_t);
+size_t abz_keep(uint8_t *, size_t, size_t, size_t, size_t, size_t, size_t);
+size_t abz_renam(uint8_t *, size_t, size_t, size_t, size_t, size_t, size_t, size_t, size_t, size_t, size_t);
+size_t abz_appnd(uint8_t *, size_t, size_t, size_t, size_t, size_t, size_t, size_t, size_t, size_t, size_t);
+abz_answer abz_alloc(uint8_t *, size_t, size_t, size_t, size_t, size_t, size_t, size_t, size_t);
+size_t abz_openo(uint8_t *, size_t, size_t, size_t, size_t, size_t, size_t, size_t);
 }
 
 bool taken(const uint8_t *chars, size_t chars_len)

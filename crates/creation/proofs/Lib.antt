@@ -4,3 +4,17 @@ pub mod Writing
 pub mod Formatted
 pub mod Formatting
 pub mod EmptyPack
+pub mod Rounding
+pub mod Stretch
+pub mod Lowest
+pub mod Filling
+pub mod Settling
+pub mod Fitting
+pub mod Deciding
+pub mod Highest
+pub mod Created
+pub mod OpeningOutput
+pub mod Allocating
+pub mod Entered
+pub mod OpenedOutput
+pub mod Allocated

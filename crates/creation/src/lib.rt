@@ -1,4 +1,10 @@
-// Requests that make something: Format.
+// Requests that make something: Format here, ALLOC and OPENO in modules of their own.
+mod allocation;
+mod creating;
+mod output;
+
+pub use allocation::alloc;
+pub use output::open_output;
 ghost use mathlib.Core.Path.{_≡_};
 ghost use mathlib.Core.List.{_++_};
 ghost use Prim.Native.Nat.{_≤_};

@@ -1,2 +1,15 @@
 -- The laws of the requests that change one entry at most.
 pub mod Looking
+pub mod Settling
+pub mod Deciding
+pub mod Lacking
+pub mod Legal
+pub mod Chosen
+pub mod Cleared
+pub mod Relabelled
+pub mod Deleting
+pub mod Deleted
+pub mod Keeping
+pub mod Kept
+pub mod Renaming
+pub mod Renamed

@@ -1,19 +1,18 @@
 -- LOOK: its answer in each case, and its place in the table.
 use Prim.Native.Nat.{ℕ}
-use mathlib.Core.Path.{_≡_, refl, sym, ap, subst, _∙_}
-use mathlib.Core.Bool.{Bool, true, false}
+use mathlib.Core.Path.{_≡_, sym, _∙_}
+use mathlib.Core.Bool.{true, false}
 use mathlib.Core.List.{List, [], _∷_}
 use Rattle.answers.specs.Refusals.{tableOrder, inOrder}
 use Rattle.pack.specs.declared.Geometry.{Geometry}
 use Rattle.pack.specs.declared.Entry.{Entry}
 use Rattle.pack.specs.declared.Key.{Key}
-use Rattle.pack.specs.Entry.{entryOf}
 use Rattle.asking.specs.declared.Asked.{Asked}
 use Rattle.asking.specs.declared.Asked.the-variants.{File, Refused}
-use Rattle.asking.specs.Asked.{fileRows, fileOf, entryNo, askedOf}
+use Rattle.asking.specs.Asked.{fileRows, askedOf}
 use Rattle.asking.proofs.Stage.{file-ordered, asked-is-file, asked-is-refused, asked-entry}
 use Rattle.asking.proofs.Outcome.{settled-refused, settled-success}
-use Rattle.directory.specs.Look.{lookNumbers, lookRows, look, lookOutcome}
+use Rattle.directory.specs.Look.{lookNumbers, lookRows, look}
 
 pub look-ordered : (img : List ℕ) (key : Key) → inOrder tableOrder 0 (lookRows img key) ≡ true
 unfolding lookRows

@@ -1,4 +1,8 @@
-// Requests that change one entry at most: LOOK.
+// Requests that change one entry at most: LOOK here, DELET, KEEP and RENAM each in a file of its own.
+pub mod delet;
+pub mod keep;
+pub mod renam;
+
 ghost use mathlib.Core.Path.{_≡_};
 ghost use Rattle.directory.specs.Look.{look, lookOutcome};
 use asking::Asked;

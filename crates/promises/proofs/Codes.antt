@@ -6,6 +6,9 @@ use mathlib.Core.Bool.{Bool, true, false, not}
 use mathlib.Core.List.{List, [], _∷_, _++_, append-nil}
 use mathlib.Core.Option.{Option, none, some}
 use native.Mathlib.Omega.{arith}
+use native.Mathlib.Decide.{ℕ-discrete}
+use lib.Dec.{eqb}
+use borrow.Author.Tests.{eq-eqb, ne-eqb}
 use Rattle.answers.specs.Refusals.{Row, row, firstOf, onSuccess}
 use Rattle.answers.proofs.Refusals.{clear}
 use Rattle.pack.specs.declared.Key.{Key}
@@ -20,14 +23,21 @@ use Rattle.asking.specs.Keys.{legalKey, found}
 use Rattle.asking.specs.Asked.{fileRows, fileOf, entryNo}
 use Rattle.asking.specs.Outcome.{settled}
 use Rattle.asking.proofs.Keys.{legal-iff, found-iff, absent-iff}
+use Rattle.asking.specs.declared.Right.the-variants.{Delete}
+use Rattle.asking.specs.Rights.{may}
+use Rattle.asking.specs.Opens.{isOpen}
+use Rattle.asking.proofs.Rights.{may-iff}
+use Rattle.asking.proofs.Opens.{open-iff}
 use Rattle.directory.specs.Look.{look, lookRows}
-use Rattle.promises.specs.Codes.{Legal, Exists, FileCode, image, name, argument, absent, own, LookCode}
+use Rattle.directory.specs.Delet.{delet, deletRows}
+use Rattle.directory.specs.Keep.{keep, keepRows}
+use Rattle.promises.specs.Codes.{Legal, Exists, FileCode, image, name, argument, absent, own, LookCode, DeletOwn, denied, busy, done, DeletCode, KeepOwn, another, owner, KeepCode}
 
 -- a test that fails denies what it decides
-fails : {A : Type 0} (b : Bool) → (b ≡ true ↔ A) → b ≡ false → A → ⊥
+pub fails : {A : Type 0} (b : Bool) → (b ≡ true ↔ A) → b ≡ false → A → ⊥
 fails b iff is a = true-not-false (sym (iff .1 a) ∙ is)
 
-legal-both : (key : Key) → legalKey key ≡ true ↔ Legal key
+pub legal-both : (key : Key) → legalKey key ≡ true ↔ Legal key
 legal-both key =
     (λ t. let l = legal-iff key .0 t in record { name = l .0; extension = l .1 }, λ l. legal-iff key .1 (l .name, l .extension))
 
@@ -61,3 +71,29 @@ unfolding look lookRows settled
 look-code img key =
     subst (λ (rows : List Row). LookCode img key (firstOf rows)) (append-nil (fileRows img key false))
     (file-code img key false ⊥ (λ never. true-not-false (sym never), λ never. absurd never) [] (λ x c. c ≡ 0) (λ right. clear))
+
+delet-own : (caller : ℕ) (x : Entry) → DeletOwn caller x (firstOf (row (not (may Delete caller (x .uic) (x .protect))) 0o6 ∷ (row (isOpen x) 0o14 ∷ [])))
+unfolding firstOf
+delet-own caller x = at (may Delete caller (x .uic) (x .protect)) (isOpen x) refl refl
+  where
+    at : (m o : Bool) → may Delete caller (x .uic) (x .protect) ≡ m → isOpen x ≡ o
+        → DeletOwn caller x (firstOf (row (not (may Delete caller (x .uic) (x .protect))) 0o6 ∷ (row (isOpen x) 0o14 ∷ [])))
+    at false o m-is o-is = rw m-is (denied (fails (may Delete caller (x .uic) (x .protect)) (may-iff Delete caller (x .uic) (x .protect)) m-is))
+    at true true m-is o-is = rw (m-is, o-is) (busy (may-iff Delete caller (x .uic) (x .protect) .0 m-is) (open-iff x .0 o-is))
+    at true false m-is o-is = rw (m-is, o-is) (done (may-iff Delete caller (x .uic) (x .protect) .0 m-is) (fails (isOpen x) (open-iff x) o-is))
+
+pub delet-code : (img : List ℕ) (key : Key) (caller : ℕ) → DeletCode img key caller (delet img key caller .code)
+unfolding delet deletRows settled
+delet-code img key caller = file-code img key false ⊥ (λ never. true-not-false (sym never), λ never. absurd never) _ (DeletOwn caller) (λ right. delet-own caller (fileOf img key))
+
+keep-own : (caller : ℕ) (x : Entry) → KeepOwn caller x (firstOf (row (not (eqb caller (x .uic))) 0o6 ∷ []))
+unfolding firstOf
+keep-own caller x = at (ℕ-discrete caller (x .uic))
+  where
+    at : Dec (caller ≡ x .uic) → KeepOwn caller x (firstOf (row (not (eqb caller (x .uic))) 0o6 ∷ []))
+    at (yes is) = rw (eq-eqb caller (x .uic) is) (owner is)
+    at (no never) = rw (ne-eqb caller (x .uic) never) (another never)
+
+pub keep-code : (img : List ℕ) (key : Key) (caller : ℕ) → KeepCode img key caller (keep img key caller .code)
+unfolding keep keepRows settled
+keep-code img key caller = file-code img key false ⊥ (λ never. true-not-false (sym never), λ never. absurd never) _ (KeepOwn caller) (λ right. keep-own caller (fileOf img key))

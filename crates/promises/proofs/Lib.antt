@@ -6,3 +6,5 @@ pub mod Demands
 pub mod Hollow
 pub mod Codes
 pub mod Pack
+pub mod Ladders
+pub mod Requests

@@ -9,6 +9,9 @@ use Rattle.pack.specs.Geometry.{geometryOf, slots}
 use Rattle.pack.specs.Entry.{entryOf}
 use Rattle.pack.specs.Consistent.{Consistent}
 use Rattle.pack.specs.Untouched.{Keyed}
+use Rattle.asking.specs.declared.Right.the-variants.{Delete}
+use Rattle.asking.specs.Rights.{May}
+use Rattle.asking.specs.Opens.{opens}
 
 pub record Legal (key : Key) : Type 0 where
   pub name : LegalName (key .name1) (key .name2)
@@ -32,3 +35,20 @@ pub data FileCode (img : List ℕ) (key : Key) (Wrong : Type 0) (Own : Entry →
 -- LOOK has no other code than success
 abbrev pub LookCode : List ℕ → Key → ℕ → Type 0
 LookCode img key code = FileCode img key ⊥ (λ x c. c ≡ 0) code
+
+-- DELET: "6: right lacking", "14: .. a file is open"
+pub data DeletOwn (caller : ℕ) (x : Entry) : ℕ → Type 0 where
+  denied : (May caller (x .uic) (x .protect) Delete → ⊥) → DeletOwn caller x 0o6
+  busy : May caller (x .uic) (x .protect) Delete → 0 < opens x → DeletOwn caller x 0o14
+  done : May caller (x .uic) (x .protect) Delete → (0 < opens x → ⊥) → DeletOwn caller x 0
+
+abbrev pub DeletCode : List ℕ → Key → ℕ → ℕ → Type 0
+DeletCode img key caller code = FileCode img key ⊥ (DeletOwn caller) code
+
+-- KEEP: "owner only"
+pub data KeepOwn (caller : ℕ) (x : Entry) : ℕ → Type 0 where
+  another : (caller ≡ x .uic → ⊥) → KeepOwn caller x 0o6
+  owner : caller ≡ x .uic → KeepOwn caller x 0
+
+abbrev pub KeepCode : List ℕ → Key → ℕ → ℕ → Type 0
+KeepCode img key caller code = FileCode img key ⊥ (KeepOwn caller) code

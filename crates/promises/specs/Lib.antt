@@ -3,3 +3,4 @@ pub mod Examples
 pub mod Refused
 pub mod Conversions
 pub mod Codes
+pub mod Ladders

@@ -6,10 +6,23 @@ ghost use Rattle.creation.specs.Format.{format};
 ghost use Rattle.asking.specs.Keys.{keyOf};
 ghost use Rattle.directory.specs.Look.{look, lookOutcome};
 ghost use Rattle.owners.specs.Asked.{owner, ownerOutcome};
+ghost use mathlib.Core.List.{[], _∷_};
+ghost use Rattle.creation.specs.Alloc.{alloc};
+ghost use Rattle.creation.specs.Openo.{openo};
+ghost use Rattle.opening.specs.declared.Opening.the-variants.{Input, Update, Extension};
+ghost use Rattle.opening.specs.Open.{opened};
+ghost use Rattle.opening.specs.Close.{close};
+ghost use Rattle.directory.specs.Delet.{delet};
+ghost use Rattle.directory.specs.Keep.{keep};
+ghost use Rattle.directory.specs.Renam.{newKey, renam};
+ghost use Rattle.growth.specs.Appnd.{appnd};
 use answers::Answer;
 use directory::LookAnswer;
+use opening::Opening;
 use owners::OwnerAnswer;
 use pack::BlockNo;
+use pack::Key;
+use pack::Segments;
 
 #[no_mangle]
 pub extern "C" fn abz_format(
@@ -44,6 +57,222 @@ pub extern "C" fn abz_owner(image: &[u8], block: usize) -> OwnerAnswer
     ensures { λ r. ⌜ ownerOutcome (now (image .entry)) r ≡ owner (now (image .entry)) block ⌝ }
 {
     owners::audit::owner(image, BlockNo(block))
+}
+
+#[no_mangle]
+pub extern "C" fn abz_openi(
+    image: &mut [u8],
+    caller: usize,
+    name1: usize,
+    name2: usize,
+    extension: usize,
+    uic: usize,
+) -> usize
+    ensures { λ r. ⌜ r ≡ opened Input (now (image .entry)) (keyOf caller name1 name2 extension uic) caller .code ⌝ }
+    ensures { λ r. ⌜ now (image .exit) ≡ opened Input (now (image .entry)) (keyOf caller name1 name2 extension uic) caller .image ⌝ }
+{
+    opening::open(
+        image,
+        Opening::Input,
+        asking::key_of(caller, name1, name2, extension, uic),
+        caller,
+    )
+}
+
+#[no_mangle]
+pub extern "C" fn abz_openu(
+    image: &mut [u8],
+    caller: usize,
+    name1: usize,
+    name2: usize,
+    extension: usize,
+    uic: usize,
+) -> usize
+    ensures { λ r. ⌜ r ≡ opened Update (now (image .entry)) (keyOf caller name1 name2 extension uic) caller .code ⌝ }
+    ensures { λ r. ⌜ now (image .exit) ≡ opened Update (now (image .entry)) (keyOf caller name1 name2 extension uic) caller .image ⌝ }
+{
+    opening::open(
+        image,
+        Opening::Update,
+        asking::key_of(caller, name1, name2, extension, uic),
+        caller,
+    )
+}
+
+#[no_mangle]
+pub extern "C" fn abz_opene(
+    image: &mut [u8],
+    caller: usize,
+    name1: usize,
+    name2: usize,
+    extension: usize,
+    uic: usize,
+) -> usize
+    ensures { λ r. ⌜ r ≡ opened Extension (now (image .entry)) (keyOf caller name1 name2 extension uic) caller .code ⌝ }
+    ensures { λ r. ⌜ now (image .exit) ≡ opened Extension (now (image .entry)) (keyOf caller name1 name2 extension uic) caller .image ⌝ }
+{
+    opening::open(
+        image,
+        Opening::Extension,
+        asking::key_of(caller, name1, name2, extension, uic),
+        caller,
+    )
+}
+
+#[no_mangle]
+pub extern "C" fn abz_close(
+    image: &mut [u8],
+    caller: usize,
+    name1: usize,
+    name2: usize,
+    extension: usize,
+    uic: usize,
+    mode: usize,
+) -> usize
+    ensures { λ r. ⌜ r ≡ close (now (image .entry)) (keyOf caller name1 name2 extension uic) mode .code ⌝ }
+    ensures { λ r. ⌜ now (image .exit) ≡ close (now (image .entry)) (keyOf caller name1 name2 extension uic) mode .image ⌝ }
+{
+    opening::close(
+        image,
+        asking::key_of(caller, name1, name2, extension, uic),
+        mode,
+    )
+}
+
+#[no_mangle]
+pub extern "C" fn abz_delet(
+    image: &mut [u8],
+    caller: usize,
+    name1: usize,
+    name2: usize,
+    extension: usize,
+    uic: usize,
+) -> usize
+    ensures { λ r. ⌜ r ≡ delet (now (image .entry)) (keyOf caller name1 name2 extension uic) caller .code ⌝ }
+    ensures { λ r. ⌜ now (image .exit) ≡ delet (now (image .entry)) (keyOf caller name1 name2 extension uic) caller .image ⌝ }
+{
+    directory::delet::delete(
+        image,
+        asking::key_of(caller, name1, name2, extension, uic),
+        caller,
+    )
+}
+
+#[no_mangle]
+pub extern "C" fn abz_keep(
+    image: &mut [u8],
+    caller: usize,
+    name1: usize,
+    name2: usize,
+    extension: usize,
+    uic: usize,
+) -> usize
+    ensures { λ r. ⌜ r ≡ keep (now (image .entry)) (keyOf caller name1 name2 extension uic) caller .code ⌝ }
+    ensures { λ r. ⌜ now (image .exit) ≡ keep (now (image .entry)) (keyOf caller name1 name2 extension uic) caller .image ⌝ }
+{
+    directory::keep::keep(
+        image,
+        asking::key_of(caller, name1, name2, extension, uic),
+        caller,
+    )
+}
+
+#[no_mangle]
+pub extern "C" fn abz_renam(
+    image: &mut [u8],
+    caller: usize,
+    name1: usize,
+    name2: usize,
+    extension: usize,
+    uic: usize,
+    new_name1: usize,
+    new_name2: usize,
+    new_extension: usize,
+    protect: usize,
+) -> usize
+    ensures { λ r. ⌜ r ≡ renam (now (image .entry)) (keyOf caller name1 name2 extension uic) (newKey (keyOf caller name1 name2 extension uic) «new_name1» «new_name2» «new_extension») protect caller .code ⌝ }
+    ensures { λ r. ⌜ now (image .exit) ≡ renam (now (image .entry)) (keyOf caller name1 name2 extension uic) (newKey (keyOf caller name1 name2 extension uic) «new_name1» «new_name2» «new_extension») protect caller .image ⌝ }
+{
+    let old = asking::key_of(caller, name1, name2, extension, uic);
+    let new = Key {
+        name1: new_name1,
+        name2: new_name2,
+        extension: new_extension,
+        uic: old.uic,
+    };
+    directory::renam::rename(image, old, new, protect, caller)
+}
+
+#[no_mangle]
+pub extern "C" fn abz_appnd(
+    image: &mut [u8],
+    caller: usize,
+    name1: usize,
+    name2: usize,
+    extension: usize,
+    uic: usize,
+    second_name1: usize,
+    second_name2: usize,
+    second_extension: usize,
+    second_uic: usize,
+) -> usize
+    ensures { λ r. ⌜ r ≡ appnd (now (image .entry)) (keyOf caller name1 name2 extension uic) (keyOf caller «second_name1» «second_name2» «second_extension» «second_uic») caller .code ⌝ }
+    ensures { λ r. ⌜ now (image .exit) ≡ appnd (now (image .entry)) (keyOf caller name1 name2 extension uic) (keyOf caller «second_name1» «second_name2» «second_extension» «second_uic») caller .image ⌝ }
+{
+    let first = asking::key_of(caller, name1, name2, extension, uic);
+    let second = asking::key_of(
+        caller,
+        second_name1,
+        second_name2,
+        second_extension,
+        second_uic,
+    );
+    growth::append(image, first, second, caller)
+}
+
+#[no_mangle]
+pub extern "C" fn abz_alloc(
+    image: &mut [u8],
+    caller: usize,
+    name1: usize,
+    name2: usize,
+    extension: usize,
+    uic: usize,
+    protect: usize,
+    segments: usize,
+) -> Answer
+    ensures { λ r. ⌜ r .code ≡ alloc (now (image .entry)) (keyOf caller name1 name2 extension uic) caller protect segments .code ⌝ }
+    ensures { λ r. ⌜ (r .number ∷ []) ≡ alloc (now (image .entry)) (keyOf caller name1 name2 extension uic) caller protect segments .numbers ⌝ }
+    ensures { λ r. ⌜ now (image .exit) ≡ alloc (now (image .entry)) (keyOf caller name1 name2 extension uic) caller protect segments .image ⌝ }
+{
+    creation::alloc(
+        image,
+        asking::key_of(caller, name1, name2, extension, uic),
+        caller,
+        protect,
+        Segments(segments),
+    )
+}
+
+#[no_mangle]
+pub extern "C" fn abz_openo(
+    image: &mut [u8],
+    caller: usize,
+    name1: usize,
+    name2: usize,
+    extension: usize,
+    uic: usize,
+    protect: usize,
+) -> usize
+    ensures { λ r. ⌜ r ≡ openo (now (image .entry)) (keyOf caller name1 name2 extension uic) caller protect .code ⌝ }
+    ensures { λ r. ⌜ now (image .exit) ≡ openo (now (image .entry)) (keyOf caller name1 name2 extension uic) caller protect .image ⌝ }
+{
+    creation::open_output(
+        image,
+        asking::key_of(caller, name1, name2, extension, uic),
+        caller,
+        protect,
+    )
 }
 
 #[no_mangle]

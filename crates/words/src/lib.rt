@@ -1,4 +1,4 @@
-// Words of a lent slice of bytes: 16 bits, low byte first.
+// Words of a lent slice of bytes, 16 bits, low byte first; and a part of a slice filled or cleared.
 ghost use mathlib.Core.Path.{_≡_};
 ghost use Prim.Native.Nat.{_+_, _*_, _<_};
 ghost use lib.ListN.{length, replicate};

@@ -1,0 +1,90 @@
+-- OPENO, for all images and arguments: what a refusal keeps, what a success makes, and what stays as it was.
+use Prim.Native.Nat.{ℕ}
+use mathlib.Core.Path.{_≡_, refl, sym, ap, _∙_}
+use mathlib.Core.Logic.{inl, inr}
+use mathlib.Core.Bool.{false}
+use mathlib.Core.List.{List, []}
+use native.Mathlib.Omega.{arith}
+use Rattle.pack.specs.declared.Key.{Key}
+use Rattle.pack.specs.declared.Geometry.{Geometry}
+use Rattle.pack.specs.Geometry.{geometryOf}
+use Rattle.pack.specs.File.{chain, after, lastOf, blocksOf, count}
+use Rattle.pack.specs.Entry.{entryOf, Linked}
+use Rattle.pack.specs.Consistent.{Consistent}
+use Rattle.pack.specs.Owner.{ownerOf}
+use Rattle.pack.specs.Untouched.{Untouched}
+use Rattle.frame.proofs.Counting.{count-nil}
+use Rattle.frame.specs.Framed.{Only, Never, Kept}
+use Rattle.frame.proofs.Framing.{kept-same}
+use Rattle.frame.proofs.Untouched.{untouched-refl}
+use Rattle.creation.specs.Creating.{creatingRows, created}
+use Rattle.creation.specs.Openo.{openo}
+use Rattle.creation.specs.Choice.{LowestEmpty}
+use Rattle.creation.specs.Filled.{newFile, emptyOutput}
+use Rattle.creation.specs.Stages.{entryFor}
+use Rattle.creation.proofs.Settling.{code-is, image-done, refusal-keeps, image-by}
+use Rattle.creation.proofs.Deciding.{Creatable, creatable}
+use Rattle.creation.proofs.Entered.{entered, entered-kept, entered-entry, entered-untouched, entered-consistent, entered-others}
+
+-- the new file has no block
+no-blocks : (img : List ℕ) (g : Geometry) (key : Key) (protect : ℕ) → blocksOf img g (newFile key protect emptyOutput) ≡ []
+unfolding blocksOf chain
+no-blocks img g key protect = refl
+
+linked : (img : List ℕ) (g : Geometry) (key : Key) (protect : ℕ) → Linked img g (newFile key protect emptyOutput)
+unfolding after lastOf
+linked img g key protect = record { kind = refl; end = refl; last = refl; writer = inr (inl refl) }
+
+module _ (img : List ℕ) (key : Key) (caller protect : ℕ) where
+  -- "A refusal returns its code, .. and nothing in the image .. changes."
+  pub openo-refused : (openo img key caller protect .code ≡ 0 → ⊥) → (openo img key caller protect .image ≡ img) × (openo img key caller protect .numbers ≡ [])
+  unfolding openo
+  openo-refused = refusal-keeps (creatingRows img key caller protect false) img [] _
+
+  pub openo-creatable : openo img key caller protect .code ≡ 0 → Creatable img key caller protect false
+  unfolding openo
+  openo-creatable success = creatable img key caller protect false (sym (code-is (creatingRows img key caller protect false) img [] _) ∙ success)
+
+  module _ (ready : Creatable img key caller protect false) where
+    none-counted : (b : ℕ) → count b (blocksOf (entered ready emptyOutput) (geometryOf img) (newFile key protect emptyOutput)) ≡ 0
+    none-counted b = ap (count b) (no-blocks (entered ready emptyOutput) (geometryOf img) key protect) ∙ count-nil b
+
+    written-consistent : Consistent (entered ready emptyOutput)
+    written-consistent =
+        entered-consistent ready emptyOutput (inr (linked (entered ready emptyOutput) (geometryOf img) key protect)) (omega arith)
+        (λ b. omega (arith, none-counted b)) (λ b some. absurd (omega (arith, some, none-counted b)))
+
+  -- what was written, where nothing speaks against it
+  image-is : (P : List ℕ → Type 0) → P img → ((ready : Creatable img key caller protect false) → P (entered ready emptyOutput)) → P (openo img key caller protect .image)
+  unfolding openo created
+  image-is P before after =
+      image-by (creatingRows img key caller protect false) img [] _ P before (λ clear. after (creatable img key caller protect false clear))
+
+  pub openo-consistent : Consistent img → Consistent (openo img key caller protect .image)
+  openo-consistent right = image-is Consistent right written-consistent
+
+  -- nothing but the words of the lowest empty entry is written
+  pub openo-kept : Kept (Only (entryFor img)) Never img (openo img key caller protect .image) (geometryOf img)
+  openo-kept =
+      image-is (λ img′. Kept (Only (entryFor img)) Never img img′ (geometryOf img)) (kept-same img (geometryOf img))
+      (λ ready. entered-kept ready emptyOutput)
+
+  -- every file is untouched: the request's own key has none
+  pub openo-untouched : (key′ : Key) → Untouched key′ img (openo img key caller protect .image)
+  openo-untouched key′ = image-is (Untouched key′ img) (untouched-refl key′ img) (λ ready. entered-untouched ready emptyOutput key′)
+
+  -- every block is whose it was
+  pub openo-owner : (b : ℕ) → ownerOf (openo img key caller protect .image) b ≡ ownerOf img b
+  openo-owner b = image-is (λ img′. ownerOf img′ b ≡ ownerOf img b) refl (λ ready. entered-others ready emptyOutput b (none-counted ready b))
+
+  -- "OPENO: a new linked file of length 0, writer 2, readers 0. Lowest empty entry."
+  pub openo-entry : openo img key caller protect .code ≡ 0
+      → LowestEmpty img (entryFor img) × (entryOf (openo img key caller protect .image) (geometryOf img) (entryFor img) ≡ newFile key protect emptyOutput)
+  unfolding openo created
+  openo-entry success =
+      let clear = sym (code-is (creatingRows img key caller protect false) img [] _) ∙ success in
+      let ready = creatable img key caller protect false clear in (
+        ready .entry,
+        ap (λ (img′ : List ℕ). entryOf img′ (geometryOf img) (entryFor img)) (image-done (creatingRows img key caller protect false) img [] _ clear)
+            ∙ entered-entry ready emptyOutput,
+      )

@@ -1,0 +1,46 @@
+use borrow.Author.Needs.{needs}
+use native.Mathlib.Omega.{arith}
+use Rattle.creation.proofs.OpeningOutput.{output-refused, output-ready, output-done}
+use Rattle.creation.proofs.output.open_output.Statement.{statement}
+use Rattle.creation.proofs.output.open_output.Tie as tie
+
+slice-aggregate-decide-creating : tie.Need-slice-aggregate-decide-creating
+slice-aggregate-decide-creating c = search needs
+
+decide-creating-requires : tie.Need-decide-creating-requires
+decide-creating-requires c κs = search needs
+
+enum-known-code : tie.Need-enum-known-code
+enum-known-code c = search needs
+
+enum-known-g : tie.Need-enum-known-g
+enum-known-g c = search needs
+
+write-entry-requires : tie.Need-write-entry-requires
+write-entry-requires c κs = output-ready _ _ _ _ _ (c .before .before .before .before .before .decide-creating .ensures .0) _ _ (c .before .before .g .given .1) (λ i. omega (arith, c .before .before .before .before .before .before .before .before .slice-known .given i))
+
+same-length : tie.Need-same-length
+same-length c = search needs
+
+returns : tie.Need-returns
+returns c = output-refused _ _ _ _ _ (c .before .before .before .before .decide-creating .ensures .0) _ (c .before .code .given .1)
+
+same-length-2 : tie.Need-same-length-2
+same-length-2 c = search needs
+
+returns-2 : tie.Need-returns-2
+returns-2 c = output-done _ _ _ _ _ (c .before .before .before .before .before .before .before .before .decide-creating .ensures .0) _ _ (c .before .before .before .before .before .g .given .1) _ (c .before .before .write-entry .ensures)
+
+pub open-output-spec : {M : Type 1} → statement M
+open-output-spec =
+    tie.close
+    (tie.spec
+    slice-aggregate-decide-creating
+    decide-creating-requires
+    enum-known-code
+    enum-known-g
+    write-entry-requires
+    same-length
+    returns
+    same-length-2
+    returns-2)

@@ -1,0 +1,96 @@
+-- What a DELET leaves: a consistent image, all other files, and the blocks of the deleted one free.
+use Prim.Native.Nat.{ℕ, _<_}
+use mathlib.Core.Path.{_≡_, refl, sym, ap, subst, _∙_}
+use mathlib.Core.List.{List, []}
+use native.Mathlib.Omega.{arith}
+use native.Mathlib.Decide.{ℕ-discrete}
+use Rattle.pack.specs.declared.Geometry.{Geometry}
+use Rattle.pack.specs.declared.Key.{Key}
+use Rattle.pack.specs.declared.Owner.the-variants.{Free}
+use Rattle.pack.specs.Geometry.{geometryOf}
+use Rattle.pack.specs.File.{count}
+use Rattle.pack.specs.Entry.{blocksAt, Empty}
+use Rattle.pack.specs.Consistent.{held, Consistent}
+use Rattle.pack.specs.Owner.{placeFrom, ownerOf}
+use Rattle.pack.specs.Untouched.{Untouched}
+use Rattle.asking.specs.Asked.{entryNo}
+use Rattle.asking.specs.Written.{clearEntry}
+use Rattle.frame.specs.Framed.{Only, Never, Kept, Framed}
+use Rattle.frame.proofs.Counting.{count-nil}
+use Rattle.frame.proofs.Same.{empty-blocks, right-bodies}
+use Rattle.frame.proofs.Frame.{geometry-framed, entries-at}
+use Rattle.frame.proofs.Held.{framed-never, held-one}
+use Rattle.frame.proofs.Described.{consistent-emptied}
+use Rattle.frame.proofs.Untouched.{untouched-refl}
+use Rattle.frame.proofs.Owner.{owner-framed}
+use Rattle.owners.proofs.Places.{place-none}
+use Rattle.owners.proofs.Owner.{owner-free}
+use Rattle.directory.specs.Delet.{deletRows, delet}
+use Rattle.directory.proofs.Chosen.{Chosen, chosen-untouched}
+use Rattle.directory.proofs.Cleared.{cleared-kept, cleared-empty}
+use Rattle.directory.proofs.Settling.{success-clear, success-image, refusal-keeps, image-by}
+use Rattle.directory.proofs.Deleting.{delet-chosen}
+
+-- the image with the entry cleared
+module _ {img : List ℕ} {key : Key} {g : Geometry} {e : ℕ} (c : Chosen img key g e) where
+  kept : Kept (Only e) Never img (clearEntry img g e) g
+  kept = cleared-kept g e (c .inside) img (c .sized)
+
+  empty : Empty (clearEntry img g e) g e
+  empty = cleared-empty g e (c .inside) img (c .sized)
+
+  framed : Framed (Only e) Never img (clearEntry img g e) g
+  framed = framed-never kept
+
+  no-blocks : (b : ℕ) → count b (blocksAt (clearEntry img g e) g e) ≡ 0
+  no-blocks b = ap (count b) (empty-blocks (clearEntry img g e) g e empty) ∙ count-nil b
+
+  cleared-consistent : Consistent (clearEntry img g e)
+  cleared-consistent = consistent-emptied (c .measures) (c .right) framed (c .inside) empty
+
+  cleared-owner : (b : ℕ) → count b (blocksAt img g e) ≡ 0 → ownerOf (clearEntry img g e) b ≡ ownerOf img b
+  cleared-owner b none =
+      owner-framed (c .measures) (c .right) framed (λ i. ℕ-discrete i e) b
+      (λ i within is. subst (λ (j : ℕ). placeFrom b 0 (blocksAt (clearEntry img g e) g j) ≡ placeFrom b 0 (blocksAt img g j)) (sym is)
+      (place-none b 0 _ .1 (no-blocks b) ∙ sym (place-none b 0 _ .1 none)))
+
+  cleared-free : (b : ℕ) → 0 < count b (blocksAt img g e) → ownerOf (clearEntry img g e) b ≡ Free
+  cleared-free b some =
+      let body = right-bodies img g e b (entries-at img g (c .measures) (c .right) e (c .inside)) some in
+      let bodies = ap (λ (h : Geometry). h .bodies .0) (c .measures ∙ sym (geometry-framed (c .measures) (c .right) framed)) in
+      let unheld : held (clearEntry img g e) b ≡ 0 =
+      omega (arith, some, no-blocks b, c .right .once b, held-one (c .measures) (c .right) framed (c .inside) b) in
+      owner-free cleared-consistent b .1 (omega (arith, body .0, bodies), unheld)
+
+module _ (img : List ℕ) (key : Key) (caller : ℕ) where
+  pub delet-refused : (delet img key caller .code ≡ 0 → ⊥) → (delet img key caller .image ≡ img) × (delet img key caller .numbers ≡ [])
+  unfolding delet
+  delet-refused never = refusal-keeps (deletRows img key caller) img [] _ never
+
+  module _ (right : Consistent img) where
+    pub delet-consistent : Consistent (delet img key caller .image)
+    unfolding delet
+    delet-consistent = image-by (deletRows img key caller) img [] _ Consistent right (λ passed. cleared-consistent (delet-chosen img key caller passed))
+
+    -- every file that the request does not name
+    pub delet-untouched : (key′ : Key) → (key′ ≡ key → ⊥) → Untouched key′ img (delet img key caller .image)
+    unfolding delet
+    delet-untouched key′ other =
+        image-by (deletRows img key caller) img [] _ (Untouched key′ img) (untouched-refl key′ img)
+        (λ passed. let c = delet-chosen img key caller passed in chosen-untouched c (kept c) key′ other)
+
+    -- a block that is not the file's keeps its owner
+    pub delet-owner : (b : ℕ) → count b (blocksAt img (geometryOf img) (entryNo img key)) ≡ 0 → ownerOf (delet img key caller .image) b ≡ ownerOf img b
+    unfolding delet
+    delet-owner b none =
+        image-by (deletRows img key caller) img [] _ (λ img′. ownerOf img′ b ≡ ownerOf img b) refl
+        (λ passed. cleared-owner (delet-chosen img key caller passed) b none)
+
+    -- "clears the entry, bodies untouched": the blocks of the file are free afterwards
+    pub delet-frees : delet img key caller .code ≡ 0 → (b : ℕ) → 0 < count b (blocksAt img (geometryOf img) (entryNo img key))
+        → ownerOf (delet img key caller .image) b ≡ Free
+    unfolding delet
+    delet-frees success b some =
+        let passed = success-clear (deletRows img key caller) img [] _ success in
+        ap (λ (img′ : List ℕ). ownerOf img′ b) (success-image (deletRows img key caller) img [] _ passed)
+        ∙ cleared-free (delet-chosen img key caller passed) b some

@@ -1,0 +1,41 @@
+use borrow.Author.Needs.{needs}
+use Rattle.directory.proofs.Renaming.{renaming-refused, renaming-room, renaming-done}
+use Rattle.directory.proofs.renam.rename.Statement.{statement}
+use Rattle.directory.proofs.renam.rename.Tie as tie
+
+decide-rename-requires : tie.Need-decide-rename-requires
+decide-rename-requires c κs = search needs
+
+enum-known-code : tie.Need-enum-known-code
+enum-known-code c = search needs
+
+enum-known-g : tie.Need-enum-known-g
+enum-known-g c = search needs
+
+write-name-requires : tie.Need-write-name-requires
+write-name-requires c κs = renaming-room _ _ _ _ _ _ (c .before .before .before .before .decide-rename .ensures) _ _ _ (c .before .before .g .given .1)
+
+same-length : tie.Need-same-length
+same-length c = search needs
+
+returns : tie.Need-returns
+returns c = renaming-refused _ _ _ _ _ _ (c .before .before .before .decide-rename .ensures) _ (c .before .code .given .1)
+
+same-length-2 : tie.Need-same-length-2
+same-length-2 c = search needs
+
+returns-2 : tie.Need-returns-2
+returns-2 c = renaming-done _ _ _ _ _ _ (c .before .before .before .before .before .before .before .decide-rename .ensures) _ _ _ (c .before .before .before .before .before .g .given .1) _ (c .before .before .write-name .ensures)
+
+pub rename-spec : {M : Type 1} → statement M
+rename-spec =
+    tie.close
+    (tie.spec
+    decide-rename-requires
+    enum-known-code
+    enum-known-g
+    write-name-requires
+    same-length
+    returns
+    same-length-2
+    returns-2)

@@ -1,0 +1,45 @@
+// KEEP.
+ghost use mathlib.Core.Path.{_≡_};
+ghost use Prim.Native.Nat.{_≤_};
+ghost use Rattle.directory.specs.Decided.{decided};
+ghost use Rattle.directory.specs.Keep.{keepRows, keptCode, keep};
+use asking::Asked;
+use pack::Key;
+
+// The protect code with bit 7 set.
+fn kept_code(protect: usize) -> usize
+    requires { ⌜ protect ≤ 255 ⌝ }
+    ensures { λ r. ⌜ r ≡ keptCode protect ⌝ }
+{
+    if protect / 128 % 2 == 0 {
+        return protect + 128;
+    }
+    protect
+}
+
+fn decide_keep(img: &[u8], key: Key, caller: usize) -> Asked
+    ensures { λ r. ⌜ r ≡ decided (keepRows (now (img .entry)) key caller) (now (img .entry)) key ⌝ }
+{
+    let mut map = [0u8; pack::MOST_BLOCKS];
+    let asked = asking::ask_file(img, &mut map, key, false);
+    let Asked::File(_, _, x) = asked else {
+        return asked;
+    };
+    if caller != x.uic {
+        return Asked::Refused(0o6);
+    }
+    asked
+}
+
+pub fn keep(img: &mut [u8], key: Key, caller: usize) -> usize
+    ensures { λ r. ⌜ r ≡ keep (now (img .entry)) key caller .code ⌝ }
+    ensures { λ r. ⌜ now (img .exit) ≡ keep (now (img .entry)) key caller .image ⌝ }
+{
+    match decide_keep(img, key, caller) {
+        Asked::Refused(code) => code,
+        Asked::File(g, e, x) => {
+            asking::set_entry_word(img, g, e, 4, kept_code(x.protect));
+            0
+        }
+    }
+}

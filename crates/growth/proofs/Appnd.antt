@@ -1,0 +1,147 @@
+-- What APPND promises: refusals change nothing, consistent images stay so, other files are untouched, and the joined file is the first's blocks and
+-- then the second's.
+use Prim.Native.Nat.{ℕ, _+_, _*_, _≤_, _<_}
+use mathlib.Core.Path.{_≡_, refl, sym, ap, subst, _∙_}
+use mathlib.Core.List.{List, [], _++_}
+use mathlib.Core.Logic.{inl, inr}
+use native.Mathlib.Decide.{ℕ-discrete}
+use lib.ListN.{getD}
+use Rattle.answers.specs.Refusals.{firstOf}
+use Rattle.words.specs.Word.{wordAt}
+use Rattle.pack.specs.declared.Entry.{Entry}
+use Rattle.pack.specs.declared.Key.{Key}
+use Rattle.pack.specs.Geometry.{geometryOf, blockWords, blockBytes}
+use Rattle.pack.specs.File.{count}
+use Rattle.pack.specs.Entry.{entryOf, blocksAt}
+use Rattle.pack.specs.Consistent.{Consistent}
+use Rattle.pack.specs.Untouched.{Keyed, Untouched}
+use Rattle.pack.proofs.Headers.{header-sized}
+use Rattle.asking.specs.Outcome.{Outcome, settled}
+use Rattle.asking.specs.Asked.{entryNo, fileOf}
+use Rattle.asking.specs.Written.{clearEntry}
+use Rattle.frame.specs.Framed.{Either, Framed}
+use Rattle.frame.specs.Growth.{Joined}
+use Rattle.frame.proofs.Same.{right-bodies}
+use Rattle.frame.proofs.Untouched.{untouched-framed, untouched-refl}
+use Rattle.frame.proofs.Grown.{joined-framed, joined-blocks, joined-consistent}
+use Rattle.growth.specs.Appnd.{appndRows, joined, appnd}
+use Rattle.growth.specs.Payload.{payloadsOf}
+use Rattle.growth.proofs.Accepted.{Accepted, accepted}
+use Rattle.growth.proofs.Answering.{appnd-code, appnd-success}
+use Rattle.growth.proofs.Middle.{Joint}
+use Rattle.growth.proofs.Joining.{joining, payload-same}
+use Rattle.growth.proofs.Payloads.{payloads-append, payloads-same}
+
+key-same : (a b : Key) (x : Entry) → Keyed a x → Keyed b x → a ≡ b
+key-same a b x one two =
+    λ i. record {
+      name1 = (sym (one .name1) ∙ two .name1) i;
+      name2 = (sym (one .name2) ∙ two .name2) i;
+      extension = (sym (one .extension) ∙ two .extension) i;
+      uic = (sym (one .uic) ∙ two .uic) i;
+    }
+
+module _ (img : List ℕ) (first second : Key) (caller : ℕ) where
+  -- the code is that of the rows
+  rows-code : firstOf (appndRows img first second caller) ≡ appnd img first second caller .code
+  unfolding appnd settled
+  rows-code = refl
+
+  pub appnd-refused : (appnd img first second caller .code ≡ 0 → ⊥)
+      → (appnd img first second caller .image ≡ img) × (appnd img first second caller .numbers ≡ [])
+  appnd-refused refused =
+      let whole = appnd-code img first second caller rows-code refused in
+      (ap (λ (r : Outcome). r .image) whole, ap (λ (r : Outcome). r .numbers) whole)
+
+  -- the two files became one
+  module _ (done : appnd img first second caller .code ≡ 0) where
+    pub appnd-accepted : Accepted img first second
+    appnd-accepted = accepted img first second caller (rows-code ∙ done)
+
+    image-is : clearEntry
+        (joined img (geometryOf img) (entryNo img first) (entryOf img (geometryOf img) (entryNo img first)) (entryOf img (geometryOf img) (entryNo img second)))
+        (geometryOf img) (entryNo img second)
+        ≡ appnd img first second caller .image
+    unfolding fileOf
+    image-is = sym (ap (λ (r : Outcome). r .image) (appnd-success img first second caller (rows-code ∙ done)))
+
+    pub appnd-joined : Joined (Joint img (geometryOf img) (entryNo img first)) img (appnd img first second caller .image) (geometryOf img) (entryNo img first) (entryNo img second)
+    appnd-joined =
+        subst (λ (img′ : List ℕ). Joined (Joint img (geometryOf img) (entryNo img first)) img img′ (geometryOf img) (entryNo img first) (entryNo img second)) image-is
+        (joining img (geometryOf img) (entryNo img first) (entryNo img second) refl (appnd-accepted .right) (header-sized img (appnd-accepted .right .header))
+        (appnd-accepted .one .within) (appnd-accepted .two .within) (appnd-accepted .other) (appnd-accepted .one .linked) (appnd-accepted .two .linked))
+
+    pub appnd-framed : Framed (Either (entryNo img first) (entryNo img second)) (Joint img (geometryOf img) (entryNo img first)) img (appnd img first second caller .image) (geometryOf img)
+    appnd-framed =
+        joined-framed refl (appnd-accepted .right) (appnd-accepted .one .within) (appnd-accepted .two .within) (appnd-accepted .other) (appnd-accepted .one .linked) (appnd-accepted .two .linked) appnd-joined
+
+    -- the joined file has the blocks of the first and then those of the second
+    pub appnd-blocks : blocksAt (appnd img first second caller .image) (geometryOf img) (entryNo img first)
+        ≡ blocksAt img (geometryOf img) (entryNo img first) ++ blocksAt img (geometryOf img) (entryNo img second)
+    appnd-blocks =
+        joined-blocks refl (appnd-accepted .right) (appnd-accepted .one .within) (appnd-accepted .two .within) (appnd-accepted .other) (appnd-accepted .one .linked) (appnd-accepted .two .linked) appnd-joined
+
+    reached-first : (b : ℕ) → 0 < count b (blocksAt img (geometryOf img) (entryNo img first)) → (geometryOf img .bodies .0 ≤ b) × (b < geometryOf img .blocks)
+    reached-first b = right-bodies img (geometryOf img) (entryNo img first) b (appnd-accepted .right .entries (entryNo img first) (appnd-accepted .one .within))
+
+    reached-second : (b : ℕ) → 0 < count b (blocksAt img (geometryOf img) (entryNo img second)) → (geometryOf img .bodies .0 ≤ b) × (b < geometryOf img .blocks)
+    reached-second b = right-bodies img (geometryOf img) (entryNo img second) b (appnd-accepted .right .entries (entryNo img second) (appnd-accepted .two .within))
+
+    payloads-kept : (bs : List ℕ) → ((b : ℕ) → 0 < count b bs → (geometryOf img .bodies .0 ≤ b) × (b < geometryOf img .blocks))
+        → payloadsOf (appnd img first second caller .image) (geometryOf img) bs ≡ payloadsOf img (geometryOf img) bs
+    payloads-kept bs bodies =
+        payloads-same img (appnd img first second caller .image) (geometryOf img) (appnd-joined .kept .long) bs
+        (λ b reached i behind small.
+        ap (λ (img′ : List ℕ). getD img′ (b * blockBytes (geometryOf img) + i) 0) (sym image-is)
+        ∙ payload-same img (geometryOf img) (entryNo img first) (entryNo img second) refl (appnd-accepted .right) (header-sized img (appnd-accepted .right .header))
+        (appnd-accepted .one .within) (appnd-accepted .two .within) (appnd-accepted .other) (appnd-accepted .one .linked) (appnd-accepted .two .linked)
+        b i (bodies b reached .0) (bodies b reached .1) behind small)
+
+    -- and their payloads likewise
+    pub appnd-payloads : payloadsOf (appnd img first second caller .image) (geometryOf img)
+        (blocksAt (appnd img first second caller .image) (geometryOf img) (entryNo img first))
+        ≡ payloadsOf img (geometryOf img) (blocksAt img (geometryOf img) (entryNo img first))
+        ++ payloadsOf img (geometryOf img) (blocksAt img (geometryOf img) (entryNo img second))
+    appnd-payloads =
+        ap (payloadsOf (appnd img first second caller .image) (geometryOf img)) appnd-blocks
+        ∙ (payloads-append (appnd img first second caller .image) (geometryOf img)
+        (blocksAt img (geometryOf img) (entryNo img first)) (blocksAt img (geometryOf img) (entryNo img second))
+        ∙ (ap (λ (s : List ℕ). s ++ payloadsOf (appnd img first second caller .image) (geometryOf img) (blocksAt img (geometryOf img) (entryNo img second)))
+        (payloads-kept (blocksAt img (geometryOf img) (entryNo img first)) reached-first)
+        ∙ ap (λ (s : List ℕ). payloadsOf img (geometryOf img) (blocksAt img (geometryOf img) (entryNo img first)) ++ s)
+        (payloads-kept (blocksAt img (geometryOf img) (entryNo img second)) reached-second)))
+
+  pub appnd-consistent : Consistent img → Consistent (appnd img first second caller .image)
+  appnd-consistent right = by (ℕ-discrete (appnd img first second caller .code) 0)
+    where
+      by : Dec (appnd img first second caller .code ≡ 0) → Consistent (appnd img first second caller .image)
+      by (yes done) =
+          let a = appnd-accepted done in
+          joined-consistent refl right (a .one .within) (a .two .within) (a .other) (a .one .linked) (a .two .linked) (appnd-joined done)
+      by (no refused) = subst Consistent (sym (appnd-refused refused .0)) right
+
+  -- no link, nor anything else, is written into block 0
+  pub appnd-block-zero : (w : ℕ) → w < blockWords (geometryOf img) → wordAt (appnd img first second caller .image) w ≡ wordAt img w
+  appnd-block-zero w within = by (ℕ-discrete (appnd img first second caller .code) 0)
+    where
+      by : Dec (appnd img first second caller .code ≡ 0) → wordAt (appnd img first second caller .image) w ≡ wordAt img w
+      by (yes done) = appnd-joined done .kept .header w within
+      by (no refused) = ap (λ (img′ : List ℕ). wordAt img′ w) (appnd-refused refused .0)
+
+  -- a file that the request does not name
+  pub appnd-untouched : (key : Key) → (key ≡ first → ⊥) → (key ≡ second → ⊥) → Untouched key img (appnd img first second caller .image)
+  appnd-untouched key not-first not-second = by (ℕ-discrete (appnd img first second caller .code) 0)
+    where
+      named : Accepted img first second → (e : ℕ) → Either (entryNo img first) (entryNo img second) e → Keyed key (entryOf img (geometryOf img) e) → ⊥
+      named a e (inl is) keyed =
+          not-first (key-same key first (entryOf img (geometryOf img) (entryNo img first))
+          (subst (λ (i : ℕ). Keyed key (entryOf img (geometryOf img) i)) is keyed) (a .one .keyed))
+      named a e (inr is) keyed =
+          not-second (key-same key second (entryOf img (geometryOf img) (entryNo img second))
+          (subst (λ (i : ℕ). Keyed key (entryOf img (geometryOf img) i)) is keyed) (a .two .keyed))
+
+      by : Dec (appnd img first second caller .code ≡ 0) → Untouched key img (appnd img first second caller .image)
+      by (yes done) =
+          let a = appnd-accepted done in
+          untouched-framed refl (a .right) (appnd-framed done) key (λ e within is used keyed. named a e is keyed)
+      by (no refused) = subst (Untouched key img) (sym (appnd-refused refused .0)) (untouched-refl key img)

@@ -1,0 +1,18 @@
+use Rattle.growth.proofs.Judging.{other-name1, other-name2, other-extension, by-uic}
+use Rattle.growth.proofs.is_same.Statement.{statement}
+use Rattle.growth.proofs.is_same.Tie as tie
+
+returns : tie.Need-returns
+returns c = other-name1 _ _ (c .if1 .taken)
+
+returns-2 : tie.Need-returns-2
+returns-2 c = other-name2 _ _ (c .before .before .before .if1 .left) (c .if2 .taken)
+
+returns-3 : tie.Need-returns-3
+returns-3 c = other-extension _ _ (c .before .before .before .before .before .before .if1 .left) (c .before .before .before .if2 .left) (c .if3 .taken)
+
+returns-4 : tie.Need-returns-4
+returns-4 c = by-uic _ _ (c .before .before .before .before .before .before .before .before .if1 .left) (c .before .before .before .before .before .if2 .left) (c .before .before .if3 .left)
+
+pub is-same-spec : {M : Type 1} → statement M
+is-same-spec = tie.close (tie.spec returns returns-2 returns-3 returns-4)

@@ -1,0 +1,4 @@
+-- Chains joined.
+pub mod Appnd
+pub mod Stages
+pub mod Payload

@@ -1,0 +1,13 @@
+-- The laws of opening and closing.
+pub mod Deciding
+pub mod Cleared
+pub mod OpenRows
+pub mod CloseRows
+pub mod Success
+pub mod Settled
+pub mod EntryWord
+pub mod Opened
+pub mod Closed
+pub mod FirstCodes
+pub mod OpenCodes
+pub mod CloseCodes

@@ -1,0 +1,5 @@
+-- Opening and closing files.
+pub mod Open
+pub mod Close
+pub mod Decision
+pub mod Codes

@@ -1,0 +1,198 @@
+// Opening and closing files: OPENI, OPENU, OPENE, CLOSE.
+ghost use mathlib.Core.Path.{_≡_};
+ghost use mathlib.Core.Bool.{false, _&&_};
+ghost use mathlib.Core.List.{List};
+ghost use Prim.Native.Nat.{ℕ, _<_};
+ghost use lib.Dec.{eqb, ltb};
+ghost use Rattle.pack.specs.declared.Key.{Key};
+ghost use Rattle.asking.specs.declared.Asked.the-variants.{File};
+ghost use Rattle.asking.specs.Asked.{askedOf};
+ghost use Rattle.opening.specs.Open.{rightFor, isUpdate, isExtension, isWriting, openWord, openValue, opened};
+ghost use Rattle.opening.specs.Close.{wrongMode, isOpenAs, close};
+ghost use Rattle.opening.specs.Decision.{openDecided, closeDecided, Settable, codeOf, imageOf};
+use asking::Asked;
+use asking::Grant;
+use asking::Right;
+use pack::Entry;
+use pack::Geometry;
+use pack::Key;
+
+// For input, for update, for extension.
+pub enum Opening {
+    Input,
+    Update,
+    Extension,
+}
+
+// A word of an entry to set, by the pack's measures, the entry's number, the word's number and the word; or a refusal's code.
+enum Decision {
+    Set(Geometry, usize, usize, usize),
+    Refused(usize),
+}
+
+pub fn open(img: &mut [u8], mode: Opening, key: Key, caller: usize) -> usize
+    ensures { λ r. ⌜ r ≡ opened mode (now (img .entry)) key caller .code ⌝ }
+    ensures { λ r. ⌜ now (img .exit) ≡ opened mode (now (img .entry)) key caller .image ⌝ }
+{
+    let decision = decide_open(img, mode, key, caller);
+    carry_out(img, decision)
+}
+
+pub fn close(img: &mut [u8], key: Key, mode: usize) -> usize
+    ensures { λ r. ⌜ r ≡ close (now (img .entry)) key mode .code ⌝ }
+    ensures { λ r. ⌜ now (img .exit) ≡ close (now (img .entry)) key mode .image ⌝ }
+{
+    let decision = decide_close(img, key, mode);
+    carry_out(img, decision)
+}
+
+fn carry_out(img: &mut [u8], decision: Decision) -> usize
+    requires { ⌜ Settable (now img) decision ⌝ }
+    ensures { λ r. ⌜ r ≡ codeOf decision ⌝ }
+    ensures { λ r. ⌜ now (img .exit) ≡ imageOf (now (img .entry)) decision ⌝ }
+{
+    match decision {
+        Decision::Refused(code) => code,
+        Decision::Set(g, e, i, word) => {
+            asking::set_entry_word(img, g, e, i, word);
+            0
+        }
+    }
+}
+
+fn decide_open(img: &[u8], mode: Opening, key: Key, caller: usize) -> Decision
+    ensures { λ r. ⌜ r ≡ openDecided mode (now (img .entry)) key caller ⌝ }
+{
+    let mut map = [0u8; pack::MOST_BLOCKS];
+    match asking::ask_file(img, &mut map, key, false) {
+        Asked::Refused(code) => Decision::Refused(code),
+        Asked::File(g, e, x) => decide_opening(mode, caller, g, e, x),
+    }
+}
+
+// Of whatever image and key the file is: the refusals behind those of the file, in the order of the table.
+fn decide_opening(mode: Opening, caller: usize, g: Geometry, e: usize, x: Entry) -> Decision
+    ensures { λ r. ⌜ ((img : List ℕ) (key : Key) → askedOf img key false ≡ File g e x → r ≡ openDecided mode img key caller) ⌝ }
+{
+    if x.writer == 2 {
+        return Decision::Refused(0o2);
+    }
+    let Grant::Granted = asking::ask_right(right_for(mode), caller, x) else {
+        return Decision::Refused(0o6);
+    };
+    if is_contiguous_extension(mode, x.kind) {
+        return Decision::Refused(0o5);
+    }
+    if is_linked_update(mode, x.kind) {
+        return Decision::Refused(0o43);
+    }
+    if is_second_writer(mode, x.writer) {
+        return Decision::Refused(0o4);
+    }
+    if asking::is_full(x) {
+        return Decision::Refused(0o3);
+    }
+    Decision::Set(g, e, open_word(mode), open_value(mode, x))
+}
+
+fn right_for(mode: Opening) -> Right
+    ensures { λ r. ⌜ r ≡ rightFor mode ⌝ }
+{
+    match mode {
+        Opening::Input => Right::Read,
+        Opening::Update => Right::Write,
+        Opening::Extension => Right::Write,
+    }
+}
+
+fn is_contiguous_extension(mode: Opening, kind: usize) -> bool
+    ensures { λ r. ⌜ r ≡ (isExtension mode && eqb kind 1) ⌝ }
+{
+    match mode {
+        Opening::Input => false,
+        Opening::Update => false,
+        Opening::Extension => kind == 1,
+    }
+}
+
+fn is_linked_update(mode: Opening, kind: usize) -> bool
+    ensures { λ r. ⌜ r ≡ (isUpdate mode && eqb kind 2) ⌝ }
+{
+    match mode {
+        Opening::Input => false,
+        Opening::Update => kind == 2,
+        Opening::Extension => false,
+    }
+}
+
+fn is_second_writer(mode: Opening, writer: usize) -> bool
+    ensures { λ r. ⌜ r ≡ (isWriting mode && ltb 0 writer) ⌝ }
+{
+    match mode {
+        Opening::Input => false,
+        Opening::Update => 0 < writer,
+        Opening::Extension => 0 < writer,
+    }
+}
+
+// The word of the entry that an open sets, and what it sets there.
+fn open_word(mode: Opening) -> usize
+    ensures { λ r. ⌜ r ≡ openWord mode ⌝ }
+{
+    match mode {
+        Opening::Input => 10,
+        Opening::Update => 9,
+        Opening::Extension => 9,
+    }
+}
+
+fn open_value(mode: Opening, x: Entry) -> usize
+    requires { ⌜ x .readers < 62 ⌝ }
+    ensures { λ r. ⌜ r ≡ openValue mode x ⌝ }
+{
+    match mode {
+        Opening::Input => x.readers + 1,
+        Opening::Update => 1,
+        Opening::Extension => 3,
+    }
+}
+
+fn decide_close(img: &[u8], key: Key, mode: usize) -> Decision
+    ensures { λ r. ⌜ r ≡ closeDecided (now (img .entry)) key mode ⌝ }
+{
+    let mut map = [0u8; pack::MOST_BLOCKS];
+    match asking::ask_file(img, &mut map, key, is_wrong_mode(mode)) {
+        Asked::Refused(code) => Decision::Refused(code),
+        Asked::File(g, e, x) => decide_closing(mode, g, e, x),
+    }
+}
+
+fn decide_closing(mode: usize, g: Geometry, e: usize, x: Entry) -> Decision
+    ensures { λ r. ⌜ ((img : List ℕ) (key : Key) → askedOf img key (wrongMode mode) ≡ File g e x → r ≡ closeDecided img key mode) ⌝ }
+{
+    if !is_open_as(mode, x) {
+        return Decision::Refused(0o45);
+    }
+    if mode == 4 {
+        return Decision::Set(g, e, 10, x.readers - 1);
+    }
+    Decision::Set(g, e, 9, 0)
+}
+
+fn is_wrong_mode(mode: usize) -> bool
+    ensures { λ r. ⌜ r ≡ wrongMode mode ⌝ }
+{
+    if mode == 0 {
+        return true;
+    }
+    4 < mode
+}
+
+fn is_open_as(mode: usize, x: Entry) -> bool
+    ensures { λ r. ⌜ r ≡ isOpenAs mode x ⌝ }
+{
+    if mode == 4 {
+        return 0 < x.readers;
+    }
+    x.writer == mode
+}

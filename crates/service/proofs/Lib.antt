@@ -1,0 +1,2 @@
+-- Laws for the boundary.
+pub mod Keys

@@ -1,0 +1,22 @@
+use borrow.Author.Needs.{needs}
+use Rattle.pack.specs.declared.Key.{Key}
+use Rattle.service.proofs.Keys.{at-key}
+use Rattle.opening.specs.Open.{opened}
+use Rattle.opening.specs.declared.Opening.the-variants.{Input}
+use Rattle.service.proofs.abz_openi.Statement.{statement}
+use Rattle.service.proofs.abz_openi.Tie as tie
+
+key-of-requires : tie.Need-key-of-requires
+key-of-requires c κs = search needs
+
+open-requires : tie.Need-open-requires
+open-requires c κs = search needs
+
+same-length : tie.Need-same-length
+same-length c = search needs
+
+returns : tie.Need-returns
+returns c = at-key (λ (key : Key). opened Input (c .before .before .before .before .before .before .args .image .now) key (c .before .before .before .before .before .before .args .caller)) (c .before .before .before .key-of .ensures) (c .before .before .open .ensures)
+
+pub abz-openi-spec : {M : Type 1} → statement M
+abz-openi-spec = tie.close (tie.spec key-of-requires open-requires same-length returns)

@@ -1,0 +1,47 @@
+use borrow.Author.Needs.{needs}
+use native.Mathlib.Omega.{arith}
+use mathlib.Core.Path.{_∙_}
+use Rattle.transfer.proofs.Parts.{room-of, block-part}
+use Rattle.transfer.proofs.block.read_block.Statement.{statement}
+use Rattle.transfer.proofs.block.read_block.Tie as tie
+
+mul-size : tie.Need-mul-size
+mul-size c = search needs
+
+mul-start : tie.Need-mul-start
+mul-start c = omega (arith, room-of _ _ (c .before .before .before .before .args .b .0) (c .before .before .before .before .pre .0) (c .before .before .before .before .pre .1 .0))
+
+add-end : tie.Need-add-end
+add-end c = omega (arith, room-of _ _ (c .before .before .before .before .args .b .0) (c .before .before .before .before .pre .0) (c .before .before .before .before .pre .1 .0))
+
+sub-fill : tie.Need-sub-fill
+sub-fill c = search needs
+
+part-fill-start : tie.Need-part-fill-start
+part-fill-start c = search needs
+
+part-fill-end : tie.Need-part-fill-end
+part-fill-end c = omega (arith, room-of _ _ (c .before .before .before .before .before .args .b .0) (c .before .before .before .before .before .pre .0) (c .before .before .before .before .before .pre .1 .0))
+
+fill-requires : tie.Need-fill-requires
+fill-requires c κs = search needs
+
+same-length : tie.Need-same-length
+same-length c = search needs
+
+returns : tie.Need-returns
+returns c = c .before .before .fill .ensures ∙ block-part (c .before .before .before .before .before .before .before .before .before .args .img .now) (c .before .before .before .before .before .before .before .before .before .args .g) (c .before .before .before .before .before .before .before .before .before .args .b .0)
+
+pub read-block-spec : {M : Type 1} → statement M
+read-block-spec =
+    tie.close
+    (tie.spec
+    mul-size
+    mul-start
+    add-end
+    sub-fill
+    part-fill-start
+    part-fill-end
+    fill-requires
+    same-length
+    returns)

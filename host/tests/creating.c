@@ -1,0 +1,232 @@
+/* ALLOC and OPENO, held to requests.h; and all requests one after another on packs that so grow and shrink. */
+#include "requests.h"
+
+static const size_t users[] = { ME, GROUP, OTHER };
+
+static abz_answer call_any(uint8_t *pack, size_t length, const request *it)
+{
+    abz_answer answer = { SIZE_MAX, 0 };
+
+    switch (it->what) {
+    case ALLOC: return abz_alloc(pack, length, it->caller, FILE4(it->file), it->protect, it->segments);
+    case OPENO: answer.code = abz_openo(pack, length, it->caller, FILE4(it->file), it->protect); return answer;
+    default: return call_existing(pack, length, it);
+    }
+}
+
+static size_t try_it(const char *name, size_t number, size_t length, request it)
+{
+    return try_request(call_any, name, number, length, &it);
+}
+
+/* A name for each number below 100. */
+static file_key numbered(size_t number, size_t uic)
+{
+    char name[] = "F00   ";
+
+    name[1] = (char)('0' + number / 10);
+    name[2] = (char)('0' + number % 10);
+    return key_of(name, "   ", uic);
+}
+
+static size_t make_empty(uint8_t *pack, size_t n, size_t c)
+{
+    memset(pack, 0xA5, BLOCK * n);
+    return make_pack(pack, n, c, users, COUNT(users));
+}
+
+/* Linked files with no block in all entries but so many. */
+static void fill_entries(uint8_t *pack, size_t spared)
+{
+    for (size_t entry = 0; entry < entry_count(pack) - spared; entry++)
+        put_linked(pack, entry, numbered(entry, OTHER), NULL, 0);
+}
+
+static void expect_alloc(size_t length, size_t segments, size_t code, size_t first)
+{
+    abz_answer answer = abz_alloc(image, length, ME, 10325, 27200, 6460, 0, 3, segments);
+
+    CHECK_NUMBER(answer.code, code, "example: ALLOC of %zu, code", segments);
+    CHECK_NUMBER(answer.number, first, "example: ALLOC of %zu, first block", segments);
+}
+
+/* Document 01's, written out, with no model between. */
+static void examples(void)
+{
+    static const uint8_t entry[32] = { 0125, 050, 0100, 0152, 074, 031, 010, 023, 3, 0, 1, 0, 13, 0, 3, 0, 15, 0 };
+    static const uint8_t open_entry[32] = { 0125, 050, 0100, 0152, 074, 031, 010, 023, 0377, 0, 2, 0,
+                                            0,    0,   0,    0,    0,   0,   2,   0 };
+    static const size_t refused[] = { 57, 58, 60, 61, 64, 65535, 65536, 65536 + 4, SIZE_MAX / 4 + 2, SIZE_MAX - 3,
+                                      SIZE_MAX - 2, SIZE_MAX - 1, SIZE_MAX };
+    size_t length;
+
+    /* n = 16, c = 1, empty: 14 blocks are free. */
+    for (size_t segments = 53; segments <= 56; segments++) {
+        length = make_empty(image, 16, 1);
+        expect_alloc(length, segments, 0, 2);
+        expect_alloc(length, 1, 2, 0);
+    }
+    length = make_empty(image, 16, 1);
+    for (size_t i = 0; i < COUNT(refused); i++)
+        expect_alloc(length, refused[i], 042, 0);
+    expect_alloc(length, 0, 041, 0);
+
+    /* The listing's. */
+    expect_alloc(length, 9, 0, 13);
+    CHECK_BYTES(image + BLOCK, entry, sizeof entry, "example: ALLOC of 9, entry");
+    CHECK_NUMBER(image[BLOCK * 13], 0xA5, "example: ALLOC of 9, body");
+
+    /* The directory is full and there is no room; the same with room. */
+    length = make_empty(image, 16, 1);
+    fill_entries(image, 0);
+    expect_alloc(length, 57, 012, 0);
+    expect_alloc(length, SIZE_MAX, 012, 0);
+    expect_alloc(length, 1, 012, 0);
+    CHECK_NUMBER(abz_openo(image, length, ME, 10325, 27200, 6460, 0, 0), 012, "example: OPENO, directory full");
+
+    /* OPENO needs an entry but no block. */
+    length = make_empty(image, 16, 1);
+    put_contiguous(image, 1, numbered(0, ME), 2, 14);
+    expect_alloc(length, 1, 042, 0);
+    CHECK_NUMBER(abz_openo(image, length, ME, 10325, 27200, 6460, ME, 0377), 0, "example: OPENO, no block free");
+    CHECK_BYTES(image + BLOCK, open_entry, sizeof open_entry, "example: OPENO, entry");
+    CHECK_NUMBER(abz_openo(image, length, ME, 10325, 27200, 6460, 0, 256), 041, "example: OPENO, protect 256");
+    CHECK_NUMBER(abz_openo(image, length, ME, 10325, 27200, 6460, 0, 0), 2, "example: OPENO again");
+    CHECK_NUMBER(abz_openi(image, length, ME, 10325, 27200, 6460, 0), 2, "example: OPENI of a file open for output");
+    CHECK_NUMBER(abz_close(image, length, ME, 10325, 27200, 6460, 0, 2), 0, "example: CLOSE");
+    CHECK_NUMBER(abz_openi(image, length, ME, 10325, 27200, 6460, 0), 0, "example: OPENI");
+
+    /* Under another's UIC, and under one that is not listed. */
+    CHECK_NUMBER(abz_openo(image, length, ME, 1600, 0, 0, GROUP, 0), 6, "example: OPENO for another");
+    CHECK_NUMBER(abz_openo(image, length, 7, 1600, 0, 0, 7, 0), 013, "example: OPENO for one not listed");
+    CHECK_NUMBER(abz_openo(image, length, 0, 1600, 0, 0, 0, 0), 013, "example: OPENO for nobody");
+    CHECK_NUMBER(abz_openo(image, length, ME + 65536, 1600, 0, 0, 0, 0), 013, "example: OPENO for one beyond 16 bits");
+}
+
+/* Every pattern of held and free blocks in 9 of them, with every number of segments that could fit, and some more. */
+static void free_runs(void)
+{
+    static uint8_t pack[BLOCK * 16];
+
+    for (size_t pattern = 0; pattern < 512; pattern++) {
+        size_t length = make_empty(pack, 16, 1), blocks[16], count = 0;
+        for (size_t block = 2; block < 16; block++)
+            if (block < 11 ? pattern >> (block - 2) & 1 : block < 15)
+                blocks[count++] = block;
+        put_linked(pack, 5, numbered(1, OTHER), blocks, count);
+        for (size_t segments = 0; segments <= 40; segments++) {
+            request it = { .what = ALLOC, .caller = ME, .file = numbered(0, 0), .segments = segments };
+            it.protect = pattern % 256;
+            memcpy(image, pack, length);
+            try_it("pattern", pattern, length, it);
+        }
+    }
+}
+
+/* Several causes at once: of each argument a right value and wrong ones, the directory full or not, room or none. */
+static void causes(void)
+{
+    static const size_t uics[] = { 0, ME, GROUP, OTHER, 7, 65536 + ME }, protects[] = { 0, 255, 256 };
+    static const size_t segments[] = { 0, 1, 8, SIZE_MAX };
+    const file_key names[] = { numbered(0, 0), numbered(50, 0), { 1600 * 27, 0, 0, 0 }, { 1600, 0, 64000, 0 } };
+    static uint8_t pack[BLOCK * 16];
+
+    for (size_t state = 0; state < 4; state++) {
+        size_t length = make_empty(pack, 16, 1);
+        fill_entries(pack, state & 1 ? 0 : 3);
+        put_linked(pack, 1, numbered(0, ME), NULL, 0);
+        put_contiguous(pack, 2, numbered(0, GROUP), 2, state & 2 ? 14 : 13);
+        for (size_t what = ALLOC; what <= OPENO; what++)
+            for (size_t caller = 0; caller < COUNT(uics); caller++)
+                for (size_t uic = 0; uic < COUNT(uics); uic++)
+                    for (size_t name = 0; name < COUNT(names); name++)
+                        for (size_t p = 0; p < COUNT(protects); p++)
+                            for (size_t s = 0; s < COUNT(segments); s++) {
+                                request it = { what, uics[caller], names[name], names[0], protects[p], segments[s], 0 };
+                                it.file.uic = uics[uic];
+                                memcpy(image, pack, length);
+                                try_it("state", state, length, it);
+                            }
+    }
+}
+
+/* Files until the directory is full, or the pack; the lowest empty entry each time, also of one that was deleted. */
+static void filling(void)
+{
+    static const struct {
+        size_t n, c, what, files, code;
+    } packs[] = {
+        { 16, 1, ALLOC, 14, 042 }, { 17, 1, ALLOC, 15, 042 }, { 18, 1, ALLOC, 16, 012 },  { 40, 1, ALLOC, 16, 012 },
+        { 16, 8, ALLOC, 7, 042 },  { 60, 3, ALLOC, 48, 012 }, { 16, 1, OPENO, 16, 012 },  { 1024, 4, OPENO, 64, 012 },
+    };
+
+    for (size_t i = 0; i < COUNT(packs); i++) {
+        size_t length = make_empty(image, packs[i].n, packs[i].c), files = 0, code;
+        request it = { .what = packs[i].what, .caller = ME, .segments = 1 };
+        do {
+            it.file = numbered(files, 0);
+            code = try_it("filling", i, length, it);
+            files += code == 0;
+        } while (code == 0 && files < 100);
+        CHECK_NUMBER(files, packs[i].files, "filling %zu: files", i);
+        CHECK_NUMBER(code, packs[i].code, "filling %zu: code", i);
+        CHECK_NUMBER(find_below(image, numbered(files - 1, ME), files), files - 1, "filling %zu: last entry", i);
+
+        /* Entries 2 to 4 become empty, and with ALLOC three blocks free, of which two are taken then. */
+        for (size_t gone = 2; gone < 5; gone++) {
+            request delet = { .what = packs[i].what == OPENO ? CLOSE : DELET, .caller = ME, .mode = 2 };
+            delet.file = numbered(gone, ME);
+            try_it("making room", i, length, delet);
+            delet.what = DELET;
+            try_it("making room", i, length, delet);
+        }
+        it.file = numbered(99, 0);
+        it.segments = 5;
+        CHECK_NUMBER(try_it("filling a gap", i, length, it), 0, "filling a gap %zu", i);
+        CHECK_NUMBER(find_below(image, numbered(99, ME), files), 2, "filling a gap %zu: entry", i);
+    }
+}
+
+static void huge_everywhere(void)
+{
+    static uint8_t pack[BLOCK * 16];
+    const size_t length = make_empty(pack, 16, 1);
+
+    for (size_t what = ALLOC; what <= OPENO; what++) {
+        request it = { .what = what, .caller = ME, .file = numbered(1, ME), .protect = 3, .segments = 9 };
+        huge_numbers(call_any, it, pack, length);
+        it.file.uic = 0;
+        huge_numbers(call_any, it, pack, length);
+    }
+}
+
+static void large_packs(void)
+{
+    for (size_t pack = 0; pack < 3; pack++) {
+        size_t length = chance_pack(image, BLOCKS_MAX - pack, 8, 90);
+        for (size_t i = 0; i < 40; i++)
+            try_it("large pack", pack, length, chance_request(ALLOC + i % 2, image));
+    }
+
+    /* The largest file there is. */
+    size_t length = make_empty(image, BLOCKS_MAX, 1);
+    request it = { .what = ALLOC, .caller = ME, .file = numbered(1, 0), .segments = 4 * 1022 + 1 };
+    CHECK_NUMBER(try_it("largest", 1, length, it), 042, "one segment too many");
+    it.segments--;
+    CHECK_NUMBER(try_it("largest", 0, length, it), 0, "the largest file");
+}
+
+int main(void)
+{
+    examples();
+    free_runs();
+    causes();
+    filling();
+    huge_everywhere();
+    chance_requests(call_any, ALLOC, REQUESTS, 200, 20);
+    chance_requests(call_any, OPENI, REQUESTS, 200, 60);
+    damaged_images(call_any, ALLOC, REQUESTS, 60);
+    large_packs();
+    check_given(ALLOC, REQUESTS);
+    return check_end("creating");
+}

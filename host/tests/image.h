@@ -1,0 +1,362 @@
+/*
+ * Packs as document 01 describes them, with nothing taken from the library: put together entry by entry, judged, and
+ * each block's owner told. The judgement is for reading beside document 01, so it is plain before it is quick.
+ */
+#ifndef IMAGE_H
+#define IMAGE_H
+
+#include <stdbool.h>
+#include <stddef.h>
+#include <stdint.h>
+#include <string.h>
+
+enum { BLOCK = 512, BLOCK_WORDS = 256, ENTRY_WORDS = 16, BLOCK_ENTRIES = 16, BLOCKS_MAX = 1024, UICS_MAX = 64 };
+
+/* The words of block 0, and those of an entry. */
+enum { FORM, BLOCKS, CONTENTS, UICS, UIC_LIST };
+enum { NAME1, NAME2, EXTENSION, UIC, PROTECT, KIND, FIRST, LENGTH, LAST, WRITER, READERS, ZEROS };
+
+enum { CONTIGUOUS = 1, LINKED = 2 };
+
+typedef struct {
+    size_t name1, name2, extension, uic;
+} file_key;
+
+typedef struct {
+    enum { SYSTEM, FREE, HELD } kind;
+    size_t entry, place; /* 0 unless HELD */
+} block_owner;
+
+/* ---- Words ---- */
+
+static inline size_t get_word(const uint8_t *image, size_t word)
+{
+    return image[2 * word] + (size_t)256 * image[2 * word + 1];
+}
+
+static inline void set_word(uint8_t *image, size_t word, size_t value)
+{
+    image[2 * word] = (uint8_t)(value % 256);
+    image[2 * word + 1] = (uint8_t)(value / 256 % 256);
+}
+
+/* Where in the image a word of an entry is. */
+static inline size_t entry_word(size_t entry, size_t word)
+{
+    return BLOCK_WORDS + ENTRY_WORDS * entry + word;
+}
+
+static inline size_t get_field(const uint8_t *image, size_t entry, size_t word)
+{
+    return get_word(image, entry_word(entry, word));
+}
+
+static inline void set_field(uint8_t *image, size_t entry, size_t word, size_t value)
+{
+    set_word(image, entry_word(entry, word), value);
+}
+
+/* ---- Names ---- */
+
+#define LETTERS_AND_DIGITS "ABCDEFGHIJKLMNOPQRSTUVWXYZ0123456789"
+
+static const char radix50[] = " ABCDEFGHIJKLMNOPQRSTUVWXYZ$.?0123456789"; /* ? for 29, which has no character */
+
+static inline size_t pack_three(const char *text)
+{
+    size_t word = 0;
+
+    for (int i = 0; i < 3; i++)
+        word = 40 * word + (size_t)(strchr(radix50, text[i]) - radix50);
+    return word;
+}
+
+/* name is six characters and extension three, blanks included. */
+static inline file_key key_of(const char *name, const char *extension, size_t uic)
+{
+    file_key key = { pack_three(name), pack_three(name + 3), pack_three(extension), uic };
+
+    return key;
+}
+
+/* Radix-50 words that spell least or more of A-Z, 0-9, then blanks. */
+static inline bool spelled_legally(const size_t *words, size_t count, size_t least)
+{
+    char text[7] = "";
+
+    for (size_t i = 0; i < count; i++) {
+        if (words[i] >= 64000)
+            return false;
+        text[3 * i] = radix50[words[i] / 1600];
+        text[3 * i + 1] = radix50[words[i] / 40 % 40];
+        text[3 * i + 2] = radix50[words[i] % 40];
+    }
+
+    size_t taken = strspn(text, LETTERS_AND_DIGITS);
+    return taken >= least && strspn(text + taken, " ") == 3 * count - taken;
+}
+
+static inline bool legal(file_key key)
+{
+    size_t name[] = { key.name1, key.name2 };
+
+    return spelled_legally(name, 2, 1) && spelled_legally(&key.extension, 1, 0);
+}
+
+/* ---- Entries ---- */
+
+static inline size_t entry_count(const uint8_t *image)
+{
+    return BLOCK_ENTRIES * get_word(image, CONTENTS);
+}
+
+static inline bool used(const uint8_t *image, size_t entry)
+{
+    for (size_t word = 0; word < ENTRY_WORDS; word++)
+        if (get_field(image, entry, word) != 0)
+            return true;
+    return false;
+}
+
+static inline file_key entry_key(const uint8_t *image, size_t entry)
+{
+    file_key key = { get_field(image, entry, NAME1), get_field(image, entry, NAME2),
+                     get_field(image, entry, EXTENSION), get_field(image, entry, UIC) };
+
+    return key;
+}
+
+/* The first used entry below end that has this key, or end. There is no caller here, for whom UIC 0 could stand. */
+static inline size_t find_below(const uint8_t *image, file_key key, size_t end)
+{
+    for (size_t entry = 0; entry < end; entry++) {
+        file_key there = entry_key(image, entry);
+        if (used(image, entry) && there.name1 == key.name1 && there.name2 == key.name2
+            && there.extension == key.extension && there.uic == key.uic)
+            return entry;
+    }
+    return end;
+}
+
+/* Of a consistent pack: the block of a file at a place below its length. */
+static inline size_t block_at(const uint8_t *image, size_t entry, size_t place)
+{
+    size_t block = get_field(image, entry, FIRST);
+
+    if (get_field(image, entry, KIND) == CONTIGUOUS)
+        return block + place;
+    for (; place > 0; place--)
+        block = get_word(image, BLOCK_WORDS * block);
+    return block;
+}
+
+/* ---- The judgement ---- */
+
+static inline bool listed(const uint8_t *image, size_t uic)
+{
+    for (size_t i = 0; i < get_word(image, UICS); i++)
+        if (get_word(image, UIC_LIST + i) == uic)
+            return true;
+    return false;
+}
+
+static inline bool header_right(const uint8_t *image, size_t length)
+{
+    if (length < BLOCK) /* n is 16 at least; and this much must be there to be read */
+        return false;
+
+    size_t n = get_word(image, BLOCKS), c = get_word(image, CONTENTS), u = get_word(image, UICS);
+
+    if (length != BLOCK * n || get_word(image, FORM) != 1 || n < 16 || n > 1024 || c < 1 || c > 8 || u > 64)
+        return false;
+    for (size_t i = 0; i < u; i++) {
+        if (get_word(image, UIC_LIST + i) == 0)
+            return false;
+        for (size_t j = 0; j < i; j++)
+            if (get_word(image, UIC_LIST + i) == get_word(image, UIC_LIST + j))
+                return false;
+    }
+    for (size_t word = UIC_LIST + u; word < BLOCK_WORDS; word++)
+        if (get_word(image, word) != 0)
+            return false;
+    return true;
+}
+
+static inline bool entry_right(const uint8_t *image, size_t entry)
+{
+    file_key key = entry_key(image, entry);
+    size_t kind = get_field(image, entry, KIND), writer = get_field(image, entry, WRITER);
+
+    if (!legal(key) || !listed(image, key.uic) || find_below(image, key, entry) != entry)
+        return false;
+    for (size_t word = ZEROS; word < ENTRY_WORDS; word++)
+        if (get_field(image, entry, word) != 0)
+            return false;
+    if (get_field(image, entry, PROTECT) > 255 || get_field(image, entry, READERS) + (writer != 0) > 62)
+        return false;
+    return (kind == CONTIGUOUS && (writer == 0 || writer == 1))
+           || (kind == LINKED && (writer == 0 || writer == 2 || writer == 3));
+}
+
+/* Goes through the blocks of a file and gives each to it. A block met twice, in a loop too, is no longer free. */
+static inline bool blocks_right(const uint8_t *image, size_t entry, block_owner *owners)
+{
+    bool contiguous = get_field(image, entry, KIND) == CONTIGUOUS;
+    size_t n = get_word(image, BLOCKS), length = get_field(image, entry, LENGTH);
+    size_t block = get_field(image, entry, FIRST), last = 0;
+
+    for (size_t place = 0; place < length; place++) {
+        if (block >= n || owners[block].kind != FREE)
+            return false;
+        owners[block].kind = HELD;
+        owners[block].entry = entry;
+        owners[block].place = place;
+        last = block;
+        block = contiguous ? block + 1 : get_word(image, BLOCK_WORDS * block);
+    }
+    if (get_field(image, entry, LAST) != last) /* 0 at length 0 */
+        return false;
+    return contiguous ? length > 0 : block == 0; /* behind the last; the first itself at length 0 */
+}
+
+/* Whether an image is consistent. If so, owners[b] says whose block b is, for every b below n. */
+static inline bool judge(const uint8_t *image, size_t length, block_owner owners[BLOCKS_MAX])
+{
+    if (!header_right(image, length))
+        return false;
+
+    for (size_t block = 0; block < get_word(image, BLOCKS); block++) {
+        owners[block].kind = block <= get_word(image, CONTENTS) ? SYSTEM : FREE;
+        owners[block].entry = owners[block].place = 0;
+    }
+    for (size_t entry = 0; entry < entry_count(image); entry++)
+        if (used(image, entry) && !(entry_right(image, entry) && blocks_right(image, entry, owners)))
+            return false;
+    return true;
+}
+
+/* ---- Making packs, right ones and wrong ones: nothing is tested ---- */
+
+/* An empty pack; the bodies keep what they hold. Returns the length of the image. */
+static inline size_t make_pack(uint8_t *image, size_t n, size_t c, const size_t *uics, size_t u)
+{
+    memset(image, 0, BLOCK * (1 + c));
+    set_word(image, FORM, 1);
+    set_word(image, BLOCKS, n);
+    set_word(image, CONTENTS, c);
+    set_word(image, UICS, u);
+    for (size_t i = 0; i < u; i++)
+        set_word(image, UIC_LIST + i, uics[i]);
+    return BLOCK * n;
+}
+
+/* A closed file with protect code 0; what is to be otherwise is set afterwards. */
+static inline void put_file(uint8_t *image, size_t entry, file_key key, size_t kind, size_t first, size_t length,
+                            size_t last)
+{
+    memset(image + 2 * entry_word(entry, 0), 0, 2 * ENTRY_WORDS);
+    set_field(image, entry, NAME1, key.name1);
+    set_field(image, entry, NAME2, key.name2);
+    set_field(image, entry, EXTENSION, key.extension);
+    set_field(image, entry, UIC, key.uic);
+    set_field(image, entry, KIND, kind);
+    set_field(image, entry, FIRST, first);
+    set_field(image, entry, LENGTH, length);
+    set_field(image, entry, LAST, last);
+}
+
+static inline void put_contiguous(uint8_t *image, size_t entry, file_key key, size_t first, size_t length)
+{
+    put_file(image, entry, key, CONTIGUOUS, first, length, first + length - 1);
+}
+
+static inline void put_linked(uint8_t *image, size_t entry, file_key key, const size_t *blocks, size_t length)
+{
+    put_file(image, entry, key, LINKED, length ? blocks[0] : 0, length, length ? blocks[length - 1] : 0);
+    for (size_t i = 0; i < length; i++)
+        set_word(image, BLOCK_WORDS * blocks[i], i + 1 < length ? blocks[i + 1] : 0);
+}
+
+static inline void set_open(uint8_t *image, size_t entry, size_t writer, size_t readers)
+{
+    set_field(image, entry, WRITER, writer);
+    set_field(image, entry, READERS, readers);
+}
+
+/* ---- Chance, the same in every run ---- */
+
+static inline size_t chance(size_t below)
+{
+    static uint64_t state = 0x9E3779B97F4A7C15;
+
+    state ^= state << 13;
+    state ^= state >> 7;
+    state ^= state << 17;
+    return (size_t)(state >> 16) % below;
+}
+
+/* Of few names, so that files often have all but one part alike. */
+static inline file_key chance_key(const uint8_t *image)
+{
+    static const char names[16][7] = { "A     ", "B     ", "AB    ", "ABC   ", "ABCA  ", "ABCDEF",
+                                       "0     ", "999999", "ZZZZZZ", "FREQ  ", "123456", "X0    ",
+                                       "DT1   ", "Z9Z9Z9", "KEEP  ", "AAAAAA" };
+    static const char extensions[6][4] = { "   ", "A  ", "B  ", "AB ", "DAT", "999" };
+    size_t uic = get_word(image, UIC_LIST + chance(get_word(image, UICS)));
+
+    return key_of(names[chance(16)], extensions[chance(6)], uic);
+}
+
+/*
+ * A consistent pack with so many files, at most 16c, its bodies full of random bytes. Contiguous files lie behind one
+ * another with gaps, and linked ones are scattered over all that remains. Returns the length of the image.
+ */
+static inline size_t chance_pack(uint8_t *image, size_t n, size_t c, size_t files)
+{
+    size_t uics[UICS_MAX], rest[BLOCKS_MAX], count = 0, next = c + 1, entries = BLOCK_ENTRIES * c;
+
+    for (size_t i = 0; i < BLOCK * n; i++)
+        image[i] = (uint8_t)chance(256);
+    uics[0] = 65535;
+    for (size_t i = 1; i < UICS_MAX; i++)
+        uics[i] = 100 * i + chance(100);
+    make_pack(image, n, c, uics, 2 + chance(UICS_MAX - 1));
+
+    for (size_t entry = chance(entries); files > 0; files--) {
+        size_t gap = chance(3), length = 1 + chance(5);
+        file_key key;
+        do
+            key = chance_key(image);
+        while (find_below(image, key, entries) != entries);
+        if (chance(2) && next + gap + length <= n) {
+            for (; gap > 0; gap--)
+                rest[count++] = next++;
+            put_contiguous(image, entry, key, next, length);
+            next += length;
+        } else {
+            put_linked(image, entry, key, NULL, 0);
+        }
+        entry = (entry + 13) % entries; /* comes to every entry, since 13 and 16c have no factor in common */
+    }
+    for (; next < n; next++)
+        rest[count++] = next;
+    for (size_t i = count; i > 1; i--) {
+        size_t other = chance(i), block = rest[other];
+        rest[other] = rest[i - 1];
+        rest[i - 1] = block;
+    }
+
+    for (size_t entry = 0; entry < entries; entry++) {
+        bool linked = get_field(image, entry, KIND) == LINKED;
+        size_t length = chance(6), writer = chance(2) ? 0 : linked ? 2 + chance(2) : 1, most = writer ? 61 : 62;
+        if (!used(image, entry))
+            continue;
+        if (linked && length <= count)
+            put_linked(image, entry, entry_key(image, entry), rest + (count -= length), length);
+        set_field(image, entry, PROTECT, chance(256));
+        set_open(image, entry, writer, chance(3) ? chance(3) : most - chance(2));
+    }
+    return BLOCK * n;
+}
+
+#endif

@@ -1,0 +1,535 @@
+/*
+ * The requests on files as document 01 describes them, with nothing taken from the library, and the library held to
+ * them. Codes are written as the numbers that the paper gives them.
+ */
+#ifndef REQUESTS_H
+#define REQUESTS_H
+
+#include "abezolit.h"
+
+#include "check.h"
+#include "image.h"
+
+#define COUNT(array) (sizeof(array) / sizeof *(array))
+
+enum { GUARD = 16, ROOM = BLOCK * BLOCKS_MAX, CODES = 0100 };
+enum { ME = 023 * 256 + 010, GROUP = 023 * 256 + 011, OTHER = 012 * 256 + 04 };
+
+/* Creating stands last: those before need a file that is there. */
+enum { OPENI, OPENU, OPENE, CLOSE, DELET, KEEP, RENAM, APPND, ALLOC, OPENO, REQUESTS };
+
+static const char *const request_names[REQUESTS] = { "OPENI", "OPENU", "OPENE", "CLOSE", "DELET",
+                                                     "KEEP",  "RENAM", "APPND", "ALLOC", "OPENO" };
+
+/* A request does not look at what it has no use for. second is APPND's second file and RENAM's new name. */
+typedef struct {
+    size_t what, caller;
+    file_key file, second;
+    size_t protect, segments, mode;
+} request;
+
+/* Among them numbers that are in order in their low 16 or 32 bits, or when multiplied by 4, 32 or 512. */
+static const size_t huge[] = {
+    65535, 65536, 65537, 65536 + 16, UINT32_MAX, (size_t)UINT32_MAX + 1, (size_t)UINT32_MAX + 2, SIZE_MAX / 512 + 1,
+    SIZE_MAX / 512 + 17, SIZE_MAX / 32 + 1, SIZE_MAX / 4, SIZE_MAX / 4 + 1, SIZE_MAX / 4 + 2, SIZE_MAX / 2,
+    SIZE_MAX / 2 + 1, SIZE_MAX - 3, SIZE_MAX - 2, SIZE_MAX - 1, SIZE_MAX
+};
+
+/* ---- Document 01 ---- */
+
+/* "Of several, the first in this table is given." */
+static const size_t table[] = { 040, 015, 041, 013, 2, 6, 5, 043, 4, 014, 045, 044, 3, 012, 042 };
+
+/* What each request can give at all: readings.md, A2 to A5 and A7 to A12. */
+static const size_t possible[REQUESTS][11] = {
+    [OPENI] = { 040, 015, 2, 6, 3 },
+    [OPENU] = { 040, 015, 2, 6, 043, 4, 3 },
+    [OPENE] = { 040, 015, 2, 6, 5, 4, 3 },
+    [CLOSE] = { 040, 015, 041, 2, 045 },
+    [DELET] = { 040, 015, 2, 6, 014 },
+    [KEEP] = { 040, 015, 2, 6 },
+    [RENAM] = { 040, 015, 041, 2, 6, 014 },
+    [APPND] = { 040, 015, 041, 2, 6, 043, 014 },
+    [ALLOC] = { 040, 015, 041, 013, 2, 6, 012, 042 },
+    [OPENO] = { 040, 015, 041, 013, 2, 6, 012 },
+};
+
+/* All 0 but for the entry if there is no such file. */
+typedef struct {
+    bool there;
+    size_t entry, uic, protect, kind, length, writer, readers;
+} file;
+
+static inline file_key meant(file_key key, size_t caller)
+{
+    if (key.uic == 0)
+        key.uic = caller;
+    return key;
+}
+
+static inline bool same_key(file_key a, file_key b)
+{
+    return a.name1 == b.name1 && a.name2 == b.name2 && a.extension == b.extension && a.uic == b.uic;
+}
+
+static inline file file_of(const uint8_t *image, file_key key)
+{
+    file it = { 0 };
+
+    it.entry = find_below(image, key, entry_count(image));
+    if (it.entry < entry_count(image)) {
+        it.there = true;
+        it.uic = get_field(image, it.entry, UIC);
+        it.protect = get_field(image, it.entry, PROTECT);
+        it.kind = get_field(image, it.entry, KIND);
+        it.length = get_field(image, it.entry, LENGTH);
+        it.writer = get_field(image, it.entry, WRITER);
+        it.readers = get_field(image, it.entry, READERS);
+    }
+    return it;
+}
+
+static inline size_t opens(file it)
+{
+    return it.readers + (it.writer != 0);
+}
+
+/* Each of them has those before it too. */
+enum { NOTHING, MAY_READ, MAY_WRITE, MAY_DELETE };
+
+static inline size_t rights(size_t caller, file it)
+{
+    static const size_t digit_gives[8] = { MAY_DELETE, MAY_WRITE, MAY_READ, MAY_READ };
+
+    if (caller == it.uic)
+        return it.protect & 0100 ? MAY_READ : MAY_DELETE;
+    return digit_gives[caller / 256 == it.uic / 256 ? it.protect / 010 % 010 : it.protect % 010];
+}
+
+static inline size_t empty_entry(const uint8_t *image)
+{
+    size_t entry = 0;
+
+    while (entry < entry_count(image) && used(image, entry))
+        entry++;
+    return entry;
+}
+
+/* The highest block from which so many are free, or 0. */
+static inline size_t free_run(const uint8_t *image, const block_owner *owners, size_t length)
+{
+    for (size_t start = get_word(image, BLOCKS) - 1; start > 0; start--) {
+        size_t count = 0;
+        while (start + count < get_word(image, BLOCKS) && owners[start + count].kind == FREE && count < length)
+            count++;
+        if (count == length)
+            return start;
+    }
+    return 0;
+}
+
+/* All links of the joined chain are set, also those that are right already. */
+static inline void join(uint8_t *image, file first, file second)
+{
+    size_t blocks[BLOCKS_MAX], count = 0;
+
+    for (size_t place = 0; place < first.length; place++)
+        blocks[count++] = block_at(image, first.entry, place);
+    for (size_t place = 0; place < second.length; place++)
+        blocks[count++] = block_at(image, second.entry, place);
+    put_linked(image, first.entry, entry_key(image, first.entry), blocks, count);
+    set_field(image, first.entry, PROTECT, first.protect);
+    memset(image + 2 * entry_word(second.entry, 0), 0, 2 * ENTRY_WORDS);
+}
+
+/* What a request does to an image and answers. */
+static inline abz_answer model(uint8_t *image, size_t length, const request *it)
+{
+    static block_owner owners[BLOCKS_MAX];
+    bool cause[CODES] = { false };
+    abz_answer answer = { 0, 0 };
+
+    if (!judge(image, length, owners)) {
+        answer.code = 040;
+        return answer;
+    }
+
+    const size_t caller = it->caller, none = entry_count(image);
+    const file_key key = meant(it->file, caller);
+    const file one = file_of(image, key);
+    const size_t may = rights(caller, one), empty = empty_entry(image);
+    size_t start = 0, needed = it->segments / 4 + (it->segments % 4 != 0);
+    file_key second_key = it->second;
+    file two = { 0 };
+
+    cause[015] = !legal(key);
+    cause[2] = !one.there;
+
+    switch (it->what) {
+    case OPENI:
+        cause[2] = !one.there || one.writer == 2;
+        cause[6] = may < MAY_READ;
+        cause[3] = opens(one) == 62;
+        break;
+    case OPENU:
+        cause[2] = !one.there || one.writer == 2;
+        cause[6] = may < MAY_WRITE;
+        cause[043] = one.kind == LINKED;
+        cause[4] = one.writer != 0;
+        cause[3] = opens(one) == 62;
+        break;
+    case OPENE:
+        cause[2] = !one.there || one.writer == 2;
+        cause[6] = may < MAY_WRITE;
+        cause[5] = one.kind == CONTIGUOUS;
+        cause[4] = one.writer != 0;
+        cause[3] = opens(one) == 62;
+        break;
+    case CLOSE:
+        cause[041] = it->mode < 1 || it->mode > 4;
+        cause[045] = it->mode == 4 ? one.readers == 0 : one.writer != it->mode;
+        break;
+    case DELET:
+        cause[6] = may < MAY_DELETE;
+        cause[014] = opens(one) > 0;
+        break;
+    case KEEP:
+        cause[6] = caller != one.uic;
+        break;
+    case RENAM:
+        second_key.uic = key.uic;
+        two = file_of(image, second_key);
+        cause[015] = !legal(key) || !legal(second_key);
+        cause[041] = it->protect > 255;
+        cause[2] = !one.there || two.there;
+        cause[6] = may < MAY_WRITE;
+        cause[014] = opens(one) > 0;
+        break;
+    case APPND:
+        second_key = meant(second_key, caller);
+        two = file_of(image, second_key);
+        cause[015] = !legal(key) || !legal(second_key);
+        cause[041] = same_key(key, second_key);
+        cause[2] = !one.there || !two.there;
+        cause[6] = may < MAY_WRITE || rights(caller, two) < MAY_DELETE;
+        cause[043] = one.kind == CONTIGUOUS || two.kind == CONTIGUOUS;
+        cause[014] = opens(one) > 0 || opens(two) > 0;
+        break;
+    case ALLOC:
+        start = needed ? free_run(image, owners, needed) : 0;
+        cause[041] = it->segments == 0 || it->protect > 255;
+        cause[042] = start == 0;
+        break;
+    case OPENO:
+        cause[041] = it->protect > 255;
+        break;
+    }
+    if (it->what == ALLOC || it->what == OPENO) {
+        cause[013] = !listed(image, key.uic);
+        cause[2] = one.there;
+        cause[6] = key.uic != caller;
+        cause[012] = empty == none;
+    }
+
+    for (size_t i = 0; i < COUNT(table); i++)
+        if (cause[table[i]]) {
+            answer.code = table[i];
+            return answer;
+        }
+
+    switch (it->what) {
+    case OPENI: set_field(image, one.entry, READERS, one.readers + 1); break;
+    case OPENU: set_field(image, one.entry, WRITER, 1); break;
+    case OPENE: set_field(image, one.entry, WRITER, 3); break;
+    case CLOSE:
+        if (it->mode == 4)
+            set_field(image, one.entry, READERS, one.readers - 1);
+        else
+            set_field(image, one.entry, WRITER, 0);
+        break;
+    case DELET: memset(image + 2 * entry_word(one.entry, 0), 0, 2 * ENTRY_WORDS); break;
+    case KEEP: set_field(image, one.entry, PROTECT, one.protect | 0200); break;
+    case RENAM:
+        set_field(image, one.entry, NAME1, it->second.name1);
+        set_field(image, one.entry, NAME2, it->second.name2);
+        set_field(image, one.entry, EXTENSION, it->second.extension);
+        set_field(image, one.entry, PROTECT, it->protect);
+        break;
+    case APPND: join(image, one, two); break;
+    case ALLOC:
+        put_contiguous(image, empty, key, start, needed);
+        set_field(image, empty, PROTECT, it->protect);
+        answer.number = start;
+        break;
+    case OPENO:
+        put_linked(image, empty, key, NULL, 0);
+        set_field(image, empty, PROTECT, it->protect);
+        set_open(image, empty, 2, 0);
+        break;
+    }
+    return answer;
+}
+
+/* ---- The library ---- */
+
+typedef abz_answer (*library)(uint8_t *image, size_t length, const request *it);
+
+#define FILE4(key) (key).name1, (key).name2, (key).extension, (key).uic
+
+/* All requests but those that create. */
+static inline abz_answer call_existing(uint8_t *image, size_t length, const request *it)
+{
+    const size_t caller = it->caller;
+    abz_answer answer = { SIZE_MAX, 0 };
+
+    switch (it->what) {
+    case OPENI: answer.code = abz_openi(image, length, caller, FILE4(it->file)); break;
+    case OPENU: answer.code = abz_openu(image, length, caller, FILE4(it->file)); break;
+    case OPENE: answer.code = abz_opene(image, length, caller, FILE4(it->file)); break;
+    case CLOSE: answer.code = abz_close(image, length, caller, FILE4(it->file), it->mode); break;
+    case DELET: answer.code = abz_delet(image, length, caller, FILE4(it->file)); break;
+    case KEEP: answer.code = abz_keep(image, length, caller, FILE4(it->file)); break;
+    case RENAM:
+        answer.code = abz_renam(image, length, caller, FILE4(it->file), it->second.name1, it->second.name2,
+                                it->second.extension, it->protect);
+        break;
+    case APPND: answer.code = abz_appnd(image, length, caller, FILE4(it->file), FILE4(it->second)); break;
+    }
+    return answer;
+}
+
+/* ---- Trying a request ---- */
+
+/* The lent slice has guards on both sides and is compared with them. */
+static uint8_t lent[GUARD + ROOM + GUARD], kept[sizeof lent], wanted[sizeof lent];
+static uint8_t *const image = lent + GUARD;
+
+/* How often each request gave each code, and APPND joined files that were empty (1 the first, 2 the second). */
+static size_t given[REQUESTS][CODES], joined[4];
+
+/* Whatever the library did, the image is then as it should be. Returns the code that is due. */
+static inline size_t try_request(library call, const char *name, size_t number, size_t length, const request *it)
+{
+    static block_owner owners[BLOCKS_MAX];
+    const size_t all = GUARD + length + GUARD;
+
+    memcpy(kept, lent, all);
+    memcpy(wanted, lent, all);
+
+    const abz_answer due = model(wanted + GUARD, length, it);
+    const abz_answer answer = call(image, length, it);
+
+#define CASE                                                                                                 \
+    "%s %zu, length %zu: %s for %zu of %zu %zu %zu %zu, second %zu %zu %zu %zu, protect %zu, segments %zu, " \
+    "mode %zu: "
+#define CASE_ARGUMENTS                                                                                            \
+    name, number, length, request_names[it->what], it->caller, FILE4(it->file), FILE4(it->second), it->protect, \
+        it->segments, it->mode
+    CHECK_NUMBER(answer.code, due.code, CASE "code", CASE_ARGUMENTS);
+    CHECK_NUMBER(answer.number, due.number, CASE "number", CASE_ARGUMENTS);
+    if (due.code == 0)
+        CHECK_BYTES(lent, wanted, all, CASE "image behind %d guard bytes", CASE_ARGUMENTS, GUARD);
+    else
+        CHECK_BYTES(lent, kept, all, CASE "refused, image behind %d guard bytes", CASE_ARGUMENTS, GUARD);
+    if (due.code != 040)
+        CHECK_NUMBER(judge(image, length, owners), true, CASE "consistent afterwards", CASE_ARGUMENTS);
+#undef CASE_ARGUMENTS
+#undef CASE
+
+    if (due.code == 0 && it->what == APPND) {
+        file one = file_of(kept + GUARD, meant(it->file, it->caller));
+        file two = file_of(kept + GUARD, meant(it->second, it->caller));
+        joined[(one.length == 0) + 2 * (two.length == 0)]++;
+    }
+    given[it->what][due.code]++;
+    memcpy(lent, wanted, all);
+    return due.code;
+}
+
+/* Each code that a request can give was given, and no other. */
+static inline void check_given(size_t from, size_t end)
+{
+    for (size_t what = from; what < end; what++) {
+        bool can[CODES] = { true }; /* 0 */
+        for (size_t i = 0; i < COUNT(possible[what]); i++)
+            can[possible[what][i]] = true;
+        for (size_t code = 0; code < CODES; code++)
+            CHECK_NUMBER(given[what][code] > 0, can[code], "%s: whether code %zo was given", request_names[what], code);
+    }
+}
+
+/* ---- Requests by chance ---- */
+
+/* Of a file that is there, for the most part. The pack has a UIC. */
+static inline file_key likely_key(const uint8_t *pack)
+{
+    size_t entry = chance(entry_count(pack));
+
+    for (size_t i = 0; i < 8 && !used(pack, entry); i++)
+        entry = chance(entry_count(pack));
+    return used(pack, entry) && chance(16) ? entry_key(pack, entry) : chance_key(pack);
+}
+
+static inline size_t likely_caller(const uint8_t *pack, size_t uic)
+{
+    switch (chance(8)) {
+    case 0: return uic / 256 * 256 + chance(256);
+    case 1: return get_word(pack, UIC_LIST + chance(get_word(pack, UICS)));
+    case 2: return chance(65536);
+    default: return uic;
+    }
+}
+
+/* The numbers of a request, one after another. */
+enum { NUMBERS = 12 };
+
+static inline size_t *number_of(request *it, size_t i)
+{
+    size_t *const numbers[NUMBERS] = { &it->caller,
+                                       &it->file.name1, &it->file.name2, &it->file.extension, &it->file.uic,
+                                       &it->second.name1, &it->second.name2, &it->second.extension, &it->second.uic,
+                                       &it->protect, &it->segments, &it->mode };
+
+    return numbers[i];
+}
+
+static inline void spoil(request *it)
+{
+    size_t *const number = number_of(it, chance(NUMBERS)), old = *number;
+    const size_t others[] = { 0,       old + 1,         old - 1,    old + 40, old + 256,
+                              old ^ 1, chance(65536), old + 65536, 64000,    huge[chance(COUNT(huge))] };
+
+    *number = others[chance(COUNT(others))];
+}
+
+static inline request chance_request(size_t what, const uint8_t *pack)
+{
+    request it = { .what = what, .file = likely_key(pack), .second = likely_key(pack) };
+
+    it.caller = likely_caller(pack, it.file.uic);
+    if (what == RENAM || what == ALLOC || what == OPENO) {
+        file_key *const new_key = what == RENAM ? &it.second : &it.file;
+        if (chance(8))
+            *new_key = chance_key(pack);
+        if (chance(8))
+            it.caller = it.file.uic;
+    }
+    if (what == APPND && chance(32) == 0)
+        it.second = it.file;
+    it.protect = chance(256);
+    it.segments = chance(4) ? 1 + chance(24) : chance(5 * get_word(pack, BLOCKS));
+    it.mode = 1 + chance(4);
+    if (it.caller == it.file.uic && chance(2))
+        it.file.uic = 0;
+    if (it.caller == it.second.uic && chance(2))
+        it.second.uic = 0;
+    while (chance(6) == 0)
+        spoil(&it);
+    return it;
+}
+
+/* So that more is granted: some files closed, and some with all rights. */
+static inline void ease(uint8_t *pack)
+{
+    for (size_t entry = 0; entry < entry_count(pack); entry++)
+        if (used(pack, entry)) {
+            if (chance(2))
+                set_open(pack, entry, 0, 0);
+            if (chance(2))
+                set_field(pack, entry, PROTECT, chance(2) ? 0 : 0200);
+        }
+}
+
+/* One request after another on packs made by chance, each from what those before it left. */
+static inline void chance_requests(library call, size_t from, size_t end, size_t packs, size_t times)
+{
+    for (size_t pack = 0; pack < packs; pack++) {
+        size_t c = 1 + chance(3), n = 16 + chance(64), files = pack % 3 ? 4 + chance(12) : BLOCK_ENTRIES * c;
+        size_t length = chance_pack(image, n, c, files);
+        if (pack % 4)
+            ease(image);
+        for (size_t i = 0; i < times; i++) {
+            request it = chance_request(from + chance(end - from), image);
+            try_request(call, "pack by chance", pack, length, &it);
+        }
+    }
+}
+
+/* One word of a pack changed, or its length: 40 wherever we judge so, and whatever is asked. */
+static inline void damaged_images(library call, size_t from, size_t end, size_t packs)
+{
+    static uint8_t sound[ROOM];
+    size_t refused = 0;
+
+    for (size_t pack = 0; pack < packs; pack++) {
+        size_t c = 1 + chance(2), length = chance_pack(sound, 16 + chance(24), c, 16);
+        for (size_t i = 0; i < 8 * (end - from); i++) {
+            size_t what = from + i % (end - from), damaged_len = length;
+            request it = chance_request(what, sound);
+            size_t words = i % 3 ? BLOCK_WORDS * (1 + c) : length / 2, word = chance(words), old, block;
+
+            memcpy(image, sound, length);
+            switch (chance(5)) {
+            case 0: damaged_len = chance(2) ? chance(length) : length + 1 - 2 * chance(2); break;
+            case 1:
+                do
+                    block = chance(length / BLOCK);
+                while (block <= c);
+                set_word(image, BLOCK_WORDS * block, chance(2) ? 0 : chance(length / BLOCK));
+                break;
+            default:
+                old = get_word(sound, word);
+                set_word(image, word, chance(2) ? old ^ ((size_t)1 << chance(16)) : chance(65536));
+            }
+            refused += try_request(call, "damaged pack", pack, damaged_len, &it) == 040;
+        }
+    }
+    CHECK_NUMBER(refused > packs * (end - from), true, "damaged packs: %zu refused", refused);
+
+    /* Far too short, with what would make it a pack behind it. */
+    for (size_t short_len = 0; short_len < 40; short_len++)
+        for (size_t what = from; what < end; what++) {
+            request it = chance_request(what, sound);
+            memcpy(image, sound, BLOCK * 16);
+            CHECK_NUMBER(try_request(call, "short image", what, short_len, &it), 040, "short image of %zu", short_len);
+        }
+}
+
+/* One number of a right request made huge, two of them, or all; and put 65536 higher. */
+static inline void huge_numbers(library call, request right, const uint8_t *pack, size_t length)
+{
+#define TRY(it)                                                            \
+    do {                                                                   \
+        memcpy(image, pack, length);                                       \
+        try_request(call, "huge numbers", right.what, length, &(it));      \
+    } while (0)
+
+    memcpy(image, pack, length);
+    CHECK_NUMBER(try_request(call, "right request", right.what, length, &right), 0, "%s", request_names[right.what]);
+    for (size_t i = 0; i < NUMBERS; i++) {
+        request it = right;
+        *number_of(&it, i) += 65536;
+        TRY(it);
+        *number_of(&it, i) += UINT32_MAX - (size_t)65535;
+        TRY(it);
+        for (size_t h = 0; h < COUNT(huge); h++) {
+            it = right;
+            *number_of(&it, i) = huge[h];
+            TRY(it);
+            for (size_t j = 0; j < i; j++) {
+                *number_of(&it, j) = huge[chance(COUNT(huge))];
+                TRY(it);
+                *number_of(&it, j) = *number_of(&right, j);
+            }
+        }
+    }
+    for (size_t h = 0; h < COUNT(huge); h++) {
+        request it = right;
+        for (size_t i = 0; i < NUMBERS; i++)
+            *number_of(&it, i) = huge[h];
+        TRY(it);
+    }
+#undef TRY
+}
+
+#endif
