@@ -354,6 +354,63 @@ abz_answer abz_alloc(uint8_t *image, size_t image_len, size_t caller,
 size_t abz_openo(uint8_t *image, size_t image_len, size_t caller,
                  size_t name1, size_t name2, size_t extension, size_t uic, size_t protect);
 
+/*
+ * Bodies
+ *
+ * The calls that move a file's bytes, one block in each call. A place is that of a block in its file, counted from 0:
+ * a file has the places below its length, and one with no block has none. It is not the block's number in the pack.
+ * The file must be open as the call says, whoever opened it, and it stays so; the caller's right is judged in each call
+ * anew. A buffer is exactly of the size that is named.
+ */
+
+/*
+ * BLOCK input: reads a block of a contiguous file. The buffer gets its 512 bytes; the image stays as it is. The file
+ * must have a reader or be open for update.
+ *   ABZ_INCONSISTENT
+ *   ABZ_NAME          the name or the extension is not legal;
+ *   ABZ_ARGUMENT      buffer_len is not 512;
+ *   ABZ_EXISTENCE     there is no such file;
+ *   ABZ_RIGHT         the caller may not read it;
+ *   ABZ_KIND          it is linked;
+ *   ABZ_NOT_OPEN      it has no reader and is not open for update;
+ *   ABZ_NO_BLOCK      place is its length or more.
+ */
+size_t abz_block_in(const uint8_t *image, size_t image_len, size_t caller,
+                    size_t name1, size_t name2, size_t extension, size_t uic,
+                    size_t place, uint8_t *buffer, size_t buffer_len);
+
+/*
+ * BLOCK output: writes a block of a contiguous file. The block gets the 512 bytes of the buffer, and nothing else in
+ * the image changes, neither the entry nor another block. The file must be open for update; a reader does not serve.
+ *   ABZ_INCONSISTENT
+ *   ABZ_NAME          the name or the extension is not legal;
+ *   ABZ_ARGUMENT      buffer_len is not 512;
+ *   ABZ_EXISTENCE     there is no such file;
+ *   ABZ_RIGHT         the caller may not write to it;
+ *   ABZ_KIND          it is linked;
+ *   ABZ_NOT_OPEN      it is not open for update;
+ *   ABZ_NO_BLOCK      place is its length or more.
+ */
+size_t abz_block_out(uint8_t *image, size_t image_len, size_t caller,
+                     size_t name1, size_t name2, size_t extension, size_t uic,
+                     size_t place, const uint8_t *buffer, size_t buffer_len);
+
+/*
+ * Linked read: reads a block of a linked file. The buffer gets the 510 bytes behind the block's link; the image stays
+ * as it is. The file must have a reader; a writer does not serve, though there may be one too.
+ *   ABZ_INCONSISTENT
+ *   ABZ_NAME          the name or the extension is not legal;
+ *   ABZ_ARGUMENT      buffer_len is not 510;
+ *   ABZ_EXISTENCE     there is no such file;
+ *   ABZ_RIGHT         the caller may not read it;
+ *   ABZ_KIND          it is contiguous;
+ *   ABZ_NOT_OPEN      it has no reader;
+ *   ABZ_NO_BLOCK      place is its length or more.
+ */
+size_t abz_linked_read(const uint8_t *image, size_t image_len, size_t caller,
+                       size_t name1, size_t name2, size_t extension, size_t uic,
+                       size_t place, uint8_t *buffer, size_t buffer_len);
+
 #ifdef __cplusplus
 }
 #endif

@@ -1,24 +1,6 @@
 /* ALLOC and OPENO, held to requests.h; and all requests one after another on packs that so grow and shrink. */
 #include "requests.h"
 
-static const size_t users[] = { ME, GROUP, OTHER };
-
-static abz_answer call_any(uint8_t *pack, size_t length, const request *it)
-{
-    abz_answer answer = { SIZE_MAX, 0 };
-
-    switch (it->what) {
-    case ALLOC: return abz_alloc(pack, length, it->caller, FILE4(it->file), it->protect, it->segments);
-    case OPENO: answer.code = abz_openo(pack, length, it->caller, FILE4(it->file), it->protect); return answer;
-    default: return call_existing(pack, length, it);
-    }
-}
-
-static size_t try_it(const char *name, size_t number, size_t length, request it)
-{
-    return try_request(call_any, name, number, length, &it);
-}
-
 /* A name for each number below 100. */
 static file_key numbered(size_t number, size_t uic)
 {
@@ -118,7 +100,7 @@ static void free_runs(void)
             request it = { .what = ALLOC, .caller = ME, .file = numbered(0, 0), .segments = segments };
             it.protect = pattern % 256;
             memcpy(image, pack, length);
-            try_it("pattern", pattern, length, it);
+            try_request("pattern", pattern, length, it);
         }
     }
 }
@@ -142,10 +124,12 @@ static void causes(void)
                     for (size_t name = 0; name < COUNT(names); name++)
                         for (size_t p = 0; p < COUNT(protects); p++)
                             for (size_t s = 0; s < COUNT(segments); s++) {
-                                request it = { what, uics[caller], names[name], names[0], protects[p], segments[s], 0 };
+                                request it = { .what = what, .caller = uics[caller], .file = names[name] };
                                 it.file.uic = uics[uic];
+                                it.protect = protects[p];
+                                it.segments = segments[s];
                                 memcpy(image, pack, length);
-                                try_it("state", state, length, it);
+                                try_request("state", state, length, it);
                             }
     }
 }
@@ -165,7 +149,7 @@ static void filling(void)
         request it = { .what = packs[i].what, .caller = ME, .segments = 1 };
         do {
             it.file = numbered(files, 0);
-            code = try_it("filling", i, length, it);
+            code = try_request("filling", i, length, it);
             files += code == 0;
         } while (code == 0 && files < 100);
         CHECK_NUMBER(files, packs[i].files, "filling %zu: files", i);
@@ -176,13 +160,13 @@ static void filling(void)
         for (size_t gone = 2; gone < 5; gone++) {
             request delet = { .what = packs[i].what == OPENO ? CLOSE : DELET, .caller = ME, .mode = 2 };
             delet.file = numbered(gone, ME);
-            try_it("making room", i, length, delet);
+            try_request("making room", i, length, delet);
             delet.what = DELET;
-            try_it("making room", i, length, delet);
+            try_request("making room", i, length, delet);
         }
         it.file = numbered(99, 0);
         it.segments = 5;
-        CHECK_NUMBER(try_it("filling a gap", i, length, it), 0, "filling a gap %zu", i);
+        CHECK_NUMBER(try_request("filling a gap", i, length, it), 0, "filling a gap %zu", i);
         CHECK_NUMBER(find_below(image, numbered(99, ME), files), 2, "filling a gap %zu: entry", i);
     }
 }
@@ -194,9 +178,9 @@ static void huge_everywhere(void)
 
     for (size_t what = ALLOC; what <= OPENO; what++) {
         request it = { .what = what, .caller = ME, .file = numbered(1, ME), .protect = 3, .segments = 9 };
-        huge_numbers(call_any, it, pack, length);
+        huge_numbers(it, pack, length);
         it.file.uic = 0;
-        huge_numbers(call_any, it, pack, length);
+        huge_numbers(it, pack, length);
     }
 }
 
@@ -205,15 +189,15 @@ static void large_packs(void)
     for (size_t pack = 0; pack < 3; pack++) {
         size_t length = chance_pack(image, BLOCKS_MAX - pack, 8, 90);
         for (size_t i = 0; i < 40; i++)
-            try_it("large pack", pack, length, chance_request(ALLOC + i % 2, image));
+            try_request("large pack", pack, length, chance_request(ALLOC + i % 2, image));
     }
 
     /* The largest file there is. */
     size_t length = make_empty(image, BLOCKS_MAX, 1);
     request it = { .what = ALLOC, .caller = ME, .file = numbered(1, 0), .segments = 4 * 1022 + 1 };
-    CHECK_NUMBER(try_it("largest", 1, length, it), 042, "one segment too many");
+    CHECK_NUMBER(try_request("largest", 1, length, it), 042, "one segment too many");
     it.segments--;
-    CHECK_NUMBER(try_it("largest", 0, length, it), 0, "the largest file");
+    CHECK_NUMBER(try_request("largest", 0, length, it), 0, "the largest file");
 }
 
 int main(void)
@@ -223,9 +207,9 @@ int main(void)
     causes();
     filling();
     huge_everywhere();
-    chance_requests(call_any, ALLOC, REQUESTS, 200, 20);
-    chance_requests(call_any, OPENI, REQUESTS, 200, 60);
-    damaged_images(call_any, ALLOC, REQUESTS, 60);
+    chance_requests(ALLOC, REQUESTS, 200, 20);
+    chance_requests(OPENI, REQUESTS, 200, 60);
+    damaged_images(ALLOC, REQUESTS, 60);
     large_packs();
     check_given(ALLOC, REQUESTS);
     return check_end("creating");

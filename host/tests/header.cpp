@@ -22,6 +22,9 @@ size_t abz_delet(uint8_t *, size_t, size_t, size_t, size_t, size_t, size_t);
 size_t abz_keep(uint8_t *, size_t, size_t, size_t, size_t, size_t, size_t);
 size_t abz_renam(uint8_t *, size_t, size_t, size_t, size_t, size_t, size_t, size_t, size_t, size_t, size_t);
 size_t abz_appnd(uint8_t *, size_t, size_t, size_t, size_t, size_t, size_t, size_t, size_t, size_t, size_t);
+size_t abz_block_in(const uint8_t *, size_t, size_t, size_t, size_t, size_t, size_t, size_t, uint8_t *, size_t);
+size_t abz_block_out(uint8_t *, size_t, size_t, size_t, size_t, size_t, size_t, size_t, const uint8_t *, size_t);
+size_t abz_linked_read(const uint8_t *, size_t, size_t, size_t, size_t, size_t, size_t, size_t, uint8_t *, size_t);
 abz_answer abz_alloc(uint8_t *, size_t, size_t, size_t, size_t, size_t, size_t, size_t, size_t);
 size_t abz_openo(uint8_t *, size_t, size_t, size_t, size_t, size_t, size_t, size_t);
 }

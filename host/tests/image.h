@@ -295,6 +295,12 @@ static inline size_t chance(size_t below)
     return (size_t)(state >> 16) % below;
 }
 
+static inline void chance_bytes(uint8_t *bytes, size_t length)
+{
+    for (size_t i = 0; i < length; i++)
+        bytes[i] = (uint8_t)chance(256);
+}
+
 /* Of few names, so that files often have all but one part alike. */
 static inline file_key chance_key(const uint8_t *image)
 {
@@ -315,8 +321,7 @@ static inline size_t chance_pack(uint8_t *image, size_t n, size_t c, size_t file
 {
     size_t uics[UICS_MAX], rest[BLOCKS_MAX], count = 0, next = c + 1, entries = BLOCK_ENTRIES * c;
 
-    for (size_t i = 0; i < BLOCK * n; i++)
-        image[i] = (uint8_t)chance(256);
+    chance_bytes(image, BLOCK * n);
     uics[0] = 65535;
     for (size_t i = 1; i < UICS_MAX; i++)
         uics[i] = 100 * i + chance(100);

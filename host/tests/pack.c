@@ -396,8 +396,7 @@ static void short_images(void)
         call_it("zeros", 0);
         expect_verdict(length, false);
 
-        for (size_t i = 0; i < GUARD + length + GUARD; i++)
-            lent[i] = (uint8_t)chance(256);
+        chance_bytes(lent, GUARD + length + GUARD);
         call_it("random bytes", 0);
         expect_verdict(length, false);
 

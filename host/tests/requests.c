@@ -1,13 +1,6 @@
 /* OPENI, OPENU, OPENE, CLOSE, DELET, KEEP, RENAM and APPND, held to requests.h. */
 #include "requests.h"
 
-static const size_t users[] = { ME, GROUP, OTHER };
-
-static size_t try_it(const char *name, size_t number, size_t length, request it)
-{
-    return try_request(call_existing, name, number, length, &it);
-}
-
 /* The header's names for the codes. */
 static void header_codes(void)
 {
@@ -23,23 +16,6 @@ static void header_codes(void)
 
     for (size_t i = 0; i < COUNT(codes); i++)
         CHECK_NUMBER(codes[i].named, codes[i].number, "header code %zu", i);
-}
-
-/* A contiguous file and linked ones of 0, 1 and 3 blocks, closed, with protect code 0; and a linked one of OTHER. */
-enum { EXTENT, EMPTY, ONE, THREE, OTHERS, FILES };
-
-static size_t make_closed(uint8_t *pack)
-{
-    static const size_t one[] = { 6 }, three[] = { 9, 7, 12 }, two[] = { 15, 5 };
-
-    memset(pack, 0xFF, BLOCK * 16);
-    size_t length = make_pack(pack, 16, 1, users, COUNT(users));
-    put_contiguous(pack, EXTENT, key_of("FREQ  ", "DAT", ME), 2, 3);
-    put_linked(pack, EMPTY, key_of("B     ", "DAT", ME), NULL, 0);
-    put_linked(pack, ONE, key_of("ABC   ", "   ", ME), one, 1);
-    put_linked(pack, THREE, key_of("ABCDEF", "999", ME), three, 3);
-    put_linked(pack, OTHERS, key_of("ABC   ", "   ", OTHER), two, 2);
-    return length;
 }
 
 /* Written out: document 01's examples and what is easily got wrong, with no model between. */
@@ -122,7 +98,7 @@ static void states(void)
     const size_t length = make_closed(pack);
     request it = { .mode = 4, .protect = 0201, .second = key_of("ZZZ   ", "   ", ME) };
 
-    for (it.what = 0; it.what < ALLOC; it.what++)
+    for (it.what = 0; it.what < BLOCK_IN; it.what++)
         for (size_t entry = EXTENT; entry <= THREE; entry += THREE - EXTENT)
             for (size_t c = 0; c < COUNT(callers); c++) {
                 it.caller = callers[c];
@@ -133,11 +109,11 @@ static void states(void)
                 for (size_t protect = 0; protect < 256; protect++) {
                     memcpy(image, pack, length);
                     set_field(image, entry, PROTECT, protect);
-                    try_it("protect code", protect, length, it);
+                    try_request("protect code", protect, length, it);
                     if (it.what == APPND) { /* the same for the second file */
                         memcpy(image, pack, length);
                         set_field(image, ONE, PROTECT, protect);
-                        try_it("second file's protect code", protect, length, it);
+                        try_request("second file's protect code", protect, length, it);
                     }
                 }
 
@@ -150,7 +126,7 @@ static void states(void)
                                 memcpy(image, pack, length);
                                 set_field(image, entry, PROTECT, protects[p]);
                                 set_open(image, entry, writer, readers[r]);
-                                try_it("writer", writer, length, it);
+                                try_request("writer", writer, length, it);
                             }
                             it.mode = 4;
                         }
@@ -175,7 +151,7 @@ static void pairs(void)
                         set_field(image, first, READERS, 1);
                     if (open & 2)
                         set_field(image, second, WRITER, second == EXTENT ? 1 : 3);
-                    try_it("pair", FILES * first + second, length, it);
+                    try_request("pair", FILES * first + second, length, it);
                 }
 }
 
@@ -185,11 +161,11 @@ static void huge_everywhere(void)
     const size_t length = make_closed(pack);
 
     set_open(pack, THREE, 3, 7);
-    for (size_t what = 0; what < ALLOC; what++) {
+    for (size_t what = 0; what < BLOCK_IN; what++) {
         request it = { .what = what, .caller = ME, .mode = 4 };
         it.file = entry_key(pack, what == OPENU ? EXTENT : what == CLOSE ? THREE : ONE);
         it.second = what == APPND ? entry_key(pack, OTHERS) : key_of("NEW   ", "   ", ME);
-        huge_numbers(call_existing, it, pack, length);
+        huge_numbers(it, pack, length);
     }
 }
 
@@ -200,8 +176,8 @@ static void large_packs(void)
         size_t length = chance_pack(image, BLOCKS_MAX - pack, 8, 96);
         ease(image);
         for (size_t i = 0; i < 60; i++) {
-            request it = chance_request(i % ALLOC, image);
-            try_it("large pack", pack, length, it);
+            request it = chance_request(i % BLOCK_IN, image);
+            try_request("large pack", pack, length, it);
         }
     }
 }
@@ -213,11 +189,11 @@ int main(void)
     states();
     pairs();
     huge_everywhere();
-    chance_requests(call_existing, OPENI, ALLOC, 400, 40);
-    damaged_images(call_existing, OPENI, ALLOC, 60);
+    chance_requests(OPENI, BLOCK_IN, 400, 40);
+    damaged_images(OPENI, BLOCK_IN, 60);
     large_packs();
     for (size_t i = 0; i < COUNT(joined); i++)
         CHECK_NUMBER(joined[i] > 0, true, "APPND with %zu (1 the first, 2 the second) empty", i);
-    check_given(OPENI, ALLOC);
+    check_given(OPENI, BLOCK_IN);
     return check_end("requests");
 }

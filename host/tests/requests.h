@@ -13,19 +13,27 @@
 #define COUNT(array) (sizeof(array) / sizeof *(array))
 
 enum { GUARD = 16, ROOM = BLOCK * BLOCKS_MAX, CODES = 0100 };
+enum { PAYLOAD = BLOCK - 2, BUFFER_ROOM = 65536 + BLOCK }; /* so that a size can be wrong in its high bits alone */
 enum { ME = 023 * 256 + 010, GROUP = 023 * 256 + 011, OTHER = 012 * 256 + 04 };
 
-/* Creating stands last: those before need a file that is there. */
-enum { OPENI, OPENU, OPENE, CLOSE, DELET, KEEP, RENAM, APPND, ALLOC, OPENO, REQUESTS };
+/* From BLOCK_IN they move bodies and have a buffer, from ALLOC they create; those before need a file that is there. */
+enum {
+    OPENI, OPENU, OPENE, CLOSE, DELET, KEEP, RENAM, APPND,
+    BLOCK_IN, BLOCK_OUT, LINKED_READ,
+    ALLOC, OPENO,
+    REQUESTS
+};
 
-static const char *const request_names[REQUESTS] = { "OPENI", "OPENU", "OPENE", "CLOSE", "DELET",
-                                                     "KEEP",  "RENAM", "APPND", "ALLOC", "OPENO" };
+static const char *const request_names[REQUESTS] = { "OPENI", "OPENU", "OPENE", "CLOSE", "DELET", "KEEP", "RENAM",
+                                                     "APPND", "BLOCK input", "BLOCK output", "linked read",
+                                                     "ALLOC", "OPENO" };
 
 /* A request does not look at what it has no use for. second is APPND's second file and RENAM's new name. */
 typedef struct {
     size_t what, caller;
     file_key file, second;
-    size_t protect, segments, mode;
+    size_t protect, segments, mode, place;
+    size_t buffer_len; /* 0 where there is no buffer */
 } request;
 
 /* Among them numbers that are in order in their low 16 or 32 bits, or when multiplied by 4, 32 or 512. */
@@ -40,7 +48,7 @@ static const size_t huge[] = {
 /* "Of several, the first in this table is given." */
 static const size_t table[] = { 040, 015, 041, 013, 2, 6, 5, 043, 4, 014, 045, 044, 3, 012, 042 };
 
-/* What each request can give at all: readings.md, A2 to A5 and A7 to A12. */
+/* What each request can give at all: readings.md, A2 to A5 and A7 to A15. */
 static const size_t possible[REQUESTS][11] = {
     [OPENI] = { 040, 015, 2, 6, 3 },
     [OPENU] = { 040, 015, 2, 6, 043, 4, 3 },
@@ -50,6 +58,9 @@ static const size_t possible[REQUESTS][11] = {
     [KEEP] = { 040, 015, 2, 6 },
     [RENAM] = { 040, 015, 041, 2, 6, 014 },
     [APPND] = { 040, 015, 041, 2, 6, 043, 014 },
+    [BLOCK_IN] = { 040, 015, 041, 2, 6, 043, 045, 044 },
+    [BLOCK_OUT] = { 040, 015, 041, 2, 6, 043, 045, 044 },
+    [LINKED_READ] = { 040, 015, 041, 2, 6, 043, 045, 044 },
     [ALLOC] = { 040, 015, 041, 013, 2, 6, 012, 042 },
     [OPENO] = { 040, 015, 041, 013, 2, 6, 012 },
 };
@@ -142,8 +153,14 @@ static inline void join(uint8_t *image, file first, file second)
     memset(image + 2 * entry_word(second.entry, 0), 0, 2 * ENTRY_WORDS);
 }
 
-/* What a request does to an image and answers. */
-static inline abz_answer model(uint8_t *image, size_t length, const request *it)
+/* Where in the image a block of a file starts. */
+static inline uint8_t *body(uint8_t *image, file it, size_t place)
+{
+    return image + BLOCK * block_at(image, it.entry, place);
+}
+
+/* What a request does to an image and a buffer, and answers. */
+static inline abz_answer model(uint8_t *image, size_t length, uint8_t *buffer, const request *it)
 {
     static block_owner owners[BLOCKS_MAX];
     bool cause[CODES] = { false };
@@ -215,6 +232,27 @@ static inline abz_answer model(uint8_t *image, size_t length, const request *it)
         cause[043] = one.kind == CONTIGUOUS || two.kind == CONTIGUOUS;
         cause[014] = opens(one) > 0 || opens(two) > 0;
         break;
+    case BLOCK_IN:
+        cause[041] = it->buffer_len != BLOCK;
+        cause[6] = may < MAY_READ;
+        cause[043] = one.kind == LINKED;
+        cause[045] = one.readers == 0 && one.writer != 1;
+        cause[044] = it->place >= one.length;
+        break;
+    case BLOCK_OUT:
+        cause[041] = it->buffer_len != BLOCK;
+        cause[6] = may < MAY_WRITE;
+        cause[043] = one.kind == LINKED;
+        cause[045] = one.writer != 1;
+        cause[044] = it->place >= one.length;
+        break;
+    case LINKED_READ:
+        cause[041] = it->buffer_len != PAYLOAD;
+        cause[6] = may < MAY_READ;
+        cause[043] = one.kind == CONTIGUOUS;
+        cause[045] = one.readers == 0;
+        cause[044] = it->place >= one.length;
+        break;
     case ALLOC:
         start = needed ? free_run(image, owners, needed) : 0;
         cause[041] = it->segments == 0 || it->protect > 255;
@@ -256,6 +294,9 @@ static inline abz_answer model(uint8_t *image, size_t length, const request *it)
         set_field(image, one.entry, PROTECT, it->protect);
         break;
     case APPND: join(image, one, two); break;
+    case BLOCK_IN: memcpy(buffer, body(image, one, it->place), BLOCK); break;
+    case BLOCK_OUT: memcpy(body(image, one, it->place), buffer, BLOCK); break;
+    case LINKED_READ: memcpy(buffer, body(image, one, it->place) + 2, PAYLOAD); break;
     case ALLOC:
         put_contiguous(image, empty, key, start, needed);
         set_field(image, empty, PROTECT, it->protect);
@@ -272,12 +313,9 @@ static inline abz_answer model(uint8_t *image, size_t length, const request *it)
 
 /* ---- The library ---- */
 
-typedef abz_answer (*library)(uint8_t *image, size_t length, const request *it);
-
 #define FILE4(key) (key).name1, (key).name2, (key).extension, (key).uic
 
-/* All requests but those that create. */
-static inline abz_answer call_existing(uint8_t *image, size_t length, const request *it)
+static inline abz_answer call_library(uint8_t *image, size_t length, uint8_t *buffer, const request *it)
 {
     const size_t caller = it->caller;
     abz_answer answer = { SIZE_MAX, 0 };
@@ -294,55 +332,79 @@ static inline abz_answer call_existing(uint8_t *image, size_t length, const requ
                                 it->second.extension, it->protect);
         break;
     case APPND: answer.code = abz_appnd(image, length, caller, FILE4(it->file), FILE4(it->second)); break;
+    case BLOCK_IN:
+        answer.code = abz_block_in(image, length, caller, FILE4(it->file), it->place, buffer, it->buffer_len);
+        break;
+    case BLOCK_OUT:
+        answer.code = abz_block_out(image, length, caller, FILE4(it->file), it->place, buffer, it->buffer_len);
+        break;
+    case LINKED_READ:
+        answer.code = abz_linked_read(image, length, caller, FILE4(it->file), it->place, buffer, it->buffer_len);
+        break;
+    case ALLOC: return abz_alloc(image, length, caller, FILE4(it->file), it->protect, it->segments);
+    case OPENO: answer.code = abz_openo(image, length, caller, FILE4(it->file), it->protect); break;
     }
     return answer;
 }
 
 /* ---- Trying a request ---- */
 
-/* The lent slice has guards on both sides and is compared with them. */
+/* A lent slice has guards on both sides and is compared with them. */
 static uint8_t lent[GUARD + ROOM + GUARD], kept[sizeof lent], wanted[sizeof lent];
-static uint8_t *const image = lent + GUARD;
+static uint8_t lent_buffer[GUARD + BUFFER_ROOM + GUARD], kept_buffer[sizeof lent_buffer];
+static uint8_t wanted_buffer[sizeof lent_buffer];
+static uint8_t *const image = lent + GUARD, *const buffer = lent_buffer + GUARD;
 
 /* How often each request gave each code, and APPND joined files that were empty (1 the first, 2 the second). */
 static size_t given[REQUESTS][CODES], joined[4];
 
-/* Whatever the library did, the image is then as it should be. Returns the code that is due. */
-static inline size_t try_request(library call, const char *name, size_t number, size_t length, const request *it)
+/*
+ * The buffer is lent full of random bytes. Whatever the library did, image and buffer are then as they should be.
+ * Returns the code that is due.
+ */
+static inline size_t try_request(const char *name, size_t number, size_t length, request it)
 {
     static block_owner owners[BLOCKS_MAX];
-    const size_t all = GUARD + length + GUARD;
+    const size_t all = GUARD + length + GUARD, all_buffer = GUARD + it.buffer_len + GUARD;
 
+    chance_bytes(lent_buffer, all_buffer);
     memcpy(kept, lent, all);
     memcpy(wanted, lent, all);
+    memcpy(kept_buffer, lent_buffer, all_buffer);
+    memcpy(wanted_buffer, lent_buffer, all_buffer);
 
-    const abz_answer due = model(wanted + GUARD, length, it);
-    const abz_answer answer = call(image, length, it);
+    const abz_answer due = model(wanted + GUARD, length, wanted_buffer + GUARD, &it);
+    const abz_answer answer = call_library(image, length, buffer, &it);
 
 #define CASE                                                                                                 \
     "%s %zu, length %zu: %s for %zu of %zu %zu %zu %zu, second %zu %zu %zu %zu, protect %zu, segments %zu, " \
-    "mode %zu: "
+    "mode %zu, place %zu, buffer of %zu: "
 #define CASE_ARGUMENTS                                                                                            \
-    name, number, length, request_names[it->what], it->caller, FILE4(it->file), FILE4(it->second), it->protect, \
-        it->segments, it->mode
+    name, number, length, request_names[it.what], it.caller, FILE4(it.file), FILE4(it.second), it.protect, \
+        it.segments, it.mode, it.place, it.buffer_len
     CHECK_NUMBER(answer.code, due.code, CASE "code", CASE_ARGUMENTS);
     CHECK_NUMBER(answer.number, due.number, CASE "number", CASE_ARGUMENTS);
-    if (due.code == 0)
+    if (due.code == 0) {
         CHECK_BYTES(lent, wanted, all, CASE "image behind %d guard bytes", CASE_ARGUMENTS, GUARD);
-    else
+        CHECK_BYTES(lent_buffer, wanted_buffer, all_buffer, CASE "buffer behind %d guard bytes", CASE_ARGUMENTS, GUARD);
+    } else {
         CHECK_BYTES(lent, kept, all, CASE "refused, image behind %d guard bytes", CASE_ARGUMENTS, GUARD);
+        CHECK_BYTES(lent_buffer, kept_buffer, all_buffer, CASE "refused, buffer behind %d guard bytes", CASE_ARGUMENTS,
+                    GUARD);
+    }
     if (due.code != 040)
         CHECK_NUMBER(judge(image, length, owners), true, CASE "consistent afterwards", CASE_ARGUMENTS);
 #undef CASE_ARGUMENTS
 #undef CASE
 
-    if (due.code == 0 && it->what == APPND) {
-        file one = file_of(kept + GUARD, meant(it->file, it->caller));
-        file two = file_of(kept + GUARD, meant(it->second, it->caller));
+    if (due.code == 0 && it.what == APPND) {
+        file one = file_of(kept + GUARD, meant(it.file, it.caller));
+        file two = file_of(kept + GUARD, meant(it.second, it.caller));
         joined[(one.length == 0) + 2 * (two.length == 0)]++;
     }
-    given[it->what][due.code]++;
+    given[it.what][due.code]++;
     memcpy(lent, wanted, all);
+    memcpy(lent_buffer, wanted_buffer, all_buffer);
     return due.code;
 }
 
@@ -356,6 +418,27 @@ static inline void check_given(size_t from, size_t end)
         for (size_t code = 0; code < CODES; code++)
             CHECK_NUMBER(given[what][code] > 0, can[code], "%s: whether code %zo was given", request_names[what], code);
     }
+}
+
+/* ---- A pack to try requests on ---- */
+
+static const size_t users[] = { ME, GROUP, OTHER };
+
+/* A contiguous file and linked ones of 0, 1 and 3 blocks, closed, with protect code 0; and a linked one of OTHER. */
+enum { EXTENT, EMPTY, ONE, THREE, OTHERS, FILES };
+
+static inline size_t make_closed(uint8_t *pack)
+{
+    static const size_t one[] = { 6 }, three[] = { 9, 7, 12 }, two[] = { 15, 5 };
+
+    chance_bytes(pack, BLOCK * 16);
+    size_t length = make_pack(pack, 16, 1, users, COUNT(users));
+    put_contiguous(pack, EXTENT, key_of("FREQ  ", "DAT", ME), 2, 3);
+    put_linked(pack, EMPTY, key_of("B     ", "DAT", ME), NULL, 0);
+    put_linked(pack, ONE, key_of("ABC   ", "   ", ME), one, 1);
+    put_linked(pack, THREE, key_of("ABCDEF", "999", ME), three, 3);
+    put_linked(pack, OTHERS, key_of("ABC   ", "   ", OTHER), two, 2);
+    return length;
 }
 
 /* ---- Requests by chance ---- */
@@ -381,14 +464,14 @@ static inline size_t likely_caller(const uint8_t *pack, size_t uic)
 }
 
 /* The numbers of a request, one after another. */
-enum { NUMBERS = 12 };
+enum { NUMBERS = 13 };
 
 static inline size_t *number_of(request *it, size_t i)
 {
     size_t *const numbers[NUMBERS] = { &it->caller,
                                        &it->file.name1, &it->file.name2, &it->file.extension, &it->file.uic,
                                        &it->second.name1, &it->second.name2, &it->second.extension, &it->second.uic,
-                                       &it->protect, &it->segments, &it->mode };
+                                       &it->protect, &it->segments, &it->mode, &it->place };
 
     return numbers[i];
 }
@@ -400,6 +483,17 @@ static inline void spoil(request *it)
                               old ^ 1, chance(65536), old + 65536, 64000,    huge[chance(COUNT(huge))] };
 
     *number = others[chance(COUNT(others))];
+}
+
+/* The size that a request asks of its buffer. */
+static inline size_t right_buffer(size_t what)
+{
+    switch (what) {
+    case BLOCK_IN:
+    case BLOCK_OUT: return BLOCK;
+    case LINKED_READ: return PAYLOAD;
+    default: return 0;
+    }
 }
 
 static inline request chance_request(size_t what, const uint8_t *pack)
@@ -419,6 +513,10 @@ static inline request chance_request(size_t what, const uint8_t *pack)
     it.protect = chance(256);
     it.segments = chance(4) ? 1 + chance(24) : chance(5 * get_word(pack, BLOCKS));
     it.mode = 1 + chance(4);
+    it.place = chance(7);
+    it.buffer_len = right_buffer(what);
+    if (it.buffer_len > 0 && chance(16) == 0)
+        it.buffer_len = chance(2) ? BLOCK + PAYLOAD - it.buffer_len : chance(2 * BLOCK);
     if (it.caller == it.file.uic && chance(2))
         it.file.uic = 0;
     if (it.caller == it.second.uic && chance(2))
@@ -441,7 +539,7 @@ static inline void ease(uint8_t *pack)
 }
 
 /* One request after another on packs made by chance, each from what those before it left. */
-static inline void chance_requests(library call, size_t from, size_t end, size_t packs, size_t times)
+static inline void chance_requests(size_t from, size_t end, size_t packs, size_t times)
 {
     for (size_t pack = 0; pack < packs; pack++) {
         size_t c = 1 + chance(3), n = 16 + chance(64), files = pack % 3 ? 4 + chance(12) : BLOCK_ENTRIES * c;
@@ -450,13 +548,13 @@ static inline void chance_requests(library call, size_t from, size_t end, size_t
             ease(image);
         for (size_t i = 0; i < times; i++) {
             request it = chance_request(from + chance(end - from), image);
-            try_request(call, "pack by chance", pack, length, &it);
+            try_request("pack by chance", pack, length, it);
         }
     }
 }
 
 /* One word of a pack changed, or its length: 40 wherever we judge so, and whatever is asked. */
-static inline void damaged_images(library call, size_t from, size_t end, size_t packs)
+static inline void damaged_images(size_t from, size_t end, size_t packs)
 {
     static uint8_t sound[ROOM];
     size_t refused = 0;
@@ -481,7 +579,7 @@ static inline void damaged_images(library call, size_t from, size_t end, size_t 
                 old = get_word(sound, word);
                 set_word(image, word, chance(2) ? old ^ ((size_t)1 << chance(16)) : chance(65536));
             }
-            refused += try_request(call, "damaged pack", pack, damaged_len, &it) == 040;
+            refused += try_request("damaged pack", pack, damaged_len, it) == 040;
         }
     }
     CHECK_NUMBER(refused > packs * (end - from), true, "damaged packs: %zu refused", refused);
@@ -491,21 +589,21 @@ static inline void damaged_images(library call, size_t from, size_t end, size_t 
         for (size_t what = from; what < end; what++) {
             request it = chance_request(what, sound);
             memcpy(image, sound, BLOCK * 16);
-            CHECK_NUMBER(try_request(call, "short image", what, short_len, &it), 040, "short image of %zu", short_len);
+            CHECK_NUMBER(try_request("short image", what, short_len, it), 040, "short image of %zu", short_len);
         }
 }
 
 /* One number of a right request made huge, two of them, or all; and put 65536 higher. */
-static inline void huge_numbers(library call, request right, const uint8_t *pack, size_t length)
+static inline void huge_numbers(request right, const uint8_t *pack, size_t length)
 {
-#define TRY(it)                                                            \
-    do {                                                                   \
-        memcpy(image, pack, length);                                       \
-        try_request(call, "huge numbers", right.what, length, &(it));      \
+#define TRY(it)                                                 \
+    do {                                                        \
+        memcpy(image, pack, length);                            \
+        try_request("huge numbers", right.what, length, (it));  \
     } while (0)
 
     memcpy(image, pack, length);
-    CHECK_NUMBER(try_request(call, "right request", right.what, length, &right), 0, "%s", request_names[right.what]);
+    CHECK_NUMBER(try_request("right request", right.what, length, right), 0, "%s", request_names[right.what]);
     for (size_t i = 0; i < NUMBERS; i++) {
         request it = right;
         *number_of(&it, i) += 65536;

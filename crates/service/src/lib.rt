@@ -16,12 +16,15 @@ ghost use Rattle.directory.specs.Delet.{delet};
 ghost use Rattle.directory.specs.Keep.{keep};
 ghost use Rattle.directory.specs.Renam.{newKey, renam};
 ghost use Rattle.growth.specs.Appnd.{appnd};
+ghost use Rattle.transfer.specs.Block.{blockIn, blockOut};
+ghost use Rattle.transfer.specs.Linked.{linkedRead};
 use answers::Answer;
 use directory::LookAnswer;
 use opening::Opening;
 use owners::OwnerAnswer;
 use pack::BlockNo;
 use pack::Key;
+use pack::Place;
 use pack::Segments;
 
 #[no_mangle]
@@ -273,6 +276,60 @@ pub extern "C" fn abz_openo(
         caller,
         protect,
     )
+}
+
+#[no_mangle]
+pub extern "C" fn abz_block_in(
+    image: &[u8],
+    caller: usize,
+    name1: usize,
+    name2: usize,
+    extension: usize,
+    uic: usize,
+    place: usize,
+    buffer: &mut [u8],
+) -> usize
+    ensures { λ r. ⌜ r ≡ blockIn (now (image .entry)) (keyOf caller name1 name2 extension uic) caller place (now (buffer .entry)) .code ⌝ }
+    ensures { λ r. ⌜ now (buffer .exit) ≡ blockIn (now (image .entry)) (keyOf caller name1 name2 extension uic) caller place (now (buffer .entry)) .buffer ⌝ }
+{
+    let key = asking::key_of(caller, name1, name2, extension, uic);
+    transfer::block::block_input(image, key, caller, Place(place), buffer)
+}
+
+#[no_mangle]
+pub extern "C" fn abz_block_out(
+    image: &mut [u8],
+    caller: usize,
+    name1: usize,
+    name2: usize,
+    extension: usize,
+    uic: usize,
+    place: usize,
+    buffer: &[u8],
+) -> usize
+    ensures { λ r. ⌜ r ≡ blockOut (now (image .entry)) (keyOf caller name1 name2 extension uic) caller place (now (buffer .entry)) .code ⌝ }
+    ensures { λ r. ⌜ now (image .exit) ≡ blockOut (now (image .entry)) (keyOf caller name1 name2 extension uic) caller place (now (buffer .entry)) .image ⌝ }
+{
+    let key = asking::key_of(caller, name1, name2, extension, uic);
+    transfer::block::block_output(image, key, caller, Place(place), buffer)
+}
+
+#[no_mangle]
+pub extern "C" fn abz_linked_read(
+    image: &[u8],
+    caller: usize,
+    name1: usize,
+    name2: usize,
+    extension: usize,
+    uic: usize,
+    place: usize,
+    buffer: &mut [u8],
+) -> usize
+    ensures { λ r. ⌜ r ≡ linkedRead (now (image .entry)) (keyOf caller name1 name2 extension uic) caller place (now (buffer .entry)) .code ⌝ }
+    ensures { λ r. ⌜ now (buffer .exit) ≡ linkedRead (now (image .entry)) (keyOf caller name1 name2 extension uic) caller place (now (buffer .entry)) .buffer ⌝ }
+{
+    let key = asking::key_of(caller, name1, name2, extension, uic);
+    transfer::linked::linked_read(image, key, caller, Place(place), buffer)
 }
 
 #[no_mangle]
