@@ -19,7 +19,7 @@ use pack::Segments;
 pub struct Blocks(pub usize);
 
 // Where a free run starts, or that there is none.
-enum Run {
+pub enum Run {
     Start(BlockNo),
     Nowhere,
 }
@@ -102,7 +102,7 @@ fn blocks_for(segments: Segments, g: Geometry) -> Blocks
 }
 
 // Downwards, with a count of the free blocks from here on: the first run that is long enough has the highest start.
-fn highest_run(map: &[u8], g: Geometry, count: Blocks) -> Run
+pub fn highest_run(map: &[u8], g: Geometry, count: Blocks) -> Run
     requires { ⌜ (length (now map) ≡ mostBlocks) × (g .blocks ≤ mostBlocks) × (0 < count .0) ⌝ }
     ensures { λ r. ⌜ startIn r ≡ runOn (now (map .entry)) (g .bodies .0) (g .blocks) (count .0) (g .blocks) ⌝ }
 {

@@ -1,5 +1,5 @@
 // Requests that make something: Format here, ALLOC and OPENO in modules of their own.
-mod allocation;
+pub mod allocation;
 mod creating;
 mod output;
 

@@ -41,7 +41,7 @@ linked-kind img g e used other (inr rules) = by (rules .kind)
     by (inl contiguous) = absurd (true-not-false (sym (eq-eqb (entryOf img g e .kind) 1 (contiguous .kind)) ∙ other))
     by (inr linked) = linked .kind
 
-present : (o : Option ℕ) → missing o ≡ false → o ≡ some (orElse 0 o)
+pub present : (o : Option ℕ) → missing o ≡ false → o ≡ some (orElse 0 o)
 present none is = absurd (true-not-false is)
 present (some e) is = refl
 
@@ -53,7 +53,7 @@ pub record Asked (img : List ℕ) (key : Key) : Type 0 where
   pub keyed : Keyed key (entryOf img (geometryOf img) (entryNo img key))
   pub linked : entryOf img (geometryOf img) (entryNo img key) .kind ≡ 2
 
-asked : {img : List ℕ} (key : Key) → Consistent img → legalKey key ≡ true → missing (found img key) ≡ false → eqb (fileOf img key .kind) 1 ≡ false → Asked img key
+pub asked : {img : List ℕ} (key : Key) → Consistent img → legalKey key ≡ true → missing (found img key) ≡ false → eqb (fileOf img key .kind) 1 ≡ false → Asked img key
 unfolding fileOf entryNo
 asked {img} key right legal there kind =
     let is : found img key ≡ some (entryNo img key) = present (found img key) there in

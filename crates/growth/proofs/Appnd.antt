@@ -32,7 +32,7 @@ use Rattle.growth.proofs.Middle.{Joint}
 use Rattle.growth.proofs.Joining.{joining, payload-same}
 use Rattle.growth.proofs.Payloads.{payloads-append, payloads-same}
 
-key-same : (a b : Key) (x : Entry) → Keyed a x → Keyed b x → a ≡ b
+pub key-same : (a b : Key) (x : Entry) → Keyed a x → Keyed b x → a ≡ b
 key-same a b x one two =
     λ i. record {
       name1 = (sym (one .name1) ∙ two .name1) i;

@@ -120,7 +120,7 @@ found-entry : (img : List ℕ) (key : Key) (g : Geometry) (e : ℕ) (x : Entry) 
 unfolding fileOf entryNo
 found-entry img key g e x measures there is = rw there (is ∙ ap (λ (h : Geometry). entryOf img h e) (sym measures))
 
-found-number : (img : List ℕ) (key : Key) (e : ℕ) → found img key ≡ some e → e ≡ entryNo img key
+pub found-number : (img : List ℕ) (key : Key) (e : ℕ) → found img key ≡ some e → e ≡ entryNo img key
 unfolding entryNo
 found-number img key e there = rw there
 

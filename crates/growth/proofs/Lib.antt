@@ -1,4 +1,4 @@
--- The laws of chains joined.
+-- The laws of chains that grow.
 pub mod Judging
 pub mod Deciding
 pub mod Writing
@@ -11,3 +11,9 @@ pub mod Joining
 pub mod Payloads
 pub mod Appnd
 pub mod Owners
+pub mod AddingStage
+pub mod AddingWrites
+pub mod AddingAnswers
+pub mod Enlarged
+pub mod Added
+pub mod AddedOwners

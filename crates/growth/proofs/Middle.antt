@@ -85,7 +85,7 @@ module _ (img : List ℕ) (g : Geometry) (x first size last : ℕ) (sized : Size
   resized-last = entry-set-same (setEntryWord (setEntryWord img g x 6 first) g x 7 size) g x 8 last (omega (arith, twice, entry-room sized x 8 within (omega arith)))
 
 -- a byte behind a link is no byte of a link
-behind-link : (g : Geometry) (b z i k : ℕ) → 2 ≤ i → i < blockBytes g → k < 2 → b * blockBytes g + i ≡ 2 * blockAt g z + k → ⊥
+pub behind-link : (g : Geometry) (b z i k : ℕ) → 2 ≤ i → i < blockBytes g → k < 2 → b * blockBytes g + i ≡ 2 * blockAt g z + k → ⊥
 behind-link g b z i k behind small few is = by (decLt b z) (decLt z b)
   where
     by : Dec (b < z) → Dec (z < b) → ⊥

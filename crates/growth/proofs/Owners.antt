@@ -31,7 +31,7 @@ nowhere : (b : ℕ) (xs ys : List ℕ) → count b xs ≡ 0 → count b ys ≡ 0
 nowhere b xs ys none none₂ = place-none b 0 xs .1 none ∙ sym (place-none b 0 ys .1 none₂)
 
 -- what `HeldAt` says, at measures that are those of the image
-held-of : (img : List ℕ) (g : Geometry) (e p b : ℕ) → g ≡ geometryOf img → e < slots g → p < length (blocksAt img g e) → getD (blocksAt img g e) p 0 ≡ b → HeldAt img e p b
+pub held-of : (img : List ℕ) (g : Geometry) (e p b : ℕ) → g ≡ geometryOf img → e < slots g → p < length (blocksAt img g e) → getD (blocksAt img g e) p 0 ≡ b → HeldAt img e p b
 held-of img g e p b stated within inside is =
     record {
       entry = subst (λ (h : Geometry). e < slots h) stated within;

@@ -20,7 +20,7 @@ payloads-append img g (b ∷ xs) ys =
     ∙ sym (append-assoc (take (payloadBytes g) (drop (b * blockBytes g + 2) img)) (payloadsOf img g xs) (payloadsOf img g ys))
 
 -- a run of bytes that are the same
-run-same : (img img′ : List ℕ) (from size : ℕ) → length img′ ≡ length img → ((i : ℕ) → i < size → getD img′ (from + i) 0 ≡ getD img (from + i) 0)
+pub run-same : (img img′ : List ℕ) (from size : ℕ) → length img′ ≡ length img → ((i : ℕ) → i < size → getD img′ (from + i) 0 ≡ getD img (from + i) 0)
     → take size (drop from img′) ≡ take size (drop from img)
 run-same img img′ from size long same =
     ext-getD 0 (take size (drop from img′)) (take size (drop from img)) lengths (λ i inside. at i (omega (arith, inside, few)))

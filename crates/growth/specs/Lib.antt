@@ -1,4 +1,5 @@
--- Chains joined.
+-- Chains that grow.
 pub mod Appnd
+pub mod Adding
 pub mod Stages
 pub mod Payload

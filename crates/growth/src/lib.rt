@@ -1,4 +1,6 @@
-// Chains joined: APPND.
+// Chains that grow: APPND here, linked add in a module of its own.
+pub mod adding;
+
 ghost use mathlib.Core.Path.{_≡_};
 ghost use Prim.Native.Nat.{_≤_, _<_};
 ghost use Rattle.words.specs.Word.{setWord};

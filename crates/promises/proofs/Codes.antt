@@ -1,99 +1,370 @@
--- Each code is given exactly in its case.
-use Prim.Native.Nat.{ℕ, _<_}
+-- Each request gives each code exactly in its case.
+use Prim.Native.Nat.{ℕ, _≤_, _<_}
 use mathlib.Core.Path.{_≡_, refl, sym, ap, subst, _∙_}
-use mathlib.Core.Logic.{_↔_}
-use mathlib.Core.Bool.{Bool, true, false, not}
+use mathlib.Core.Logic.{_↔_, _⊎_, inl, inr, ⊎-elim}
+use mathlib.Core.Bool.{Bool, true, false, not, _&&_, _||_}
 use mathlib.Core.List.{List, [], _∷_, _++_, append-nil}
 use mathlib.Core.Option.{Option, none, some}
 use native.Mathlib.Omega.{arith}
-use native.Mathlib.Decide.{ℕ-discrete}
-use lib.Dec.{eqb}
-use borrow.Author.Tests.{eq-eqb, ne-eqb}
-use Rattle.answers.specs.Refusals.{Row, row, firstOf, onSuccess}
+use native.Mathlib.Decide.{decLt}
+use lib.Dec.{eqb, leb, ltb}
+use lib.ListN.{length}
+use borrow.Author.Tests.{not-true, not-false, eqb-true, eqb-false, ltb-true, lt-ltb, leb-true, le-leb, eq-eqb}
+use Rattle.answers.specs.Refusals.{Row, row, firstOf}
+use Rattle.answers.specs.Conversion.{missing}
 use Rattle.answers.proofs.Refusals.{clear}
 use Rattle.pack.specs.declared.Key.{Key}
-use Rattle.pack.specs.declared.Entry.{Entry}
-use Rattle.pack.specs.Geometry.{geometryOf}
-use Rattle.pack.specs.Entry.{entryOf}
 use Rattle.pack.specs.Consistent.{Consistent}
-use Rattle.pack.proofs.Tests.{true-not-false}
+use Rattle.pack.specs.Test.{listed}
+use Rattle.pack.specs.Geometry.{geometryOf, blockBytes, payloadBytes}
+use Rattle.pack.specs.declared.Entry.{Entry}
+use Rattle.pack.specs.Owner.{FreeBlock}
+use Rattle.pack.proofs.Headers.{listed-iff, header-sized}
+use Rattle.pack.proofs.Tests.{true-not-false, and-left, and-right, and-both}
 use Rattle.consistency.specs.Test.{consistent}
 use Rattle.consistency.proofs.Consistent.{consistent-iff}
+use Rattle.asking.specs.declared.Right.{Right}
 use Rattle.asking.specs.Keys.{legalKey, found}
-use Rattle.asking.specs.Asked.{fileRows, fileOf, entryNo}
+use Rattle.asking.specs.Asked.{fileRows, fileOf}
 use Rattle.asking.specs.Outcome.{settled}
+use Rattle.asking.specs.Rights.{may, May}
 use Rattle.asking.proofs.Keys.{legal-iff, found-iff, absent-iff}
-use Rattle.asking.specs.declared.Right.the-variants.{Delete}
-use Rattle.asking.specs.Rights.{may}
-use Rattle.asking.specs.Opens.{isOpen}
 use Rattle.asking.proofs.Rights.{may-iff}
 use Rattle.asking.proofs.Opens.{open-iff}
 use Rattle.directory.specs.Look.{look, lookRows}
 use Rattle.directory.specs.Delet.{delet, deletRows}
 use Rattle.directory.specs.Keep.{keep, keepRows}
-use Rattle.promises.specs.Codes.{Legal, Exists, FileCode, image, name, argument, absent, own, LookCode, DeletOwn, denied, busy, done, DeletCode, KeepOwn, another, owner, KeepCode}
+use Rattle.directory.specs.Renam.{renam, renamRows}
+use Rattle.growth.specs.Appnd.{sameKey, appnd, appndRows}
+use Rattle.growth.specs.Adding.{linkedAdd, linkedAddRows}
+use Rattle.transfer.specs.Block.{blockIn, blockInRows, blockOut, blockOutRows}
+use Rattle.transfer.specs.Linked.{linkedRead, linkedReadRows}
+use Rattle.creation.specs.Creating.{creatingRows, lowestEmpty}
+use Rattle.creation.specs.Openo.{openo}
+use Rattle.creation.specs.Alloc.{alloc, allocRows, highestRun, lengthFor}
+use Rattle.creation.specs.Choice.{FreeRun}
+use Rattle.creation.proofs.Rounding.{blocks-some}
+use Rattle.creation.proofs.Lowest.{empty-none}
+use Rattle.creation.proofs.Highest.{run-none}
+use Rattle.promises.specs.Codes.{Rung, here, behind, Success, Legal, Exists, Lacking, FileCode, LookCode, DeletCode, KeepCode, RenamCode, AppndCode, Full, CreatingCode, OpenoCode, AllocCode, OtherBlock, OtherPayload, PlaceCode, BlockInCode, BlockOutCode, LinkedReadCode, LinkedAddCode}
 
 -- a test that fails denies what it decides
-pub fails : {A : Type 0} (b : Bool) → (b ≡ true ↔ A) → b ≡ false → A → ⊥
+fails : {A : Type 0} (b : Bool) → (b ≡ true ↔ A) → b ≡ false → A → ⊥
 fails b iff is a = true-not-false (sym (iff .1 a) ∙ is)
 
-pub legal-both : (key : Key) → legalKey key ≡ true ↔ Legal key
+legal-both : (key : Key) → legalKey key ≡ true ↔ Legal key
 legal-both key =
     (λ t. let l = legal-iff key .0 t in record { name = l .0; extension = l .1 }, λ l. legal-iff key .1 (l .name, l .extension))
 
-file-is : (img : List ℕ) (key : Key) (e : ℕ) → found img key ≡ some e → fileOf img key ≡ entryOf img (geometryOf img) e
-unfolding fileOf entryNo
-file-is img key e is = rw is
+-- a row whose test decides its proposition
+rung : (b : Bool) {Given : Type 0} {Behind : ℕ → Type 0} (code : ℕ) (rows : List Row) → b ≡ true ↔ Given → (b ≡ false → Behind (firstOf rows))
+    → Rung Given code Behind (firstOf (row b code ∷ rows))
+unfolding firstOf
+rung true code rows iff rest = here (iff .0 refl)
+rung false code rows iff rest = behind (fails false iff refl) (rest refl)
 
-module _ (img : List ℕ) (key : Key) (wrong : Bool) (Wrong : Type 0) (decides : wrong ≡ true ↔ Wrong) (more : List Row) (Own : Entry → ℕ → Type 0)
-    (rest : Consistent img → Own (fileOf img key) (firstOf more)) where
-  by : (c l w : Bool) (o : Option ℕ) → consistent img ≡ c → legalKey key ≡ l → wrong ≡ w → found img key ≡ o
-      → FileCode img key Wrong Own (firstOf (fileRows img key wrong ++ more))
-  unfolding fileRows firstOf
-  by false l w o c-is l-is w-is o-is = rw c-is (image (fails (consistent img) (consistent-iff img) c-is))
-  by true false w o c-is l-is w-is o-is = rw (c-is, l-is) (name (consistent-iff img .0 c-is) (fails (legalKey key) (legal-both key) l-is))
-  by true true true o c-is l-is w-is o-is = rw (c-is, l-is, w-is) (argument (consistent-iff img .0 c-is) (legal-both key .0 l-is) (decides .0 w-is))
-  by true true false none c-is l-is w-is o-is =
-      rw (c-is, l-is, w-is, o-is)
-      (absent (consistent-iff img .0 c-is) (legal-both key .0 l-is) (fails wrong decides w-is)
-      (λ there. absent-iff (consistent-iff img .0 c-is) key l-is .0 o-is (there .entry) (there .inside) (there .keyed)))
-  by true true false (some e) c-is l-is w-is o-is =
-      let right = consistent-iff img .0 c-is in
-      let at = found-iff right key l-is e .0 o-is in
-      rw (c-is, l-is, w-is, o-is)
-      (own right (legal-both key .0 l-is) (fails wrong decides w-is) (record { entry = e; inside = at .0; keyed = at .1 }) (subst (λ (x : Entry). Own x (firstOf more)) (file-is img key e o-is) (rest right)))
+-- what is given has one code
+abbrev One : (ℕ → Type 0) → Type 0
+One Code = (a b : ℕ) → Code a → Code b → a ≡ b
 
-  pub file-code : FileCode img key Wrong Own (firstOf (fileRows img key wrong ++ more))
-  file-code = by (consistent img) (legalKey key) wrong (found img key) refl refl refl refl
+rung-one : {Given : Type 0} {code : ℕ} {Behind : ℕ → Type 0} → One Behind → One (Rung Given code Behind)
+rung-one one a b (here given) (here again) = refl
+rung-one one a b (here given) (behind never x) = absurd (never given)
+rung-one one a b (behind never x) (here given) = absurd (never given)
+rung-one one a b (behind never x) (behind again y) = one a b x y
 
-pub look-code : (img : List ℕ) (key : Key) → LookCode img key (look img key .code)
+success-one : One Success
+success-one a b x y = x ∙ sym y
+
+-- the code given is this one exactly in its case
+exactly : {Code : ℕ → Type 0} {given : ℕ} → One Code → Code given → (code : ℕ) → given ≡ code ↔ Code code
+exactly {Code} {given} one has code = (λ is. subst Code is has, λ other. one given code has other)
+
+-- a row that is given where a test fails
+denies : {A : Type 0} (b : Bool) → (b ≡ true ↔ A) → not b ≡ true ↔ (A → ⊥)
+denies true iff = (λ never. true-not-false (sym never), λ never. absurd (never (iff .0 refl)))
+denies false iff = (λ t. fails false iff refl, λ t. refl)
+
+-- where there is nothing: no entry has the key
+absent-key : {img : List ℕ} → Consistent img → (key : Key) → legalKey key ≡ true → missing (found img key) ≡ true ↔ (Exists img key → ⊥)
+absent-key {img} right key legal = by (found img key) refl
+  where
+    by : (o : Option ℕ) → found img key ≡ o → missing (found img key) ≡ true ↔ (Exists img key → ⊥)
+    by none is =
+        (λ t there. absent-iff right key legal .0 is (there .entry) (there .inside) (there .keyed), λ t. rw is)
+    by (some e) is =
+        let at = found-iff right key legal e .0 is in
+        (λ t. true-not-false (sym (rw is at t)), λ never. absurd (never (record { entry = e; inside = at .0; keyed = at .1 })))
+
+present-key : {img : List ℕ} → Consistent img → (key : Key) → legalKey key ≡ true → not (missing (found img key)) ≡ true ↔ Exists img key
+present-key {img} right key legal = by (found img key) refl
+  where
+    by : (o : Option ℕ) → found img key ≡ o → not (missing (found img key)) ≡ true ↔ Exists img key
+    by none is =
+        (λ t. true-not-false (sym (rw is at t)), λ there. absurd (absent-iff right key legal .0 is (there .entry) (there .inside) (there .keyed)))
+    by (some e) is =
+        let at = found-iff right key legal e .0 is in
+        (λ t. record { entry = e; inside = at .0; keyed = at .1 }, λ there. rw is)
+
+equal-numbers : (a b : ℕ) → eqb a b ≡ true ↔ a ≡ b
+equal-numbers a b = (eqb-true a b, eq-eqb a b)
+
+above : (a b : ℕ) → ltb a b ≡ true ↔ a < b
+above a b = (ltb-true a b, lt-ltb a b)
+
+granted : (right : Right) (caller uic protect : ℕ) → not (may right caller uic protect) ≡ true ↔ (May caller uic protect right → ⊥)
+granted right caller uic protect = denies (may right caller uic protect) (may-iff right caller uic protect)
+
+-- two keys of one name, extension and UIC are one key
+one-key : (a b : Key) → sameKey a b ≡ true ↔ a ≡ b
+unfolding sameKey
+one-key a b = (
+  λ t.
+      let p = and-right (eqb (a .name1) (b .name1)) _ t in
+      let q = and-right (eqb (a .name2) (b .name2)) _ p in
+      let n₁ = eqb-true _ _ (and-left (eqb (a .name1) (b .name1)) _ t) in
+      let n₂ = eqb-true _ _ (and-left (eqb (a .name2) (b .name2)) _ p) in
+      let x = eqb-true _ _ (and-left (eqb (a .extension) (b .extension)) _ q) in
+      let u = eqb-true _ _ (and-right (eqb (a .extension) (b .extension)) _ q) in
+      λ i. record { name1 = n₁ i; name2 = n₂ i; extension = x i; uic = u i },
+  λ is. and-both (eq-eqb _ _ (ap (λ k. k .name1) is)) (and-both (eq-eqb _ _ (ap (λ k. k .name2) is)) (and-both (eq-eqb _ _ (ap (λ k. k .extension) is)) (eq-eqb _ _ (ap (λ k. k .uic) is)))),
+)
+
+judged : (img : List ℕ) → not (consistent img) ≡ true ↔ (Consistent img → ⊥)
+judged img = denies (consistent img) (consistent-iff img)
+
+illegal : (key : Key) → not (legalKey key) ≡ true ↔ (Legal key → ⊥)
+illegal key = denies (legalKey key) (legal-both key)
+
+module _ (img : List ℕ) (key : Key) (wrong : Bool) (Wrong : Type 0) (decides : wrong ≡ true ↔ Wrong) (more : List Row) (Own : ℕ → Type 0)
+    (rest : Consistent img → Own (firstOf more)) where
+  file-code : FileCode img key Wrong Own (firstOf (fileRows img key wrong ++ more))
+  unfolding fileRows
+  file-code =
+      rung _ 0o40 _ (judged img) (λ c.
+      rung _ 0o15 _ (illegal key) (λ l.
+      rung _ 0o41 _ decides (λ w.
+      rung _ 0o2 _ (absent-key (consistent-iff img .0 (not-false _ c)) key (not-false _ l)) (λ f. rest (consistent-iff img .0 (not-false _ c))))))
+
+file-one : {img : List ℕ} {key : Key} {Wrong : Type 0} {Own : ℕ → Type 0} → One Own → One (FileCode img key Wrong Own)
+file-one one = rung-one (rung-one (rung-one (rung-one one)))
+
+-- a request that has no argument of its own
+no-argument : false ≡ true ↔ ⊥
+no-argument = (λ never. true-not-false (sym never), λ never. absurd never)
+
+look-code : (img : List ℕ) (key : Key) → LookCode img key (look img key .code)
 unfolding look lookRows settled
 look-code img key =
     subst (λ (rows : List Row). LookCode img key (firstOf rows)) (append-nil (fileRows img key false))
-    (file-code img key false ⊥ (λ never. true-not-false (sym never), λ never. absurd never) [] (λ x c. c ≡ 0) (λ right. clear))
+    (file-code img key false ⊥ no-argument [] Success (λ right. clear))
 
-delet-own : (caller : ℕ) (x : Entry) → DeletOwn caller x (firstOf (row (not (may Delete caller (x .uic) (x .protect))) 0o6 ∷ (row (isOpen x) 0o14 ∷ [])))
-unfolding firstOf
-delet-own caller x = at (may Delete caller (x .uic) (x .protect)) (isOpen x) refl refl
-  where
-    at : (m o : Bool) → may Delete caller (x .uic) (x .protect) ≡ m → isOpen x ≡ o
-        → DeletOwn caller x (firstOf (row (not (may Delete caller (x .uic) (x .protect))) 0o6 ∷ (row (isOpen x) 0o14 ∷ [])))
-    at false o m-is o-is = rw m-is (denied (fails (may Delete caller (x .uic) (x .protect)) (may-iff Delete caller (x .uic) (x .protect)) m-is))
-    at true true m-is o-is = rw (m-is, o-is) (busy (may-iff Delete caller (x .uic) (x .protect) .0 m-is) (open-iff x .0 o-is))
-    at true false m-is o-is = rw (m-is, o-is) (done (may-iff Delete caller (x .uic) (x .protect) .0 m-is) (fails (isOpen x) (open-iff x) o-is))
+pub look-code-iff : (img : List ℕ) (key : Key) (code : ℕ) → look img key .code ≡ code ↔ LookCode img key code
+look-code-iff img key = exactly (file-one success-one) (look-code img key)
 
-pub delet-code : (img : List ℕ) (key : Key) (caller : ℕ) → DeletCode img key caller (delet img key caller .code)
+delet-code : (img : List ℕ) (key : Key) (caller : ℕ) → DeletCode img key caller (delet img key caller .code)
 unfolding delet deletRows settled
-delet-code img key caller = file-code img key false ⊥ (λ never. true-not-false (sym never), λ never. absurd never) _ (DeletOwn caller) (λ right. delet-own caller (fileOf img key))
+delet-code img key caller =
+    file-code img key false ⊥ no-argument _ _ (λ right. rung _ 0o6 _ (granted _ caller _ _) (λ r. rung _ 0o14 _ (open-iff _) (λ o. clear)))
 
-keep-own : (caller : ℕ) (x : Entry) → KeepOwn caller x (firstOf (row (not (eqb caller (x .uic))) 0o6 ∷ []))
-unfolding firstOf
-keep-own caller x = at (ℕ-discrete caller (x .uic))
-  where
-    at : Dec (caller ≡ x .uic) → KeepOwn caller x (firstOf (row (not (eqb caller (x .uic))) 0o6 ∷ []))
-    at (yes is) = rw (eq-eqb caller (x .uic) is) (owner is)
-    at (no never) = rw (ne-eqb caller (x .uic) never) (another never)
+pub delet-code-iff : (img : List ℕ) (key : Key) (caller code : ℕ) → delet img key caller .code ≡ code ↔ DeletCode img key caller code
+delet-code-iff img key caller = exactly (file-one (rung-one (rung-one success-one))) (delet-code img key caller)
 
-pub keep-code : (img : List ℕ) (key : Key) (caller : ℕ) → KeepCode img key caller (keep img key caller .code)
+keep-code : (img : List ℕ) (key : Key) (caller : ℕ) → KeepCode img key caller (keep img key caller .code)
 unfolding keep keepRows settled
-keep-code img key caller = file-code img key false ⊥ (λ never. true-not-false (sym never), λ never. absurd never) _ (KeepOwn caller) (λ right. keep-own caller (fileOf img key))
+keep-code img key caller =
+    file-code img key false ⊥ no-argument _ _
+    (λ right. rung _ 0o6 _ (denies (eqb caller (fileOf img key .uic)) (equal-numbers caller (fileOf img key .uic))) (λ r. clear))
+
+pub keep-code-iff : (img : List ℕ) (key : Key) (caller code : ℕ) → keep img key caller .code ≡ code ↔ KeepCode img key caller code
+keep-code-iff img key caller = exactly (file-one (rung-one success-one)) (keep-code img key caller)
+
+renam-code : (img : List ℕ) (old new : Key) (protect caller : ℕ) → RenamCode img old new protect caller (renam img old new protect caller .code)
+unfolding renam renamRows settled
+renam-code img old new protect caller =
+    rung _ 0o40 _ (judged img) (λ c.
+    rung _ 0o15 _ (illegal old) (λ l.
+    rung _ 0o15 _ (illegal new) (λ m.
+    rung _ 0o41 _ (above 255 protect) (λ p.
+    rung _ 0o2 _ (absent-key (consistent-iff img .0 (not-false _ c)) old (not-false _ l)) (λ f.
+    rung _ 0o2 _ (present-key (consistent-iff img .0 (not-false _ c)) new (not-false _ m)) (λ g.
+    rung _ 0o6 _ (granted _ caller _ _) (λ r. rung _ 0o14 _ (open-iff _) (λ o. clear))))))))
+
+pub renam-code-iff : (img : List ℕ) (old new : Key) (protect caller code : ℕ) → renam img old new protect caller .code ≡ code ↔ RenamCode img old new protect caller code
+renam-code-iff img old new protect caller =
+    exactly (rung-one (rung-one (rung-one (rung-one (rung-one (rung-one (rung-one (rung-one success-one)))))))) (renam-code img old new protect caller)
+
+appnd-code : (img : List ℕ) (first second : Key) (caller : ℕ) → AppndCode img first second caller (appnd img first second caller .code)
+unfolding appnd appndRows settled
+appnd-code img first second caller =
+    rung _ 0o40 _ (judged img) (λ c.
+    rung _ 0o15 _ (illegal first) (λ l.
+    rung _ 0o15 _ (illegal second) (λ m.
+    rung _ 0o41 _ (one-key first second) (λ p.
+    rung _ 0o2 _ (absent-key (consistent-iff img .0 (not-false _ c)) first (not-false _ l)) (λ f.
+    rung _ 0o2 _ (absent-key (consistent-iff img .0 (not-false _ c)) second (not-false _ m)) (λ g.
+    rung _ 0o6 _ (granted _ caller _ _) (λ r.
+    rung _ 0o6 _ (granted _ caller _ _) (λ s.
+    rung _ 0o43 _ (equal-numbers _ 1) (λ j.
+    rung _ 0o43 _ (equal-numbers _ 1) (λ k. rung _ 0o14 _ (open-iff _) (λ o. rung _ 0o14 _ (open-iff _) (λ q. clear))))))))))))
+
+pub appnd-code-iff : (img : List ℕ) (first second : Key) (caller code : ℕ) → appnd img first second caller .code ≡ code ↔ AppndCode img first second caller code
+appnd-code-iff img first second caller =
+    exactly
+    (rung-one (rung-one (rung-one (rung-one (rung-one (rung-one (rung-one (rung-one (rung-one (rung-one (rung-one (rung-one success-one))))))))))))
+    (appnd-code img first second caller)
+
+-- no entry is empty
+full : (img : List ℕ) → missing (lowestEmpty img) ≡ true ↔ Full img
+full img = by (lowestEmpty img) refl
+  where
+    by : (o : Option ℕ) → lowestEmpty img ≡ o → missing (lowestEmpty img) ≡ true ↔ Full img
+    by none is = (λ t. empty-none img .0 is, λ never. rw is)
+    by (some e) is = (λ t. true-not-false (sym (rw is at t)), λ never. let z : _≡_ {A = Option ℕ} none (some e) = sym (empty-none img .1 never) ∙ is in let w : _≡_ {A = ℕ} 0 1 = cc in absurd (omega arith))
+
+module _ (img : List ℕ) (key : Key) (caller protect : ℕ) (wrong : Bool) (Wrong : Type 0) (decides : wrong ≡ true ↔ Wrong) (more : List Row) (Room : ℕ → Type 0)
+    (rest : Consistent img → wrong ≡ false → Room (firstOf more)) where
+  creating-code : CreatingCode img key caller protect Wrong Room (firstOf (creatingRows img key caller protect wrong ++ more))
+  unfolding creatingRows
+  creating-code =
+      rung _ 0o40 _ (judged img) (λ c.
+      rung _ 0o15 _ (illegal key) (λ l.
+      rung _ 0o41 _ decides (λ w.
+      rung _ 0o41 _ (above 255 protect) (λ p.
+      rung _ 0o13 _ (denies (listed img (key .uic)) (listed-iff img (key .uic))) (λ u.
+      rung _ 0o2 _ (present-key (consistent-iff img .0 (not-false _ c)) key (not-false _ l)) (λ f.
+      rung _ 0o6 _ (denies (eqb (key .uic) caller) (equal-numbers (key .uic) caller)) (λ r.
+      rung _ 0o12 _ (full img) (λ e. rest (consistent-iff img .0 (not-false _ c)) w))))))))
+
+creating-one : {img : List ℕ} {key : Key} {caller protect : ℕ} {Wrong : Type 0} {Room : ℕ → Type 0} → One Room → One (CreatingCode img key caller protect Wrong Room)
+creating-one one = rung-one (rung-one (rung-one (rung-one (rung-one (rung-one (rung-one (rung-one one)))))))
+
+openo-code : (img : List ℕ) (key : Key) (caller protect : ℕ) → OpenoCode img key caller protect (openo img key caller protect .code)
+unfolding openo settled
+openo-code img key caller protect =
+    subst (λ (rows : List Row). OpenoCode img key caller protect (firstOf rows)) (append-nil (creatingRows img key caller protect false))
+    (creating-code img key caller protect false ⊥ no-argument [] Success (λ right none. clear))
+
+pub openo-code-iff : (img : List ℕ) (key : Key) (caller protect code : ℕ) → openo img key caller protect .code ≡ code ↔ OpenoCode img key caller protect code
+openo-code-iff img key caller protect = exactly (creating-one success-one) (openo-code img key caller protect)
+
+-- no run of the length is free
+crowded : {img : List ℕ} → Consistent img → (segments : ℕ) → eqb segments 0 ≡ false
+    → missing (highestRun img (lengthFor img segments)) ≡ true ↔ ((s : ℕ) → FreeRun img (lengthFor img segments) s → ⊥)
+crowded {img} right segments some-segments = by (highestRun img (lengthFor img segments)) refl
+  where
+    positive : 0 < lengthFor img segments
+    positive = blocks-some (geometryOf img) segments (header-sized img (right .header) .some) (omega (arith, eqb-false segments 0 some-segments))
+
+    by : (o : Option ℕ) → highestRun img (lengthFor img segments) ≡ o
+        → missing (highestRun img (lengthFor img segments)) ≡ true ↔ ((s : ℕ) → FreeRun img (lengthFor img segments) s → ⊥)
+    by none is = (λ t. run-none img (lengthFor img segments) positive .0 is, λ never. rw is)
+    by (some s) is = (
+      λ t. true-not-false (sym (rw is at t)),
+      λ never. let z : _≡_ {A = Option ℕ} none (some s) = sym (run-none img (lengthFor img segments) positive .1 never) ∙ is in let w : _≡_ {A = ℕ} 0 1 = cc in absurd (omega arith),
+    )
+
+alloc-code : (img : List ℕ) (key : Key) (caller protect segments : ℕ) → AllocCode img key caller protect segments (alloc img key caller protect segments .code)
+unfolding alloc allocRows settled
+alloc-code img key caller protect segments =
+    creating-code img key caller protect (eqb segments 0) (segments ≡ 0) (equal-numbers segments 0) _ _
+    (λ right w. rung _ 0o42 _ (crowded right segments w) (λ r. clear))
+
+pub alloc-code-iff : (img : List ℕ) (key : Key) (caller protect segments code : ℕ)
+    → alloc img key caller protect segments .code ≡ code ↔ AllocCode img key caller protect segments code
+alloc-code-iff img key caller protect segments = exactly (creating-one (rung-one success-one)) (alloc-code img key caller protect segments)
+
+at-least : (a b : ℕ) → leb a b ≡ true ↔ a ≤ b
+at-least a b = (leb-true a b, le-leb a b)
+
+either : {A B : Type 0} (a b : Bool) → a ≡ true ↔ A → b ≡ true ↔ B → a || b ≡ true ↔ A ⊎ B
+either true b first second = (λ t. inl (first .0 refl), λ x. refl)
+either false true first second = (λ t. inr (second .0 refl), λ x. refl)
+either false false first second = (λ never. true-not-false (sym never), λ x. ⊎-elim (first .1) (second .1) x)
+
+-- the size of a buffer
+sized : (a b : ℕ) → not (eqb a b) ≡ true ↔ (a ≡ b → ⊥)
+sized a b = denies (eqb a b) (equal-numbers a b)
+
+four-one : {A B C D : Type 0} {a b c d : ℕ} → One (Rung A a (Rung B b (Rung C c (Rung D d Success))))
+four-one = rung-one (rung-one (rung-one (rung-one success-one)))
+
+block-in-code : (img : List ℕ) (key : Key) (caller place : ℕ) (buffer : List ℕ) → BlockInCode img key caller place buffer (blockIn img key caller place buffer .code)
+unfolding blockIn blockInRows settled
+block-in-code img key caller place buffer =
+    file-code img key _ _ (sized (length buffer) (blockBytes (geometryOf img))) _ _ (λ right.
+    rung _ 0o6 _ (granted _ caller _ _) (λ r.
+    rung _ 0o43 _ (equal-numbers _ 2) (λ k.
+    rung _ 0o45 _ (denies _ (either (ltb 0 (fileOf img key .readers)) (eqb (fileOf img key .writer) 1) (above 0 _) (equal-numbers _ 1))) (λ o.
+    rung _ 0o44 _ (at-least _ place) (λ p. clear)))))
+
+pub block-in-code-iff : (img : List ℕ) (key : Key) (caller place : ℕ) (buffer : List ℕ) (code : ℕ)
+    → blockIn img key caller place buffer .code ≡ code ↔ BlockInCode img key caller place buffer code
+block-in-code-iff img key caller place buffer = exactly (file-one four-one) (block-in-code img key caller place buffer)
+
+block-out-code : (img : List ℕ) (key : Key) (caller place : ℕ) (buffer : List ℕ) → BlockOutCode img key caller place buffer (blockOut img key caller place buffer .code)
+unfolding blockOut blockOutRows settled
+block-out-code img key caller place buffer =
+    file-code img key _ _ (sized (length buffer) (blockBytes (geometryOf img))) _ _ (λ right.
+    rung _ 0o6 _ (granted _ caller _ _) (λ r.
+    rung _ 0o43 _ (equal-numbers _ 2) (λ k.
+    rung _ 0o45 _ (denies _ (equal-numbers (fileOf img key .writer) 1)) (λ o. rung _ 0o44 _ (at-least _ place) (λ p. clear)))))
+
+pub block-out-code-iff : (img : List ℕ) (key : Key) (caller place : ℕ) (buffer : List ℕ) (code : ℕ)
+    → blockOut img key caller place buffer .code ≡ code ↔ BlockOutCode img key caller place buffer code
+block-out-code-iff img key caller place buffer = exactly (file-one four-one) (block-out-code img key caller place buffer)
+
+-- no reader
+unread : (readers : ℕ) → eqb readers 0 ≡ true ↔ (0 < readers → ⊥)
+unread readers =
+    (λ t more. absurd (omega (arith, eqb-true readers 0 t)), λ never. eq-eqb readers 0 (zero (decLt 0 readers) never))
+  where
+    zero : Dec (0 < readers) → (0 < readers → ⊥) → readers ≡ 0
+    zero (yes more) never = absurd (never more)
+    zero (no few) never = omega (arith, few)
+
+linked-read-code : (img : List ℕ) (key : Key) (caller place : ℕ) (buffer : List ℕ)
+    → LinkedReadCode img key caller place buffer (linkedRead img key caller place buffer .code)
+unfolding linkedRead linkedReadRows settled
+linked-read-code img key caller place buffer =
+    file-code img key _ _ (sized (length buffer) (payloadBytes (geometryOf img))) _ _ (λ right.
+    rung _ 0o6 _ (granted _ caller _ _) (λ r.
+    rung _ 0o43 _ (equal-numbers _ 1) (λ k. rung _ 0o45 _ (unread (fileOf img key .readers)) (λ o. rung _ 0o44 _ (at-least _ place) (λ p. clear)))))
+
+pub linked-read-code-iff : (img : List ℕ) (key : Key) (caller place : ℕ) (buffer : List ℕ) (code : ℕ)
+    → linkedRead img key caller place buffer .code ≡ code ↔ LinkedReadCode img key caller place buffer code
+linked-read-code-iff img key caller place buffer = exactly (file-one four-one) (linked-read-code img key caller place buffer)
+
+-- a run of one block is a block
+run-of-one : (img : List ℕ) → ((s : ℕ) → FreeRun img 1 s → ⊥) ↔ ((b : ℕ) → FreeBlock img b → ⊥)
+run-of-one img = (
+  λ never b free. never b (record { free = λ z low high. subst (FreeBlock img) (let is : b ≡ z = omega arith in is) free }),
+  λ never s run. never s (run .free s (omega arith) (omega arith)),
+)
+
+none-free : (img : List ℕ) → missing (highestRun img 1) ≡ true ↔ ((b : ℕ) → FreeBlock img b → ⊥)
+none-free img = by (highestRun img 1) refl
+  where
+    by : (o : Option ℕ) → highestRun img 1 ≡ o → missing (highestRun img 1) ≡ true ↔ ((b : ℕ) → FreeBlock img b → ⊥)
+    by none is = (λ t. run-of-one img .0 (run-none img 1 (omega arith) .0 is), λ never. rw is)
+    by (some s) is = (
+      λ t. true-not-false (sym (rw is at t)),
+      λ never.
+          let z : _≡_ {A = Option ℕ} none (some s) = sym (run-none img 1 (omega arith) .1 (run-of-one img .1 never)) ∙ is in
+          let w : _≡_ {A = ℕ} 0 1 = cc in
+          absurd (omega arith),
+    )
+
+linked-add-code : (img : List ℕ) (key : Key) (caller : ℕ) (payload : List ℕ) → LinkedAddCode img key caller payload (linkedAdd img key caller payload .code)
+unfolding linkedAdd linkedAddRows settled
+linked-add-code img key caller payload =
+    file-code img key _ _ (sized (length payload) (payloadBytes (geometryOf img))) _ _ (λ right.
+    rung _ 0o6 _ (granted _ caller _ _) (λ r.
+    rung _ 0o43 _ (equal-numbers _ 1) (λ k.
+    rung _ 0o45 _ (denies _ (either (eqb (fileOf img key .writer) 2) (eqb (fileOf img key .writer) 3) (equal-numbers _ 2) (equal-numbers _ 3))) (λ o.
+    rung _ 0o42 _ (none-free img) (λ b. clear)))))
+
+pub linked-add-code-iff : (img : List ℕ) (key : Key) (caller : ℕ) (payload : List ℕ) (code : ℕ)
+    → linkedAdd img key caller payload .code ≡ code ↔ LinkedAddCode img key caller payload code
+linked-add-code-iff img key caller payload =
+    exactly (file-one four-one) (linked-add-code img key caller payload)

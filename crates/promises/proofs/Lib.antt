@@ -6,5 +6,4 @@ pub mod Demands
 pub mod Hollow
 pub mod Codes
 pub mod Pack
-pub mod Ladders
 pub mod Requests

@@ -1,17 +1,35 @@
 -- When each code is given, in the paper's propositions: "What cannot be done is refused with the code that the build document orders first".
-use Prim.Native.Nat.{ℕ, _<_}
+-- The codes of a request stand as in the paper's table, row under row, each a proposition and its code.
+use Prim.Native.Nat.{ℕ, _≤_, _<_}
 use mathlib.Core.Path.{_≡_}
+use mathlib.Core.Logic.{_⊎_}
 use mathlib.Core.List.{List}
+use lib.ListN.{length}
 use Rattle.radix.specs.Names.{LegalName, LegalExtension}
 use Rattle.pack.specs.declared.Key.{Key}
 use Rattle.pack.specs.declared.Entry.{Entry}
-use Rattle.pack.specs.Geometry.{geometryOf, slots}
-use Rattle.pack.specs.Entry.{entryOf}
+use Rattle.pack.specs.Geometry.{geometryOf, slots, blockBytes, payloadBytes}
+use Rattle.pack.specs.Header.{Listed}
+use Rattle.pack.specs.Entry.{entryOf, Empty}
 use Rattle.pack.specs.Consistent.{Consistent}
+use Rattle.pack.specs.Owner.{FreeBlock}
 use Rattle.pack.specs.Untouched.{Keyed}
-use Rattle.asking.specs.declared.Right.the-variants.{Delete}
+use Rattle.asking.specs.declared.Right.{Right}
+use Rattle.asking.specs.declared.Right.the-variants.{Delete, Read, Write}
+use Rattle.asking.specs.Asked.{fileOf}
 use Rattle.asking.specs.Rights.{May}
 use Rattle.asking.specs.Opens.{opens}
+use Rattle.creation.specs.Alloc.{lengthFor}
+use Rattle.creation.specs.Choice.{FreeRun}
+
+-- "Of several, the first in this table is given.": the row holds and its code is given, or it does not and the rows behind it decide
+pub data Rung (Given : Type 0) (code : ℕ) (Behind : ℕ → Type 0) : ℕ → Type 0 where
+  here : Given → Rung Given code Behind code
+  behind : {c : ℕ} → (Given → ⊥) → Behind c → Rung Given code Behind c
+
+-- "Success returns 0"
+abbrev pub Success : ℕ → Type 0
+Success code = code ≡ 0
 
 pub record Legal (key : Key) : Type 0 where
   pub name : LegalName (key .name1) (key .name2)
@@ -23,32 +41,102 @@ pub record Exists (img : List ℕ) (key : Key) : Type 0 where
   pub inside : entry < slots (geometryOf img)
   pub keyed : Keyed key (entryOf img (geometryOf img) entry)
 
--- The codes of a request on a file: first those that all share, then those that are its own, of the file's entry.
-pub data FileCode (img : List ℕ) (key : Key) (Wrong : Type 0) (Own : Entry → ℕ → Type 0) : ℕ → Type 0 where
-  image : (Consistent img → ⊥) → FileCode img key Wrong Own 0o40
-  name : Consistent img → (Legal key → ⊥) → FileCode img key Wrong Own 0o15
-  argument : Consistent img → Legal key → Wrong → FileCode img key Wrong Own 0o41
-  absent : Consistent img → Legal key → (Wrong → ⊥) → (Exists img key → ⊥) → FileCode img key Wrong Own 0o2
-  own : {code : ℕ} → Consistent img → Legal key → (Wrong → ⊥) → (there : Exists img key)
-      → Own (entryOf img (geometryOf img) (there .entry)) code → FileCode img key Wrong Own code
+-- "6: right lacking"
+abbrev pub Lacking : Right → ℕ → Entry → Type 0
+Lacking right caller x = May caller (x .uic) (x .protect) right → ⊥
+
+-- the rows that all requests on a file share; `Wrong` is what can be wrong with an argument, `Own` the codes behind
+abbrev pub FileCode : List ℕ → Key → Type 0 → (ℕ → Type 0) → ℕ → Type 0
+FileCode img key Wrong Own =
+    Rung (Consistent img → ⊥) 0o40 (Rung (Legal key → ⊥) 0o15 (Rung Wrong 0o41 (Rung (Exists img key → ⊥) 0o2 Own)))
 
 -- LOOK has no other code than success
 abbrev pub LookCode : List ℕ → Key → ℕ → Type 0
-LookCode img key code = FileCode img key ⊥ (λ x c. c ≡ 0) code
+LookCode img key = FileCode img key ⊥ Success
 
--- DELET: "6: right lacking", "14: .. a file is open"
-pub data DeletOwn (caller : ℕ) (x : Entry) : ℕ → Type 0 where
-  denied : (May caller (x .uic) (x .protect) Delete → ⊥) → DeletOwn caller x 0o6
-  busy : May caller (x .uic) (x .protect) Delete → 0 < opens x → DeletOwn caller x 0o14
-  done : May caller (x .uic) (x .protect) Delete → (0 < opens x → ⊥) → DeletOwn caller x 0
-
+-- DELET: "14: .. a file is open"
 abbrev pub DeletCode : List ℕ → Key → ℕ → ℕ → Type 0
-DeletCode img key caller code = FileCode img key ⊥ (DeletOwn caller) code
+DeletCode img key caller = FileCode img key ⊥ (Rung (Lacking Delete caller (fileOf img key)) 0o6 (Rung (0 < opens (fileOf img key)) 0o14 Success))
 
 -- KEEP: "owner only"
-pub data KeepOwn (caller : ℕ) (x : Entry) : ℕ → Type 0 where
-  another : (caller ≡ x .uic → ⊥) → KeepOwn caller x 0o6
-  owner : caller ≡ x .uic → KeepOwn caller x 0
-
 abbrev pub KeepCode : List ℕ → Key → ℕ → ℕ → Type 0
-KeepCode img key caller code = FileCode img key ⊥ (KeepOwn caller) code
+KeepCode img key caller = FileCode img key ⊥ (Rung (caller ≡ fileOf img key .uic → ⊥) 0o6 Success)
+
+abbrev pub RenamCode : List ℕ → Key → Key → ℕ → ℕ → ℕ → Type 0
+RenamCode img old new protect caller =
+    Rung (Consistent img → ⊥) 0o40
+    (Rung (Legal old → ⊥) 0o15
+    (Rung (Legal new → ⊥) 0o15
+    (Rung (255 < protect) 0o41
+    (Rung (Exists img old → ⊥) 0o2
+    (Rung (Exists img new) 0o2 (Rung (Lacking Write caller (fileOf img old)) 0o6 (Rung (0 < opens (fileOf img old)) 0o14 Success)))))))
+
+abbrev pub AppndCode : List ℕ → Key → Key → ℕ → ℕ → Type 0
+AppndCode img first second caller =
+    Rung (Consistent img → ⊥) 0o40
+    (Rung (Legal first → ⊥) 0o15
+    (Rung (Legal second → ⊥) 0o15
+    (Rung (first ≡ second) 0o41
+    (Rung (Exists img first → ⊥) 0o2
+    (Rung (Exists img second → ⊥) 0o2
+    (Rung (Lacking Write caller (fileOf img first)) 0o6
+    (Rung (Lacking Delete caller (fileOf img second)) 0o6
+    (Rung (fileOf img first .kind ≡ 1) 0o43
+    (Rung (fileOf img second .kind ≡ 1) 0o43 (Rung (0 < opens (fileOf img first)) 0o14 (Rung (0 < opens (fileOf img second)) 0o14 Success)))))))))))
+
+-- no entry is empty
+abbrev pub Full : List ℕ → Type 0
+Full img = (e : ℕ) → e < slots (geometryOf img) → Empty img (geometryOf img) e → ⊥
+
+-- what creating means; `Wrong` is what else can be wrong with an argument, `Room` the codes behind
+abbrev pub CreatingCode : List ℕ → Key → ℕ → ℕ → Type 0 → (ℕ → Type 0) → ℕ → Type 0
+CreatingCode img key caller protect Wrong Room =
+    Rung (Consistent img → ⊥) 0o40
+    (Rung (Legal key → ⊥) 0o15
+    (Rung Wrong 0o41
+    (Rung (255 < protect) 0o41
+    (Rung (Listed img (key .uic) → ⊥) 0o13
+    (Rung (Exists img key) 0o2 (Rung (key .uic ≡ caller → ⊥) 0o6 (Rung (Full img) 0o12 Room)))))))
+
+abbrev pub OpenoCode : List ℕ → Key → ℕ → ℕ → ℕ → Type 0
+OpenoCode img key caller protect = CreatingCode img key caller protect ⊥ Success
+
+abbrev pub AllocCode : List ℕ → Key → ℕ → ℕ → ℕ → ℕ → Type 0
+AllocCode img key caller protect segments =
+    CreatingCode img key caller protect (segments ≡ 0) (Rung ((s : ℕ) → FreeRun img (lengthFor img segments) s → ⊥) 0o42 Success)
+
+-- "buffer not of the size asked": 512 bytes of a block, 510 of a payload
+abbrev pub OtherBlock : List ℕ → List ℕ → Type 0
+OtherBlock img buffer = length buffer ≡ blockBytes (geometryOf img) → ⊥
+
+abbrev pub OtherPayload : List ℕ → List ℕ → Type 0
+OtherPayload img buffer = length buffer ≡ payloadBytes (geometryOf img) → ⊥
+
+-- "43: .. BLOCK of a linked file; .. linked read .. of a contiguous one": the kind that the request is not for;
+-- "45: not open as the request needs", "44: no such block in the file"
+abbrev pub PlaceCode : Right → ℕ → Type 0 → Entry → ℕ → ℕ → ℕ → Type 0
+PlaceCode right other Open x caller place =
+    Rung (Lacking right caller x) 0o6 (Rung (x .kind ≡ other) 0o43 (Rung (Open → ⊥) 0o45 (Rung (x .length ≤ place) 0o44 Success)))
+
+-- BLOCK: "Input needs read, and besides a reader or writer 1; output needs write and writer 1"
+abbrev pub BlockInCode : List ℕ → Key → ℕ → ℕ → List ℕ → ℕ → Type 0
+BlockInCode img key caller place buffer =
+    FileCode img key (OtherBlock img buffer)
+    (PlaceCode Read 2 ((0 < fileOf img key .readers) ⊎ (fileOf img key .writer ≡ 1)) (fileOf img key) caller place)
+
+abbrev pub BlockOutCode : List ℕ → Key → ℕ → ℕ → List ℕ → ℕ → Type 0
+BlockOutCode img key caller place buffer =
+    FileCode img key (OtherBlock img buffer) (PlaceCode Write 2 (fileOf img key .writer ≡ 1) (fileOf img key) caller place)
+
+-- "Linked read: buffer of 510, read right, a reader."
+abbrev pub LinkedReadCode : List ℕ → Key → ℕ → ℕ → List ℕ → ℕ → Type 0
+LinkedReadCode img key caller place buffer =
+    FileCode img key (OtherPayload img buffer) (PlaceCode Read 1 (0 < fileOf img key .readers) (fileOf img key) caller place)
+
+-- "Linked add: payload of 510, write right, writer 2 or 3"; "42: no free block"
+abbrev pub LinkedAddCode : List ℕ → Key → ℕ → List ℕ → ℕ → Type 0
+LinkedAddCode img key caller payload =
+    FileCode img key (OtherPayload img payload)
+    (Rung (Lacking Write caller (fileOf img key)) 0o6
+    (Rung (fileOf img key .kind ≡ 1) 0o43
+    (Rung ((fileOf img key .writer ≡ 2) ⊎ (fileOf img key .writer ≡ 3) → ⊥) 0o45 (Rung ((b : ℕ) → FreeBlock img b → ⊥) 0o42 Success))))

@@ -3,4 +3,3 @@ pub mod Examples
 pub mod Refused
 pub mod Conversions
 pub mod Codes
-pub mod Ladders

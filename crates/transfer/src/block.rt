@@ -37,8 +37,8 @@ fn write_block(img: &mut [u8], g: Geometry, b: BlockNo, buffer: &[u8])
 {
     let size = 128 * g.segments.0;
     let start = b.0 * size;
-    let end = start + size;
-    words::fill(&mut img[start..end], buffer);
+    let behind = start + size;
+    words::fill(&mut img[start..behind], buffer);
 }
 
 fn is_open_for_input(x: Entry) -> bool

@@ -10,8 +10,8 @@ mul-size c = search needs
 mul-start : tie.Need-mul-start
 mul-start c = omega (arith, room-of _ _ (c .before .before .before .before .args .b .0) (c .before .before .before .before .pre .0) (c .before .before .before .before .pre .1 .0))
 
-add-end : tie.Need-add-end
-add-end c = omega (arith, room-of _ _ (c .before .before .before .before .args .b .0) (c .before .before .before .before .pre .0) (c .before .before .before .before .pre .1 .0))
+add-behind : tie.Need-add-behind
+add-behind c = omega (arith, room-of _ _ (c .before .before .before .before .args .b .0) (c .before .before .before .before .pre .0) (c .before .before .before .before .pre .1 .0))
 
 sub-fill : tie.Need-sub-fill
 sub-fill c = search needs
@@ -37,7 +37,7 @@ write-block-spec =
     (tie.spec
     mul-size
     mul-start
-    add-end
+    add-behind
     sub-fill
     part-fill-start
     part-fill-end
