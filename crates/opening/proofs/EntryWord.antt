@@ -50,13 +50,13 @@ module _ {img : List ℕ} {g : Geometry} {e : ℕ} (stated : g ≡ geometryOf im
   sized = subst (Sized img) (sym stated) (header-sized img (consistent .header))
 
   module _ (i word : ℕ) (low : 9 ≤ i) (high : i ≤ 10) where
-    framed : Framed (Only e) Never img (setEntryWord img g e i word) g
+    pub framed : Framed (Only e) Never img (setEntryWord img g e i word) g
     framed = framed-never (kept-entry-word img e i word refl (sized .contents) within (omega arith))
 
     other-word : (j : ℕ) → (j ≡ i → ⊥) → entryWord (setEntryWord img g e i word) g e j ≡ entryWord img g e j
     other-word = entry-set-other img g e i word
 
-    described : Described img (setEntryWord img g e i word) g e
+    pub described : Described img (setEntryWord img g e i word) g e
     described =
         record {
           file = λ j least most. other-word j (λ is. omega (arith, is));
@@ -64,7 +64,7 @@ module _ {img : List ℕ} {g : Geometry} {e : ℕ} (stated : g ≡ geometryOf im
           next = λ b some. next-unwritten stated consistent framed e within b some _;
         }
 
-    same-file : SameFile (entryOf (setEntryWord img g e i word) g e) (entryOf img g e)
+    pub same-file : SameFile (entryOf (setEntryWord img g e i word) g e) (entryOf img g e)
     unfolding entryOf
     same-file =
         record {
@@ -74,11 +74,11 @@ module _ {img : List ℕ} {g : Geometry} {e : ℕ} (stated : g ≡ geometryOf im
           uic = other-word 3 (λ is. omega (arith, is));
         }
 
-    protect-same : entryOf (setEntryWord img g e i word) g e .protect ≡ entryOf img g e .protect
+    pub protect-same : entryOf (setEntryWord img g e i word) g e .protect ≡ entryOf img g e .protect
     unfolding entryOf
     protect-same = other-word 4 (λ is. omega (arith, is))
 
-    kind-same : entryOf (setEntryWord img g e i word) g e .kind ≡ entryOf img g e .kind
+    pub kind-same : entryOf (setEntryWord img g e i word) g e .kind ≡ entryOf img g e .kind
     unfolding entryOf
     kind-same = other-word 5 (λ is. omega (arith, is))
 
@@ -112,11 +112,11 @@ module _ {img : List ℕ} {g : Geometry} {e : ℕ} (stated : g ≡ geometryOf im
         (λ f inside is. ap (placeFrom b 0) (subst (λ (n : ℕ). blocksAt (setEntryWord img g e i word) g n ≡ blocksAt img g n) (sym is) (described-blocks described)))
 
   module _ (word : ℕ) (used : Used img g e (entryOf img g e)) where
-    writer-new : entryOf (setEntryWord img g e 9 word) g e .writer ≡ word
+    pub writer-new : entryOf (setEntryWord img g e 9 word) g e .writer ≡ word
     unfolding entryOf
     writer-new = entry-set-same img g e 9 word (entry-room sized e 9 within (omega arith))
 
-    readers-kept : entryOf (setEntryWord img g e 9 word) g e .readers ≡ entryOf img g e .readers
+    pub readers-kept : entryOf (setEntryWord img g e 9 word) g e .readers ≡ entryOf img g e .readers
     unfolding entryOf
     readers-kept = entry-set-other img g e 9 word 10 (λ is. omega (arith, is))
 
@@ -124,7 +124,7 @@ module _ {img : List ℕ} {g : Geometry} {e : ℕ} (stated : g ≡ geometryOf im
     consistent-writer rules =
         consistent-word 9 word (omega arith) (omega arith) used (subst₂ (Rules (entryOf img g e .kind)) (sym writer-new) (sym readers-kept) rules)
 
-    readers-new : entryOf (setEntryWord img g e 10 word) g e .readers ≡ word
+    pub readers-new : entryOf (setEntryWord img g e 10 word) g e .readers ≡ word
     unfolding entryOf
     readers-new = entry-set-same img g e 10 word (entry-room sized e 10 within (omega arith))
 

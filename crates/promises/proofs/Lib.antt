@@ -7,3 +7,4 @@ pub mod Hollow
 pub mod Codes
 pub mod Pack
 pub mod Requests
+pub mod Again
