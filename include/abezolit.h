@@ -397,7 +397,8 @@ size_t abz_block_out(uint8_t *image, size_t image_len, size_t caller,
 
 /*
  * Linked read: reads a block of a linked file. The buffer gets the 510 bytes behind the block's link; the image stays
- * as it is. The file must have a reader; a writer does not serve, though there may be one too.
+ * as it is. The file must have a reader; a writer does not serve, though there may be one too, and what linked add puts
+ * at the end of the file is there to be read at once.
  *   ABZ_INCONSISTENT
  *   ABZ_NAME          the name or the extension is not legal;
  *   ABZ_ARGUMENT      buffer_len is not 510;
@@ -410,6 +411,25 @@ size_t abz_block_out(uint8_t *image, size_t image_len, size_t caller,
 size_t abz_linked_read(const uint8_t *image, size_t image_len, size_t caller,
                        size_t name1, size_t name2, size_t extension, size_t uic,
                        size_t place, uint8_t *buffer, size_t buffer_len);
+
+/*
+ * Linked add: puts a block at the end of a linked file. Of the free blocks the highest is taken, and number says which.
+ * Its link becomes 0, and the 510 bytes behind become those of the payload. In the entry the length (word 7) grows by 1
+ * and the last block (word 8) is the new one; the link of the block that was the last leads to it, or word 6 in a file
+ * that had no block. Nothing else changes. The file must be open for output or for extension. One that OPENO made with
+ * bit 6 (0100) in its protect code takes no block from its owner, who may not write to it.
+ *   ABZ_INCONSISTENT
+ *   ABZ_NAME          the name or the extension is not legal;
+ *   ABZ_ARGUMENT      payload_len is not 510;
+ *   ABZ_EXISTENCE     there is no such file;
+ *   ABZ_RIGHT         the caller may not write to it;
+ *   ABZ_KIND          it is contiguous;
+ *   ABZ_NOT_OPEN      it is open neither for output nor for extension;
+ *   ABZ_NO_ROOM       no block is free.
+ */
+abz_answer abz_linked_add(uint8_t *image, size_t image_len, size_t caller,
+                          size_t name1, size_t name2, size_t extension, size_t uic,
+                          const uint8_t *payload, size_t payload_len);
 
 #ifdef __cplusplus
 }

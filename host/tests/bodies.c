@@ -1,7 +1,22 @@
-/* BLOCK input and output and linked read, held to requests.h. */
+/* BLOCK input and output, linked read and add, held to requests.h; and files that grow until there is no room. */
 #include "requests.h"
 
-/* As for a file of that entry, with the buffer that is asked for. */
+/* make_closed's files, of which two are opened: one for BLOCK, one for linked read and add. */
+static size_t make_open(uint8_t *pack)
+{
+    const size_t length = make_closed(pack);
+
+    set_open(pack, EXTENT, 1, 0);
+    set_open(pack, THREE, 3, 1);
+    return length;
+}
+
+static size_t entry_for(size_t what)
+{
+    return what <= BLOCK_OUT ? EXTENT : THREE;
+}
+
+/* On the file of an entry, with the buffer that is asked for. */
 static request request_on(const uint8_t *pack, size_t what, size_t entry, size_t place)
 {
     request it = { .what = what, .caller = ME, .file = entry_key(pack, entry), .place = place };
@@ -10,15 +25,16 @@ static request request_on(const uint8_t *pack, size_t what, size_t entry, size_t
     return it;
 }
 
+#define EXPECT(call, expected) CHECK_NUMBER(call, expected, "example " #call)
+
 /* Written out, with no model between. */
-static void examples(void)
+static void block_examples(void)
 {
     static const file_key bad = { 64000, 0, 0, ME }, absent = { 1600, 0, 0, ME }; /* A */
     static uint8_t pack[BLOCK * 16], bytes[BLOCK], filled[BLOCK];
     const size_t length = make_closed(image);
-    const file_key freq = entry_key(image, EXTENT), none = entry_key(image, EMPTY), three = entry_key(image, THREE);
+    const file_key freq = entry_key(image, EXTENT), three = entry_key(image, THREE);
 
-#define EXPECT(call, expected) CHECK_NUMBER(call, expected, "example " #call)
     memset(filled, 0xE7, BLOCK);
     set_field(image, EXTENT, PROTECT, 3);
 
@@ -52,13 +68,22 @@ static void examples(void)
     EXPECT(abz_block_out(image, length, ME, FILE4(three), 0, filled, BLOCK), 043);
     CHECK_BYTES(image, pack, length, "example: BLOCK refused, image");
     CHECK_BYTES(bytes, image + BLOCK * 2, BLOCK, "example: BLOCK refused, buffer");
+}
 
-    /* Places go by the chain, 9, 7, 12; only a reader serves, whatever writer there is. */
+static void read_examples(void)
+{
+    static const size_t blocks[] = { 9, 7, 12 };
+    static uint8_t bytes[BLOCK], filled[BLOCK];
+    const size_t length = make_closed(image);
+    const file_key freq = entry_key(image, EXTENT), none = entry_key(image, EMPTY), three = entry_key(image, THREE);
+
+    memset(filled, 0xE7, BLOCK);
+
+    /* Places go by the chain; only a reader serves, whatever writer there is. */
     EXPECT(abz_opene(image, length, ME, FILE4(three)), 0);
     EXPECT(abz_linked_read(image, length, ME, FILE4(three), 0, bytes, PAYLOAD), 045);
     EXPECT(abz_openi(image, length, ME, FILE4(three)), 0);
     for (size_t place = 0; place < 3; place++) {
-        static const size_t blocks[] = { 9, 7, 12 };
         memcpy(bytes, filled, BLOCK);
         EXPECT(abz_linked_read(image, length, OTHER, FILE4(three), place, bytes, PAYLOAD), 0);
         CHECK_BYTES(bytes, image + BLOCK * blocks[place] + 2, PAYLOAD, "example: linked read of place %zu", place);
@@ -72,26 +97,82 @@ static void examples(void)
     set_open(image, THREE, 2, 1);
     EXPECT(abz_linked_read(image, length, ME, FILE4(three), 1, bytes, PAYLOAD), 0);
     CHECK_BYTES(bytes, image + BLOCK * 7 + 2, PAYLOAD, "example: linked read of a file open for output too");
-#undef EXPECT
 }
+
+static void expect_add(size_t length, file_key key, const uint8_t *payload, size_t size, size_t code, size_t block)
+{
+    const abz_answer answer = abz_linked_add(image, length, ME, FILE4(key), payload, size);
+
+    CHECK_NUMBER(answer.code, code, "example: linked add of %zu for %zu, code", size, block);
+    CHECK_NUMBER(answer.number, block, "example: linked add of %zu for %zu, block", size, block);
+}
+
+/* Blocks 8, 10, 11, 13 and 14 are free. */
+static void add_examples(void)
+{
+    static uint8_t pack[BLOCK * 16], filled[BLOCK];
+    const size_t length = make_closed(image);
+    const file_key freq = entry_key(image, EXTENT), none = entry_key(image, EMPTY), three = entry_key(image, THREE);
+
+    memset(filled, 0xE7, BLOCK);
+    memcpy(pack, image, length);
+    expect_add(length, none, filled, PAYLOAD, 045, 0);
+    expect_add(length, freq, filled, PAYLOAD, 043, 0);
+    expect_add(length, none, filled, BLOCK, 041, 0);
+    CHECK_BYTES(image, pack, length, "example: linked add refused, image");
+
+    /* To a file that had no block: no link is written into block 0. */
+    set_open(image, EMPTY, 2, 0);
+    memcpy(pack, image, length);
+    set_field(pack, EMPTY, FIRST, 14);
+    set_field(pack, EMPTY, LENGTH, 1);
+    set_field(pack, EMPTY, LAST, 14);
+    memcpy(pack + BLOCK * 14 + 2, filled, PAYLOAD);
+    set_word(pack, BLOCK_WORDS * 14, 0);
+    expect_add(length, none, filled, PAYLOAD, 0, 14);
+    CHECK_BYTES(image, pack, length, "example: linked add, first block");
+
+    /* And on; the link of the last block leads to the new one. */
+    set_field(pack, EMPTY, LENGTH, 2);
+    set_field(pack, EMPTY, LAST, 13);
+    memcpy(pack + BLOCK * 13 + 2, filled, PAYLOAD);
+    set_word(pack, BLOCK_WORDS * 13, 0);
+    set_word(pack, BLOCK_WORDS * 14, 13);
+    expect_add(length, none, filled, PAYLOAD, 0, 13);
+    CHECK_BYTES(image, pack, length, "example: linked add, second block");
+
+    /* The same for extension, with readers, until no block is free; but not where the owner denies himself writing. */
+    set_open(image, THREE, 3, 61);
+    set_field(image, THREE, PROTECT, 0100);
+    expect_add(length, three, filled, PAYLOAD, 6, 0);
+    set_field(image, THREE, PROTECT, 0277);
+    expect_add(length, three, filled, PAYLOAD, 0, 11);
+    EXPECT(get_word(image, BLOCK_WORDS * 12), 11);
+    EXPECT(get_field(image, THREE, FIRST), 9);
+    EXPECT(get_field(image, THREE, READERS), 61);
+    expect_add(length, none, filled, PAYLOAD, 0, 10);
+    expect_add(length, three, filled, PAYLOAD, 0, 8);
+    expect_add(length, three, filled, PAYLOAD, 042, 0);
+    expect_add(length, none, filled, PAYLOAD, 042, 0);
+    EXPECT(get_field(image, THREE, LENGTH), 5);
+    EXPECT(get_field(image, EMPTY, LENGTH), 3);
+}
+#undef EXPECT
 
 /* Every protect code, for the owner, his group and others. */
 static void protect_codes(void)
 {
     static const size_t callers[] = { ME, GROUP, OTHER, 0, ME + 65536, GROUP + 65536, 023 * 256, 022 * 256 + 010 };
     static uint8_t pack[BLOCK * 16];
-    const size_t length = make_closed(pack);
+    const size_t length = make_open(pack);
 
-    set_open(pack, EXTENT, 1, 1);
-    set_open(pack, THREE, 3, 1);
     for (size_t what = BLOCK_IN; what < ALLOC; what++)
         for (size_t c = 0; c < COUNT(callers); c++)
             for (size_t protect = 0; protect < 256; protect++) {
-                request it = request_on(pack, what, what <= BLOCK_OUT ? EXTENT : THREE, 1);
+                request it = request_on(pack, what, entry_for(what), 1);
                 it.caller = callers[c];
                 memcpy(image, pack, length);
-                set_field(image, EXTENT, PROTECT, protect);
-                set_field(image, THREE, PROTECT, protect);
+                set_field(image, entry_for(what), PROTECT, protect);
                 try_request("protect code", protect, length, it);
             }
 }
@@ -111,18 +192,21 @@ static size_t digit(size_t *number, size_t base)
  */
 static void causes(void)
 {
-    static const size_t readers[] = { 0, 1, 61 }, protects[] = { 0, 1, 4, 0100 }, callers[] = { ME, OTHER };
-    static const size_t places[] = { 0, 2, 3, SIZE_MAX }, sizes[] = { BLOCK, PAYLOAD, 0 };
+    static const size_t readers[] = { 0, 1, 61 }, protects[] = { 0, 4, 0100 }, callers[] = { ME, OTHER };
+    static const size_t places[] = { 0, 2, 3 }, sizes[] = { BLOCK, PAYLOAD, 0 };
     const file_key wrong[] = { key_of("A     ", "DAT", ME), { 1600 * 27, 0, 0, ME }, { 1600, 0, 64000, ME } };
-    static uint8_t pack[BLOCK * 16];
+    static const size_t all_free[] = { 8, 10, 11, 13, 14 };
+    static uint8_t pack[BLOCK * 16], full[BLOCK * 16];
     const size_t length = make_closed(pack);
 
+    memcpy(full, pack, length);
+    put_linked(full, FILES, key_of("FULL  ", "   ", OTHER), all_free, COUNT(all_free));
     for (size_t number = 0;; number++) {
         size_t rest = number;
         const size_t entry = digit(&rest, OTHERS), writer = digit(&rest, 4), name = digit(&rest, 1 + COUNT(wrong));
         request it = request_on(pack, BLOCK_IN + digit(&rest, ALLOC - BLOCK_IN), entry, 0);
 
-        memcpy(image, pack, length);
+        memcpy(image, digit(&rest, 2) ? full : pack, length);
         set_open(image, entry, writer, readers[digit(&rest, COUNT(readers))]);
         set_field(image, entry, PROTECT, protects[digit(&rest, COUNT(protects))]);
         if (name < COUNT(wrong))
@@ -141,13 +225,11 @@ static void sizes(void)
 {
     static const size_t more[] = { 65535, 65536, 65535 + PAYLOAD, 65536 + PAYLOAD, 65535 + BLOCK, 65536 + BLOCK };
     static uint8_t pack[BLOCK * 16];
-    const size_t length = make_closed(pack);
+    const size_t length = make_open(pack);
 
-    set_open(pack, EXTENT, 1, 0);
-    set_open(pack, THREE, 3, 1);
     for (size_t what = BLOCK_IN; what < ALLOC; what++)
         for (size_t i = 0; i <= 1024 + COUNT(more); i++) {
-            request it = request_on(pack, what, what <= BLOCK_OUT ? EXTENT : THREE, 0);
+            request it = request_on(pack, what, entry_for(what), 0);
             const size_t size = i <= 1024 ? i : more[i - 1025], code = size == it.buffer_len ? 0 : 041;
             it.buffer_len = size;
             memcpy(image, pack, length);
@@ -165,7 +247,7 @@ static void places(void)
     size_t blocks[16], length;
 
     for (size_t count = 1; count <= 14; count++)
-        for (size_t what = BLOCK_IN; what < ALLOC; what++) {
+        for (size_t what = BLOCK_IN; what <= LINKED_READ; what++) {
             const size_t first = what <= BLOCK_OUT ? 16 - count : 2 + count / 2;
             chance_bytes(image, BLOCK * 16);
             length = make_pack(image, 16, 1, users, COUNT(users));
@@ -215,15 +297,120 @@ static void rewriting(void)
     }
 }
 
+/* Every pattern of held and free blocks in 9 of them, the other 5 held; then added to until none is free. */
+static void free_blocks(void)
+{
+    for (size_t pattern = 0; pattern < 512; pattern++) {
+        size_t length, blocks[16], held = 0, added = 0;
+        chance_bytes(image, BLOCK * 16);
+        length = make_pack(image, 16, 1, users, COUNT(users));
+        for (size_t block = 2; block < 16; block++)
+            if (block >= 11 || pattern >> (block - 2) & 1)
+                blocks[held++] = block;
+        put_linked(image, 9, key_of("HELD  ", "   ", OTHER), blocks, held);
+        put_linked(image, 3, key_of("GROWS ", "   ", ME), NULL, 0);
+        set_open(image, 3, 2 + pattern % 2, 0);
+        while (try_request("pattern", pattern, length, request_on(image, LINKED_ADD, 3, 0)) == 0)
+            added++;
+        CHECK_NUMBER(held + added, 14, "pattern %zu: blocks held and added", pattern);
+    }
+}
+
+/* Closes a file that had that writer, opens it for input, and reads back what was written, place by place. */
+static void read_back(size_t length, size_t entry, size_t writer, uint8_t written[][PAYLOAD], size_t count)
+{
+    request it = request_on(image, CLOSE, entry, 0);
+
+    it.mode = writer;
+    CHECK_NUMBER(try_request("reading back", entry, length, it), 0, "reading back: CLOSE");
+    it.what = OPENI;
+    CHECK_NUMBER(try_request("reading back", entry, length, it), 0, "reading back: OPENI");
+    for (size_t place = 0; place <= count; place++) {
+        it = request_on(image, LINKED_READ, entry, place);
+        CHECK_NUMBER(try_request("reading back", entry, length, it), place < count ? 0 : 044, "place %zu", place);
+        if (place < count)
+            CHECK_BYTES(buffer, written[place], PAYLOAD, "reading back: place %zu", place);
+    }
+    it = request_on(image, CLOSE, entry, 0);
+    it.mode = 4;
+    CHECK_NUMBER(try_request("reading back", entry, length, it), 0, "reading back: CLOSE of input");
+}
+
+/* Two files, one open for output and one for extension, that grow by turns until no block is free. */
+static void growing(void)
+{
+    static const struct {
+        size_t n, c;
+    } packs[] = { { 16, 1 }, { 16, 8 }, { 17, 1 }, { 40, 3 }, { 60, 1 } };
+    static const size_t writers[] = { 2, 3 };
+    static uint8_t written[2][60][PAYLOAD];
+
+    chance_bytes(image, BLOCK * 60);
+    for (size_t i = 0; i < COUNT(packs); i++) {
+        const size_t length = make_pack(image, packs[i].n, packs[i].c, users, COUNT(users));
+        size_t count[2] = { 0, 0 }, code, turn;
+
+        put_linked(image, 0, key_of("A     ", "   ", ME), NULL, 0);
+        put_linked(image, 1, key_of("B     ", "   ", ME), NULL, 0);
+        set_open(image, 0, writers[0], 0);
+        set_open(image, 1, writers[1], 0);
+        do {
+            turn = chance(2);
+            code = try_request("growing", i, length, request_on(image, LINKED_ADD, turn, 0));
+            if (code == 0)
+                memcpy(written[turn][count[turn]++], buffer, PAYLOAD);
+        } while (code == 0);
+        CHECK_NUMBER(code, 042, "growing %zu: code", i);
+        CHECK_NUMBER(count[0] + count[1], packs[i].n - packs[i].c - 1, "growing %zu: blocks", i);
+        for (turn = 0; turn < 2; turn++)
+            read_back(length, turn, writers[turn], written[turn], count[turn]);
+
+        /* When one is deleted its blocks are free, and the other goes on. */
+        try_request("deleting", i, length, request_on(image, DELET, 0, 0));
+        try_request("going on", i, length, request_on(image, OPENE, 1, 0));
+        while (try_request("going on", i, length, request_on(image, LINKED_ADD, 1, 0)) == 0)
+            memcpy(written[1][count[1]++], buffer, PAYLOAD);
+        CHECK_NUMBER(count[1], packs[i].n - packs[i].c - 1, "going on %zu: blocks", i);
+        read_back(length, 1, 3, written[1], count[1]);
+    }
+}
+
+/* The longest file there is. The library alone: beside the model this would take long. */
+static void longest(void)
+{
+    static uint8_t written[BLOCKS_MAX - 2][PAYLOAD], bytes[PAYLOAD];
+    static block_owner owners[BLOCKS_MAX];
+    const file_key key = key_of("LONG  ", "   ", ME);
+    const size_t length = make_pack(image, BLOCKS_MAX, 1, users, COUNT(users));
+
+    CHECK_NUMBER(abz_openo(image, length, ME, FILE4(key), 0), 0, "longest: OPENO");
+    for (size_t place = 0; place <= COUNT(written); place++) {
+        const bool room = place < COUNT(written);
+        chance_bytes(bytes, PAYLOAD);
+        const abz_answer answer = abz_linked_add(image, length, ME, FILE4(key), bytes, PAYLOAD);
+        CHECK_NUMBER(answer.code, room ? 0 : 042, "longest: add %zu, code", place);
+        CHECK_NUMBER(answer.number, room ? BLOCKS_MAX - 1 - place : 0, "longest: add %zu, block", place);
+        if (room)
+            memcpy(written[place], bytes, PAYLOAD);
+    }
+    CHECK_NUMBER(judge(image, length, owners), true, "longest: consistent");
+    CHECK_NUMBER(abz_close(image, length, ME, FILE4(key), 2), 0, "longest: CLOSE");
+    CHECK_NUMBER(abz_openi(image, length, ME, FILE4(key)), 0, "longest: OPENI");
+    for (size_t place = 0; place <= COUNT(written); place++) {
+        const size_t code = abz_linked_read(image, length, ME, FILE4(key), place, bytes, PAYLOAD);
+        const size_t last = place < COUNT(written) ? place : COUNT(written) - 1;
+        CHECK_NUMBER(code, place < COUNT(written) ? 0 : 044, "longest: place %zu, code", place);
+        CHECK_BYTES(bytes, written[last], PAYLOAD, "longest: place %zu", place);
+    }
+}
+
 static void huge_everywhere(void)
 {
     static uint8_t pack[BLOCK * 16];
-    const size_t length = make_closed(pack);
+    const size_t length = make_open(pack);
 
-    set_open(pack, EXTENT, 1, 0);
-    set_open(pack, THREE, 3, 1);
     for (size_t what = BLOCK_IN; what < ALLOC; what++) {
-        request it = request_on(pack, what, what <= BLOCK_OUT ? EXTENT : THREE, 1);
+        request it = request_on(pack, what, entry_for(what), 1);
         huge_numbers(it, pack, length);
         it.file.uic = 0;
         huge_numbers(it, pack, length);
@@ -242,12 +429,17 @@ static void large_packs(void)
 
 int main(void)
 {
-    examples();
+    block_examples();
+    read_examples();
+    add_examples();
     protect_codes();
     causes();
     sizes();
     places();
     rewriting();
+    free_blocks();
+    growing();
+    longest();
     huge_everywhere();
     chance_requests(BLOCK_IN, ALLOC, 300, 40);
     damaged_images(BLOCK_IN, ALLOC, 60);

@@ -25,6 +25,7 @@ size_t abz_appnd(uint8_t *, size_t, size_t, size_t, size_t, size_t, size_t, size
 size_t abz_block_in(const uint8_t *, size_t, size_t, size_t, size_t, size_t, size_t, size_t, uint8_t *, size_t);
 size_t abz_block_out(uint8_t *, size_t, size_t, size_t, size_t, size_t, size_t, size_t, const uint8_t *, size_t);
 size_t abz_linked_read(const uint8_t *, size_t, size_t, size_t, size_t, size_t, size_t, size_t, uint8_t *, size_t);
+abz_answer abz_linked_add(uint8_t *, size_t, size_t, size_t, size_t, size_t, size_t, const uint8_t *, size_t);
 abz_answer abz_alloc(uint8_t *, size_t, size_t, size_t, size_t, size_t, size_t, size_t, size_t);
 size_t abz_openo(uint8_t *, size_t, size_t, size_t, size_t, size_t, size_t, size_t);
 }

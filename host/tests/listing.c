@@ -1,22 +1,19 @@
 /* The listing program, run on packs that are built here word by word, against texts that are written out. */
 #define _POSIX_C_SOURCE 200809L
 
-#include <stdbool.h>
 #include <string.h>
 
 #include "check.h"
+#include "listing.h"
 
 enum {
     BLOCK = 512,
     WORDS = BLOCK / 2,
     ENTRY = 16, /* words of an entry, and entries of a block */
     LONGEST = 65536,
-    ROOM = LONGEST + 3 * BLOCK,
-    TEXT = 8192
+    ROOM = LONGEST + 3 * BLOCK
 };
 
-#define PROGRAM "target/bin/listing"
-#define IMAGE "target/host/listing.image"
 #define REFUSED "REFUSED 40\n"
 
 /* ---- Packs ---- */
@@ -95,31 +92,9 @@ static void set_linked(size_t e, const char *name, size_t owner, size_t protect,
     set_entry(e, name, owner, protect, 2, blocks[0], count, count ? blocks[count - 1] : 0);
 }
 
-/* ---- The program ---- */
-
-static void write_image(void)
-{
-    FILE *file = fopen(IMAGE, "wb");
-
-    CHECK_NUMBER(file && fwrite(image, 1, length, file) == length && fclose(file) == 0, true, "writing " IMAGE);
-}
-
-/* What a command writes is the text, all of it and nothing else, and the command's status is 0. */
-static void try_command(const char *command, const char *text, const char *name)
-{
-    static char got[TEXT + 1];
-    FILE *output = popen(command, "r");
-    size_t count = fread(got, 1, sizeof got, output);
-
-    CHECK_NUMBER(pclose(output), 0, "%s: status", name);
-    CHECK_NUMBER(count, strlen(text), "%s: bytes written", name);
-    CHECK_BYTES((uint8_t *)got, (const uint8_t *)text, count < strlen(text) ? count : strlen(text), "%s: text", name);
-}
-
 static void try_image(const char *text, const char *name)
 {
-    write_image();
-    try_command(PROGRAM " < " IMAGE, text, name);
+    try_listing(image, length, text, name);
 }
 
 /* ---- The tests ---- */
@@ -254,8 +229,8 @@ static void build_largest(size_t blocks, char *text)
 /* From a pipe the image comes in parts: a byte, then the rest in what the pipe can hold. */
 static void largest(void)
 {
-    static const char parts[] = "(head -c 1 " IMAGE "; sleep 0.1; tail -c +2 " IMAGE ") 2>/dev/null | " PROGRAM;
-    static char text[TEXT];
+    static const char parts[] = "(head -c 1 " LISTED "; sleep 0.1; tail -c +2 " LISTED ") 2>/dev/null | " LISTING;
+    static char text[LISTING_ROOM];
 
     build_largest(128, text);
     CHECK_NUMBER(length, LONGEST, "largest: length");
@@ -270,7 +245,7 @@ static void largest(void)
     build_largest(129, text);
     try_image(REFUSED, "a consistent pack of 129 blocks");
     try_command(parts, REFUSED, "a consistent pack of 129 blocks, from a pipe");
-    try_command("cat " IMAGE " " IMAGE " " IMAGE " 2>/dev/null | " PROGRAM, REFUSED, "three packs");
+    try_command("cat " LISTED " " LISTED " " LISTED " 2>/dev/null | " LISTING, REFUSED, "three packs");
 }
 
 int main(void)

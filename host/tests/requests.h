@@ -19,14 +19,14 @@ enum { ME = 023 * 256 + 010, GROUP = 023 * 256 + 011, OTHER = 012 * 256 + 04 };
 /* From BLOCK_IN they move bodies and have a buffer, from ALLOC they create; those before need a file that is there. */
 enum {
     OPENI, OPENU, OPENE, CLOSE, DELET, KEEP, RENAM, APPND,
-    BLOCK_IN, BLOCK_OUT, LINKED_READ,
+    BLOCK_IN, BLOCK_OUT, LINKED_READ, LINKED_ADD,
     ALLOC, OPENO,
     REQUESTS
 };
 
 static const char *const request_names[REQUESTS] = { "OPENI", "OPENU", "OPENE", "CLOSE", "DELET", "KEEP", "RENAM",
                                                      "APPND", "BLOCK input", "BLOCK output", "linked read",
-                                                     "ALLOC", "OPENO" };
+                                                     "linked add", "ALLOC", "OPENO" };
 
 /* A request does not look at what it has no use for. second is APPND's second file and RENAM's new name. */
 typedef struct {
@@ -48,7 +48,7 @@ static const size_t huge[] = {
 /* "Of several, the first in this table is given." */
 static const size_t table[] = { 040, 015, 041, 013, 2, 6, 5, 043, 4, 014, 045, 044, 3, 012, 042 };
 
-/* What each request can give at all: readings.md, A2 to A5 and A7 to A15. */
+/* What each request can give at all: readings.md, A2 to A5 and A7 to A16. */
 static const size_t possible[REQUESTS][11] = {
     [OPENI] = { 040, 015, 2, 6, 3 },
     [OPENU] = { 040, 015, 2, 6, 043, 4, 3 },
@@ -61,6 +61,7 @@ static const size_t possible[REQUESTS][11] = {
     [BLOCK_IN] = { 040, 015, 041, 2, 6, 043, 045, 044 },
     [BLOCK_OUT] = { 040, 015, 041, 2, 6, 043, 045, 044 },
     [LINKED_READ] = { 040, 015, 041, 2, 6, 043, 045, 044 },
+    [LINKED_ADD] = { 040, 015, 041, 2, 6, 043, 045, 042 },
     [ALLOC] = { 040, 015, 041, 013, 2, 6, 012, 042 },
     [OPENO] = { 040, 015, 041, 013, 2, 6, 012 },
 };
@@ -139,17 +140,27 @@ static inline size_t free_run(const uint8_t *image, const block_owner *owners, s
     return 0;
 }
 
-/* All links of the joined chain are set, also those that are right already. */
+/* Gives a file more blocks, behind its own. All links of its chain are set, also those that are right already. */
+static inline void lengthen(uint8_t *image, file it, const size_t *more, size_t count)
+{
+    size_t blocks[BLOCKS_MAX];
+
+    for (size_t place = 0; place < it.length; place++)
+        blocks[place] = block_at(image, it.entry, place);
+    for (size_t i = 0; i < count; i++)
+        blocks[it.length + i] = more[i];
+    put_linked(image, it.entry, entry_key(image, it.entry), blocks, it.length + count);
+    set_field(image, it.entry, PROTECT, it.protect);
+    set_open(image, it.entry, it.writer, it.readers);
+}
+
 static inline void join(uint8_t *image, file first, file second)
 {
-    size_t blocks[BLOCKS_MAX], count = 0;
+    size_t blocks[BLOCKS_MAX];
 
-    for (size_t place = 0; place < first.length; place++)
-        blocks[count++] = block_at(image, first.entry, place);
     for (size_t place = 0; place < second.length; place++)
-        blocks[count++] = block_at(image, second.entry, place);
-    put_linked(image, first.entry, entry_key(image, first.entry), blocks, count);
-    set_field(image, first.entry, PROTECT, first.protect);
+        blocks[place] = block_at(image, second.entry, place);
+    lengthen(image, first, blocks, second.length);
     memset(image + 2 * entry_word(second.entry, 0), 0, 2 * ENTRY_WORDS);
 }
 
@@ -253,6 +264,14 @@ static inline abz_answer model(uint8_t *image, size_t length, uint8_t *buffer, c
         cause[045] = one.readers == 0;
         cause[044] = it->place >= one.length;
         break;
+    case LINKED_ADD:
+        start = free_run(image, owners, 1);
+        cause[041] = it->buffer_len != PAYLOAD;
+        cause[6] = may < MAY_WRITE;
+        cause[043] = one.kind == CONTIGUOUS;
+        cause[045] = one.writer != 2 && one.writer != 3;
+        cause[042] = start == 0;
+        break;
     case ALLOC:
         start = needed ? free_run(image, owners, needed) : 0;
         cause[041] = it->segments == 0 || it->protect > 255;
@@ -297,6 +316,11 @@ static inline abz_answer model(uint8_t *image, size_t length, uint8_t *buffer, c
     case BLOCK_IN: memcpy(buffer, body(image, one, it->place), BLOCK); break;
     case BLOCK_OUT: memcpy(body(image, one, it->place), buffer, BLOCK); break;
     case LINKED_READ: memcpy(buffer, body(image, one, it->place) + 2, PAYLOAD); break;
+    case LINKED_ADD:
+        lengthen(image, one, &start, 1);
+        memcpy(image + BLOCK * start + 2, buffer, PAYLOAD);
+        answer.number = start;
+        break;
     case ALLOC:
         put_contiguous(image, empty, key, start, needed);
         set_field(image, empty, PROTECT, it->protect);
@@ -341,6 +365,7 @@ static inline abz_answer call_library(uint8_t *image, size_t length, uint8_t *bu
     case LINKED_READ:
         answer.code = abz_linked_read(image, length, caller, FILE4(it->file), it->place, buffer, it->buffer_len);
         break;
+    case LINKED_ADD: return abz_linked_add(image, length, caller, FILE4(it->file), buffer, it->buffer_len);
     case ALLOC: return abz_alloc(image, length, caller, FILE4(it->file), it->protect, it->segments);
     case OPENO: answer.code = abz_openo(image, length, caller, FILE4(it->file), it->protect); break;
     }
@@ -491,7 +516,8 @@ static inline size_t right_buffer(size_t what)
     switch (what) {
     case BLOCK_IN:
     case BLOCK_OUT: return BLOCK;
-    case LINKED_READ: return PAYLOAD;
+    case LINKED_READ:
+    case LINKED_ADD: return PAYLOAD;
     default: return 0;
     }
 }

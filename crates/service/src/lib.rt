@@ -16,6 +16,7 @@ ghost use Rattle.directory.specs.Delet.{delet};
 ghost use Rattle.directory.specs.Keep.{keep};
 ghost use Rattle.directory.specs.Renam.{newKey, renam};
 ghost use Rattle.growth.specs.Appnd.{appnd};
+ghost use Rattle.growth.specs.Adding.{linkedAdd};
 ghost use Rattle.transfer.specs.Block.{blockIn, blockOut};
 ghost use Rattle.transfer.specs.Linked.{linkedRead};
 use answers::Answer;
@@ -330,6 +331,24 @@ pub extern "C" fn abz_linked_read(
 {
     let key = asking::key_of(caller, name1, name2, extension, uic);
     transfer::linked::linked_read(image, key, caller, Place(place), buffer)
+}
+
+#[no_mangle]
+pub extern "C" fn abz_linked_add(
+    image: &mut [u8],
+    caller: usize,
+    name1: usize,
+    name2: usize,
+    extension: usize,
+    uic: usize,
+    payload: &[u8],
+) -> Answer
+    ensures { λ r. ⌜ r .code ≡ linkedAdd (now (image .entry)) (keyOf caller name1 name2 extension uic) caller (now (payload .entry)) .code ⌝ }
+    ensures { λ r. ⌜ (r .number ∷ []) ≡ linkedAdd (now (image .entry)) (keyOf caller name1 name2 extension uic) caller (now (payload .entry)) .numbers ⌝ }
+    ensures { λ r. ⌜ now (image .exit) ≡ linkedAdd (now (image .entry)) (keyOf caller name1 name2 extension uic) caller (now (payload .entry)) .image ⌝ }
+{
+    let key = asking::key_of(caller, name1, name2, extension, uic);
+    growth::adding::linked_add(image, key, caller, payload)
 }
 
 #[no_mangle]

@@ -1,0 +1,224 @@
+/*
+ * A station's day, from format to delete. After each call of the library the text of the listing program, and whose
+ * each block is, are what is written out here.
+ */
+#define _POSIX_C_SOURCE 200809L
+
+#include "requests.h"
+
+#include "listing.h"
+
+enum { PACK = BLOCK * 16 };
+
+static uint8_t payloads[6][PAYLOAD], blocks[3][BLOCK];
+
+/* ---- What a step is held to ---- */
+
+/* The part of the day, for the messages, and what was shown last. */
+static const char *part, *whose, *text;
+
+/* A call that is done shows in the listing, unless it is said that it does not; one that is refused never shows. */
+#define DONE(call) CHECK_NUMBER(call, ABZ_OK, "%s: " #call, part)
+#define DONE_UNSEEN(call)   \
+    do {                    \
+        DONE(call);         \
+        shows(whose, text); \
+    } while (0)
+#define REFUSED(call, code)                           \
+    do {                                              \
+        CHECK_NUMBER(call, code, "%s: " #call, part); \
+        shows(whose, text);                           \
+    } while (0)
+
+/* For each block in turn: s for the system's, a point if it is free, or the digit of the entry that holds it. */
+static void shows(const char *new_whose, const char *new_text)
+{
+    whose = new_whose;
+    text = new_text;
+    for (size_t block = 0; block < 16; block++) {
+        const abz_owner_answer owner = abz_owner(image, PACK, block);
+        const size_t letter = owner.kind == ABZ_SYSTEM ? 's' : owner.kind == ABZ_FREE ? '.' : '0' + owner.entry;
+        DONE(owner.code);
+        CHECK_NUMBER(letter, (size_t)whose[block], "%s: whose block %zu is", part, block);
+    }
+    try_listing(image, PACK, text, part);
+}
+
+/* The nine characters of a name and its extension, as a host makes words of them. */
+static file_key named(const char *characters, size_t uic)
+{
+    size_t words[3];
+
+    for (size_t i = 0; i < 3; i++) {
+        const abz_answer word = abz_radpk((const uint8_t *)characters + 3 * i, 3);
+        DONE(word.code);
+        words[i] = word.number;
+    }
+
+    const file_key key = { words[0], words[1], words[2], uic };
+    return key;
+}
+
+static void add(size_t caller, file_key key, uint8_t *payload, size_t block)
+{
+    chance_bytes(payload, PAYLOAD);
+
+    const abz_answer answer = abz_linked_add(image, PACK, caller, FILE4(key), payload, PAYLOAD);
+    DONE(answer.code);
+    CHECK_NUMBER(answer.number, block, "%s: block added", part);
+}
+
+/* ---- The day ---- */
+
+/* An empty pack, and a file that grows; none but its writer can use it before it is closed. */
+static void morning(void)
+{
+    static const uint8_t uics[] = { 010, 023, 04, 012 };
+    const file_key log = named("MORN  LOG", 0);
+
+    chance_bytes(image, PACK);
+    DONE(abz_format(image, PACK, 1, 16, 1, uics, sizeof uics));
+    shows("ss..............", "BLOCKS 00016 FREE 00014\n");
+
+    DONE(abz_openo(image, PACK, ME, FILE4(log), 3));
+    shows("ss..............", "BLOCKS 00016 FREE 00014\n"
+                              "MORN  .LOG L 00000 [023,010] 003\n");
+    add(ME, log, payloads[0], 15);
+    shows("ss.............0", "BLOCKS 00016 FREE 00013\n"
+                              "MORN  .LOG L 00001 [023,010] 003\n");
+    add(ME, log, payloads[1], 14);
+    shows("ss............00", "BLOCKS 00016 FREE 00012\n"
+                              "MORN  .LOG L 00002 [023,010] 003\n");
+    add(ME, log, payloads[2], 13);
+    shows("ss...........000", "BLOCKS 00016 FREE 00011\n"
+                              "MORN  .LOG L 00003 [023,010] 003\n");
+
+    REFUSED(abz_openi(image, PACK, OTHER, FILE4(named("MORN  LOG", ME))), ABZ_EXISTENCE);
+    REFUSED(abz_delet(image, PACK, ME, FILE4(log)), ABZ_OPEN);
+    DONE_UNSEEN(abz_close(image, PACK, ME, FILE4(log), ABZ_OUTPUT));
+    REFUSED(abz_linked_add(image, PACK, ME, FILE4(log), payloads[0], PAYLOAD).code, ABZ_NOT_OPEN);
+}
+
+/* A second one, and a contiguous file that is filled. */
+static void noon(void)
+{
+    const file_key log = named("NOON  LOG", 0), table = named("FREQ  DAT", 0);
+
+    DONE(abz_openo(image, PACK, ME, FILE4(log), 3));
+    shows("ss...........000", "BLOCKS 00016 FREE 00011\n"
+                              "MORN  .LOG L 00003 [023,010] 003\n"
+                              "NOON  .LOG L 00000 [023,010] 003\n");
+    add(ME, log, payloads[3], 12);
+    shows("ss..........1000", "BLOCKS 00016 FREE 00010\n"
+                              "MORN  .LOG L 00003 [023,010] 003\n"
+                              "NOON  .LOG L 00001 [023,010] 003\n");
+    add(ME, log, payloads[4], 11);
+    shows("ss.........11000", "BLOCKS 00016 FREE 00009\n"
+                              "MORN  .LOG L 00003 [023,010] 003\n"
+                              "NOON  .LOG L 00002 [023,010] 003\n");
+    DONE_UNSEEN(abz_close(image, PACK, ME, FILE4(log), ABZ_OUTPUT));
+
+    REFUSED(abz_alloc(image, PACK, ME, FILE4(table), 3, 37).code, ABZ_NO_ROOM);
+    const abz_answer answer = abz_alloc(image, PACK, ME, FILE4(table), 3, 9);
+    DONE(answer.code);
+    CHECK_NUMBER(answer.number, 8, "%s: first block", part);
+    shows("ss......22211000", "BLOCKS 00016 FREE 00006\n"
+                              "MORN  .LOG L 00003 [023,010] 003\n"
+                              "NOON  .LOG L 00002 [023,010] 003\n"
+                              "FREQ  .DAT C 00003 [023,010] 003\n");
+
+    REFUSED(abz_block_out(image, PACK, ME, FILE4(table), 0, blocks[0], BLOCK), ABZ_NOT_OPEN);
+    DONE_UNSEEN(abz_openu(image, PACK, ME, FILE4(table)));
+    for (size_t place = 0; place < 3; place++) {
+        chance_bytes(blocks[place], BLOCK);
+        DONE_UNSEEN(abz_block_out(image, PACK, ME, FILE4(table), place, blocks[place], BLOCK));
+    }
+    REFUSED(abz_block_out(image, PACK, ME, FILE4(table), 3, blocks[0], BLOCK), ABZ_NO_BLOCK);
+    DONE_UNSEEN(abz_close(image, PACK, ME, FILE4(table), ABZ_UPDATE));
+}
+
+/* One log of two, to which another user adds, as its new protect code lets him. */
+static void evening(void)
+{
+    const file_key morn = named("MORN  LOG", 0), noon = named("NOON  LOG", 0), day = named("DAY   LOG", ME);
+
+    DONE(abz_renam(image, PACK, ME, FILE4(morn), day.name1, day.name2, day.extension, 1));
+    shows("ss......22211000", "BLOCKS 00016 FREE 00006\n"
+                              "DAY   .LOG L 00003 [023,010] 001\n"
+                              "NOON  .LOG L 00002 [023,010] 003\n"
+                              "FREQ  .DAT C 00003 [023,010] 003\n");
+
+    REFUSED(abz_appnd(image, PACK, ME, FILE4(morn), FILE4(noon)), ABZ_EXISTENCE);
+    DONE(abz_appnd(image, PACK, ME, FILE4(day), FILE4(noon)));
+    shows("ss......22200000", "BLOCKS 00016 FREE 00006\n"
+                              "DAY   .LOG L 00005 [023,010] 001\n"
+                              "FREQ  .DAT C 00003 [023,010] 003\n");
+
+    DONE_UNSEEN(abz_opene(image, PACK, OTHER, FILE4(day)));
+    add(OTHER, day, payloads[5], 7);
+    shows("ss.....022200000", "BLOCKS 00016 FREE 00005\n"
+                              "DAY   .LOG L 00006 [023,010] 001\n"
+                              "FREQ  .DAT C 00003 [023,010] 003\n");
+    DONE_UNSEEN(abz_close(image, PACK, OTHER, FILE4(day), ABZ_EXTEND));
+}
+
+/* All that was written is read back, by another user. */
+static void reading(void)
+{
+    static uint8_t bytes[BLOCK];
+    const file_key day = named("DAY   LOG", ME), table = named("FREQ  DAT", ME);
+
+    DONE_UNSEEN(abz_openi(image, PACK, OTHER, FILE4(day)));
+    for (size_t place = 0; place < COUNT(payloads); place++) {
+        DONE_UNSEEN(abz_linked_read(image, PACK, OTHER, FILE4(day), place, bytes, PAYLOAD));
+        CHECK_BYTES(bytes, payloads[place], PAYLOAD, "%s: linked read of place %zu", part, place);
+    }
+    REFUSED(abz_linked_read(image, PACK, OTHER, FILE4(day), COUNT(payloads), bytes, PAYLOAD), ABZ_NO_BLOCK);
+
+    DONE_UNSEEN(abz_openi(image, PACK, OTHER, FILE4(table)));
+    for (size_t place = 0; place < COUNT(blocks); place++) {
+        DONE_UNSEEN(abz_block_in(image, PACK, OTHER, FILE4(table), place, bytes, BLOCK));
+        CHECK_BYTES(bytes, blocks[place], BLOCK, "%s: BLOCK input of place %zu", part, place);
+    }
+    REFUSED(abz_block_in(image, PACK, OTHER, FILE4(table), COUNT(blocks), bytes, BLOCK), ABZ_NO_BLOCK);
+    REFUSED(abz_delet(image, PACK, ME, FILE4(day)), ABZ_OPEN);
+
+    DONE_UNSEEN(abz_close(image, PACK, OTHER, FILE4(day), ABZ_INPUT));
+    DONE_UNSEEN(abz_close(image, PACK, OTHER, FILE4(table), ABZ_INPUT));
+}
+
+/* Everything is deleted, by its owner alone; what was written stays in the image. */
+static void night(void)
+{
+    static uint8_t before[PACK];
+    const file_key day = named("DAY   LOG", ME), table = named("FREQ  DAT", ME);
+
+    memcpy(before, image, PACK);
+    REFUSED(abz_delet(image, PACK, OTHER, FILE4(day)), ABZ_RIGHT);
+    DONE(abz_keep(image, PACK, ME, FILE4(table)));
+    shows("ss.....022200000", "BLOCKS 00016 FREE 00005\n"
+                              "DAY   .LOG L 00006 [023,010] 001\n"
+                              "FREQ  .DAT C 00003 [023,010] 203\n");
+    DONE(abz_delet(image, PACK, ME, FILE4(day)));
+    shows("ss......222.....", "BLOCKS 00016 FREE 00011\n"
+                              "FREQ  .DAT C 00003 [023,010] 203\n");
+    DONE(abz_delet(image, PACK, ME, FILE4(table)));
+    shows("ss..............", "BLOCKS 00016 FREE 00014\n");
+    CHECK_BYTES(image + 2 * BLOCK, before + 2 * BLOCK, PACK - 2 * BLOCK, "%s: bodies", part);
+}
+
+int main(void)
+{
+    static const struct {
+        const char *name;
+        void (*part)(void);
+    } day[] = {
+        { "morning", morning }, { "noon", noon }, { "evening", evening }, { "reading", reading }, { "night", night },
+    };
+
+    for (size_t i = 0; i < COUNT(day); i++) {
+        part = day[i].name;
+        day[i].part();
+    }
+    return check_end("day");
+}
