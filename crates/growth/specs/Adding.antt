@@ -41,7 +41,7 @@ linkedAddRows img key caller wrong =
 unfoldable pub blockWith : List ℕ → Geometry → ℕ → List ℕ → List ℕ
 blockWith img g b payload = withPart (setWord img (blockAt g b) 0) (payloadStart g b) payload
 
--- "joined at the end": the link of the last block, or the first block of a file that had none, leads to it; then length and last block.
+-- "joined at the end": the link of the last block leads to it, or, of a file that had none, the entry's first block; then length and last block.
 -- No link is ever written into block 0.
 unfoldable pub added : List ℕ → Geometry → ℕ → Entry → ℕ → List ℕ → List ℕ
 added img g e x b payload =

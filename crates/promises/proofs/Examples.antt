@@ -9,10 +9,15 @@ use Rattle.radix.specs.Conversions.{radpk, radup}
 use Rattle.numerals.specs.Digits.{value, numberOf, digitsOf}
 use Rattle.numerals.specs.Conversions.{d2bin, bin2d, o2bin, bin2o}
 use Rattle.asking.specs.Rights.{may, inField}
-use Rattle.promises.specs.Examples.{Examples}
+use Rattle.cursor.specs.Words.{filledWord}
+use Rattle.grammar.specs.Reading.{reads, kept, sideOf, specificationAt}
+use Rattle.grammar.specs.Reader.{readLine}
+use Rattle.grammar.proofs.Lines.{said-by, placed-by}
+use Rattle.parts.specs.Numbers.{numbersOf}
+use Rattle.promises.specs.Examples.{Examples, gives}
 
 pub examples : Examples
-unfolding radpk radup d2bin bin2d o2bin bin2o toNumber conversionRows answered onSuccess firstOf wordOf charactersOf codeOf characterOf table numberOf value digitsOf may inField
+unfolding radpk radup d2bin bin2d o2bin bin2o toNumber conversionRows answered onSuccess firstOf wordOf charactersOf codeOf characterOf table numberOf value digitsOf may inField readLine kept sideOf specificationAt numbersOf filledWord
 examples =
     record {
       p1 = (
@@ -32,5 +37,12 @@ examples =
         record { forth = refl; back = λ buffer same. characters-given 6 (digitsOf 8 6) 0o177777 buffer same refl },
         (refl, λ buffer same. characters-60 6 (digitsOf 8 6) 0o200000 buffer same refl),
       );
+      p6 = reads (said-by _ _ _ refl);
+      p7 = reads (said-by _ _ _ refl);
+      p8 = gives (reads (said-by _ _ _ refl)) refl;
+      p9 = placed-by _ _ refl;
+      p10 = placed-by _ _ refl;
+      p11 = placed-by _ _ refl;
+      p12 = placed-by _ _ refl;
       p13 = (refl, refl);
     }

@@ -8,3 +8,4 @@ pub mod Codes
 pub mod Pack
 pub mod Requests
 pub mod Again
+pub mod Commands

@@ -3,7 +3,8 @@ use Prim.Native.Nat.{ℕ, _+_, _*_}
 use Prim.Native.String.{String}
 use mathlib.Core.Path.{_≡_}
 use mathlib.Core.Bool.{true, false}
-use mathlib.Core.List.{List}
+use mathlib.Core.List.{List, [], _∷_}
+use mathlib.Core.Option.{none, some}
 use lib.ListN.{length}
 use Rattle.answers.specs.declared.Answer.{Answer}
 use Rattle.answers.specs.Conversion.{Written}
@@ -12,6 +13,11 @@ use Rattle.numerals.specs.Conversions.{d2bin, bin2d, o2bin, bin2o}
 use Rattle.words.specs.Text.{bytes}
 use Rattle.asking.specs.declared.Right.the-variants.{Read, Write}
 use Rattle.asking.specs.Rights.{may}
+use Rattle.grammar.specs.Parsed.{Specification}
+use Rattle.grammar.specs.Reading.{Reading, Reads, sideOf, specificationAt}
+use Rattle.grammar.specs.Place.{Place}
+use Rattle.parts.specs.declared.Numbers.{Numbers}
+use Rattle.parts.specs.Numbers.{numbersOf}
 
 -- a text converts to a number, and the number to the text, in a buffer of that size whatever it held
 pub record Converts (toNumber : List ℕ → Answer) (toCharacters : ℕ → List ℕ → Written) (size : ℕ) (text : String) (number : ℕ) : Type 0 where
@@ -30,6 +36,13 @@ TextRefused toNumber text = toNumber (bytes text) ≡ record { code = 0o60; numb
 abbrev pub uicOf : ℕ → ℕ → ℕ
 uicOf group user = 256 * group + user
 
+-- CSI2's numbers of specification k of a side of the line's reading
+pub data Gives (line : List ℕ) (side k : ℕ) : Numbers → Type 0 where
+  gives : {reading : Reading} {v : Specification} → Reads line reading → specificationAt k (sideOf side reading) ≡ some v → Gives line side k (numbersOf v)
+
+abbrev pub emptySpecification : Specification
+emptySpecification = record { device = none; file = none; uic = none; switches = [] }
+
 pub record Examples : Type 0 where
   -- P1 `KB ` = 17680 (042420).
   pub p1 : Converts radpk radup 3 "KB " 17680 × Converts o2bin bin2o 6 "042420" 17680
@@ -41,5 +54,16 @@ pub record Examples : Type 0 where
   pub p4 : Converts d2bin bin2d 5 "65535" 65535 × (TextRefused d2bin "65536" × NumberRefused bin2d 5 65536)
   -- P5 octal 177777 taken, 200000 refused.
   pub p5 : Converts o2bin bin2o 6 "177777" 0o177777 × (TextRefused o2bin "200000" × NumberRefused bin2o 6 0o200000)
+  -- P6 empty line: one empty output specification, no input side. P7 `<`: one empty on each.
+  pub p6 : Reads (bytes "") (record { output = emptySpecification ∷ []; input = none })
+  pub p7 : Reads (bytes "<") (record { output = emptySpecification ∷ []; input = some (emptySpecification ∷ []) })
+  -- P8 `DT1:FREQ.DAT<PR:`: device 7200, unit 1; words 10325, 27200, 6460.
+  pub p8 : Gives (bytes "DT1:FREQ.DAT<PR:") 0 0
+      (record { present = 7; device = 7200; unit = 1; name1 = 10325; name2 = 27200; extension = 6460; group = 0; user = 0; switches = 0 })
+  -- P9 `A<B<C` place 3. P10 `ABCDEFG` 6. P11 `DT8:` 3. P12 `/S:` 3.
+  pub p9 : Place (bytes "A<B<C") 3
+  pub p10 : Place (bytes "ABCDEFG") 6
+  pub p11 : Place (bytes "DT8:") 3
+  pub p12 : Place (bytes "/S:") 3
   -- P13 protect 3, owner [23,10]: [12,4] may read, not write.
   pub p13 : (may Read (uicOf 0o12 0o4) (uicOf 0o23 0o10) 3 ≡ true) × (may Write (uicOf 0o12 0o4) (uicOf 0o23 0o10) 3 ≡ false)

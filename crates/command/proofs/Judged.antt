@@ -1,0 +1,34 @@
+-- What the reader finds of a line, in the words of the grammar.
+use Prim.Native.Nat.{ℕ}
+use mathlib.Core.Path.{_≡_, ap, _∙_}
+use mathlib.Core.List.{List}
+use native.Mathlib.Omega.{arith}
+use Rattle.cursor.specs.declared.Cursor.{Cursor}
+use Rattle.grammar.specs.Reader.{no}
+use Rattle.grammar.proofs.Lines.{said-by, placed-by}
+use Rattle.sides.specs.Sought.{LocatedIn}
+use Rattle.sides.specs.Sought as S
+use Rattle.sides.specs.declared.Located.{Located}
+use Rattle.sides.specs.declared.Located.the-variants as L
+use Rattle.command.specs.Judged.{Judged}
+use Rattle.command.specs.Judged as Q
+use Rattle.command.specs.declared.Judgement.the-variants as J
+
+pub judged-refused : {line : List ℕ} {side k place : ℕ} {located : Located} → LocatedIn line side k located → located ≡ L.Refused place
+    → Judged line (J.Wrong place)
+judged-refused {line} {place} (S.LocatedIn.refused {place = found} is) same =
+    let z : found ≡ place = cc in
+    Q.Judged.wrong (placed-by line place (is ∙ ap no z))
+judged-refused (S.LocatedIn.missing is none-at) same = let z : _≡_ {A = ℕ} 0 1 = cc in absurd (omega arith)
+judged-refused (S.LocatedIn.located is some-at begins) same = let z : _≡_ {A = ℕ} 0 1 = cc in absurd (omega arith)
+
+pub judged-missing : {line : List ℕ} {side k : ℕ} {located : Located} → LocatedIn line side k located → located ≡ L.Missing → Judged line J.Right
+judged-missing (S.LocatedIn.refused is) same = let z : _≡_ {A = ℕ} 0 1 = cc in absurd (omega arith)
+judged-missing {line} (S.LocatedIn.missing {said} {n} is none-at) same = Q.Judged.right (said-by line said n is)
+judged-missing (S.LocatedIn.located is some-at begins) same = let z : _≡_ {A = ℕ} 0 1 = cc in absurd (omega arith)
+
+pub judged-at : {line : List ℕ} {side k : ℕ} {start : Cursor} {located : Located} → LocatedIn line side k located → located ≡ L.At start
+    → Judged line J.Right
+judged-at (S.LocatedIn.refused is) same = let z : _≡_ {A = ℕ} 0 1 = cc in absurd (omega arith)
+judged-at (S.LocatedIn.missing is none-at) same = let z : _≡_ {A = ℕ} 0 1 = cc in absurd (omega arith)
+judged-at {line} (S.LocatedIn.located {said} {n} is some-at begins) same = Q.Judged.right (said-by line said n is)

@@ -1,0 +1,76 @@
+-- CSI2: its answers, the paper's numbers for each, and what is answered when. "Order: 53, ..; 50; 51, ..; 52, .." is that each case has those
+-- before it against it.
+use Prim.Native.Nat.{ℕ, _≤_, _<_}
+use mathlib.Core.Path.{_≡_}
+use mathlib.Core.List.{List, _++_}
+use mathlib.Core.Option.{none, some}
+use lib.ListN.{length, drop}
+use Rattle.grammar.specs.Parsed.{Specification}
+use Rattle.grammar.specs.Reading.{Reading, Reads, sideOf, specificationAt}
+use Rattle.grammar.specs.Place.{Place}
+use Rattle.parts.specs.Numbers.{numbersOf}
+use Rattle.command.specs.Condensed.{lineLimit}
+use Rattle.switches.specs.Encoded.{encoded}
+use Rattle.command.specs.declared.SpecificationAnswer.{SpecificationAnswer}
+use Rattle.command.specs.declared.Asking.{Asking}
+use Rattle.command.specs.declared.Asking.the-variants as A
+
+-- a refusal: its code, the place with 50, "any other number in the answer 0"
+abbrev pub refusal : ℕ → ℕ → SpecificationAnswer
+refusal code place =
+    record {
+      code = code;
+      place = place;
+      present = 0;
+      device = 0;
+      unit = 0;
+      name1 = 0;
+      name2 = 0;
+      extension = 0;
+      group = 0;
+      user = 0;
+      switches = 0;
+    }
+
+abbrev pub askingAnswer : Asking → SpecificationAnswer
+askingAnswer (A.Given numbers) =
+    record {
+      code = 0;
+      place = 0;
+      present = numbers .present;
+      device = numbers .device;
+      unit = numbers .unit;
+      name1 = numbers .name1;
+      name2 = numbers .name2;
+      extension = numbers .extension;
+      group = numbers .group;
+      user = numbers .user;
+      switches = numbers .switches;
+    }
+askingAnswer A.TooLong = refusal 0o53 0
+askingAnswer (A.Wrong place) = refusal 0o50 place
+askingAnswer A.Missing = refusal 0o51 0
+askingAnswer A.NoRoom = refusal 0o52 0
+
+-- what is answered for specification k of a side, and what the lent buffer then holds
+pub data Csi2 (line : List ℕ) (side k : ℕ) (buffer : List ℕ) : Asking → List ℕ → Type 0 where
+  -- "53, over 128"
+  long : lineLimit < length line → Csi2 line side k buffer A.TooLong buffer
+  -- "50"
+  wrong : length line ≤ lineLimit → {place : ℕ} → Place line place → Csi2 line side k buffer (A.Wrong place) buffer
+  -- "51, no such side or specification"
+  missing : length line ≤ lineLimit → {reading : Reading} → Reads line reading → specificationAt k (sideOf side reading) ≡ none
+      → Csi2 line side k buffer A.Missing buffer
+  -- "52, switch buffer too short"
+  short : length line ≤ lineLimit → {reading : Reading} → Reads line reading
+      → {v : Specification} → specificationAt k (sideOf side reading) ≡ some v → length buffer < length (encoded (v .switches))
+      → Csi2 line side k buffer A.NoRoom buffer
+  -- "It returns the parts .. and writes per switch ..": "The bytes behind stay."
+  given : length line ≤ lineLimit → {reading : Reading} → Reads line reading
+      → {v : Specification} → specificationAt k (sideOf side reading) ≡ some v → length (encoded (v .switches)) ≤ length buffer
+      → Csi2 line side k buffer (A.Given (numbersOf v)) (encoded (v .switches) ++ drop (length (encoded (v .switches))) buffer)
+
+-- the same in the numbers that a host sees
+pub data Csi2Answered (line : List ℕ) (side k : ℕ) (buffer : List ℕ) : SpecificationAnswer → List ℕ → Type 0 where
+  answered : {answer : Asking} {after : List ℕ} → Csi2 line side k buffer answer after
+      → Csi2Answered line side k buffer (askingAnswer answer) after

@@ -1,0 +1,37 @@
+use borrow.Author.Needs.{needs}
+use Rattle.cursor.proofs.Words.{word-given}
+use Rattle.cursor.proofs.word_of.Statement.{statement}
+use Rattle.cursor.proofs.word_of.Tie as tie
+
+code-at-requires : tie.Need-code-at-requires
+code-at-requires c κs = search needs
+
+add-code-at : tie.Need-add-code-at
+add-code-at c = search needs
+
+code-at-requires-2 : tie.Need-code-at-requires-2
+code-at-requires-2 c κs = search needs
+
+add-code-at-2 : tie.Need-add-code-at-2
+add-code-at-2 c = search needs
+
+code-at-requires-3 : tie.Need-code-at-requires-3
+code-at-requires-3 c κs = search needs
+
+pack-requires : tie.Need-pack-requires
+pack-requires c κs = search needs
+
+returns : tie.Need-returns
+returns c = word-given _ _ _ (c .before .before .before .before .before .pre .0 .0) (c .before .before .before .before .before .pre .0 .1) (c .before .before .before .before .before .pre .1 .1) (c .before .before .before .before .before .pre .1 .0) (c .before .before .before .code-at .ensures) (c .before .before .code-at2 .ensures) (c .before .code-at3 .ensures) (c .pack .ensures)
+
+pub word-of-spec : {M : Type 1} → statement M
+word-of-spec =
+    tie.close
+    (tie.spec
+    code-at-requires
+    add-code-at
+    code-at-requires-2
+    add-code-at-2
+    code-at-requires-3
+    pack-requires
+    returns)

@@ -1,0 +1,68 @@
+-- The switches, as the code finds them.
+use Prim.Native.Nat.{ℕ, suc, _+_, _≤_, _<_}
+use mathlib.Core.Path.{_≡_, refl, sym, ap, _∙_}
+use mathlib.Core.List.{List, _∷_}
+use native.Mathlib.Nat.{add-zero}
+use native.Mathlib.Omega.{arith}
+use lib.ListN.{length, drop}
+use Rattle.grammar.specs.Characters.{is, slash}
+use Rattle.grammar.specs.Parsed.{Switch, valuesIn}
+use Rattle.grammar.specs.Reader.{Res, ok, no, mapped, from, seq, many, one, switch}
+use Rattle.grammar.proofs.Parts.{switch-part, switch-first, is-in, afterUic}
+use Rattle.grammar.proofs.Places.{from-seq, from-seq-no, from-many-missed, from-many-found, progress}
+use Rattle.cursor.specs.Parts.{partAt}
+use Rattle.cursor.specs.declared.Cursor.{Cursor}
+use Rattle.cursor.specs.declared.Part.the-variants as P
+use Rattle.cursor.proofs.Runs.{found, missed}
+use Rattle.parts.specs.Images.{valuesOf, countedImage, switchesImage}
+use Rattle.parts.specs.declared.switch.Counted.the-variants as C
+use Rattle.parts.specs.declared.switch.SwitchesRead.the-variants as S
+
+abbrev switches : List ℕ → Res (List Switch)
+switches = many (is slash) switch
+
+one-more : (k n : ℕ) (w : Switch) (r : Res (List Switch)) → switchesImage (k + 1) (n + valuesOf w) r ≡ switchesImage k n (mapped (_∷_ w) r)
+unfolding switchesImage valuesIn
+one-more k n w (ok ws end) =
+    let p : k + 1 + length ws ≡ k + suc (length ws) = omega arith in
+    let q : n + valuesOf w + valuesIn ws ≡ n + (valuesOf w + valuesIn ws) = omega arith in
+    rw (p, q)
+one-more k n w (no place) = refl
+
+module _ (s : List ℕ) (i k n : ℕ) where
+  pub switches-none : (p : ℕ) → partAt i (one (is slash) (drop i s)) ≡ P.Refused p
+      → S.Read (record { switches = k; values = n }) (record { at = i }) ≡ switchesImage k n (from switches s i)
+  unfolding switchesImage valuesIn
+  switches-none p h = rw (from-many-missed slash switch s i p (missed slash s i p h), add-zero k, add-zero n)
+
+  module _ (a : Cursor) (h : partAt i (one (is slash) (drop i s)) ≡ P.Read a) where
+    on : from switches s i ≡ from (seq _∷_ switch switches) s i
+    on = let f = found slash s i a h in from-many-found slash switch-part switch-first (is-in slash afterUic refl) s i (f .0) (a .at) (f .1)
+
+    refused-from : (p : ℕ) (r : Res Switch) → from switch s i ≡ r → countedImage valuesOf n r ≡ C.Refused p → S.Refused p ≡ switchesImage k n (from switches s i)
+    unfolding countedImage switchesImage
+    refused-from p (ok w j) d c = let z : _≡_ {A = ℕ} 0 1 = cc in absurd (omega arith)
+    refused-from p (no j) d c = let q : p ≡ j = cc in rw (on, from-seq-no _∷_ switch switches s i j d, q)
+
+    pub switches-refused : (p : ℕ) → countedImage valuesOf n (from switch s i) ≡ C.Refused p → S.Refused p ≡ switchesImage k n (from switches s i)
+    switches-refused p c = refused-from p (from switch s i) refl c
+
+    module _ (more : ℕ) (b : Cursor) where
+      more-from : (r : Res Switch) → from switch s i ≡ r → countedImage valuesOf n r ≡ C.Read more b
+          → (i < b .at) × (b .at ≤ length s) × (switchesImage (k + 1) more (from switches s (b .at)) ≡ switchesImage k n (from switches s i))
+      unfolding countedImage
+      more-from (ok w j) d c =
+          let e : _≡_ {A = Cursor} (record { at = j }) b = cc in
+          let q : j ≡ b .at = ap (λ (x : Cursor). x .at) e in
+          let v : n + valuesOf w ≡ more = cc in
+          let g : from switch s i ≡ ok w (b .at) = d ∙ ap (ok w) q in
+          let p = progress slash switch-part switch-first (is-in slash afterUic refl) s i w (b .at) g in (
+            p .0,
+            p .1,
+            (rw (← v) (one-more k n w (from switches s (b .at)))) ∙ ap (switchesImage k n) (sym (on ∙ from-seq _∷_ switch switches s i w (b .at) g)),
+          )
+      more-from (no j) d c = let z : _≡_ {A = ℕ} 0 1 = cc in absurd (omega arith)
+
+      pub switches-more : countedImage valuesOf n (from switch s i) ≡ C.Read more b
+          → (i < b .at) × (b .at ≤ length s) × (switchesImage (k + 1) more (from switches s (b .at)) ≡ switchesImage k n (from switches s i))
+      switches-more c = more-from (from switch s i) refl c

@@ -1,0 +1,118 @@
+-- The values of a switch and the switch, as the code finds them.
+use Prim.Native.Nat.{ℕ, suc, _+_, _-_, _≤_, _<_}
+use mathlib.Core.Path.{_≡_, refl, sym, ap, _∙_}
+use mathlib.Core.List.{List, [], _∷_}
+use mathlib.Core.Bool.{Bool, true, false, cond}
+use native.Mathlib.Nat.{add-zero}
+use native.Mathlib.Omega.{arith}
+use lib.ListN.{length, take, drop}
+use Rattle.radix.specs.Names.{isLetter, isLetterOrDigit}
+use Rattle.grammar.specs.Characters.{is, colon, slash}
+use Rattle.grammar.specs.Parsed.{Switch}
+use Rattle.grammar.specs.Reader.{Res, ok, no, mapped, moved, from, seq, second, mkSwitch, many, word, span, one, value, switch}
+use Rattle.grammar.proofs.Parts.{value-reads, value-first, is-out}
+use Rattle.grammar.proofs.Places.{from-seq, from-seq-no, from-many-missed, from-many-found}
+use Rattle.cursor.specs.Parts.{partAt}
+use Rattle.cursor.specs.declared.Cursor.{Cursor}
+use Rattle.cursor.specs.declared.Part.the-variants as P
+use Rattle.cursor.proofs.Runs.{found, missed, found-place, run-up, run-within, run-read, run-short}
+use Rattle.parts.specs.Images.{valuesOf, countedImage}
+use Rattle.parts.specs.declared.switch.Counted.the-variants as C
+
+abbrev values : List ℕ → Res (List (List ℕ))
+values = many (is colon) value
+
+value-counted : (n : ℕ) (v : List ℕ) (r : Res (List (List ℕ))) → countedImage length (n + 1) r ≡ countedImage length n (mapped (_∷_ v) r)
+unfolding countedImage
+value-counted n v (ok vs end) = let q : n + 1 + length vs ≡ n + suc (length vs) = omega arith in rw q
+value-counted n v (no place) = refl
+
+module _ (s : List ℕ) (i n : ℕ) where
+  pub values-none : (p : ℕ) → partAt i (one (is colon) (drop i s)) ≡ P.Refused p → C.Read n (record { at = i }) ≡ countedImage length n (from values s i)
+  unfolding countedImage
+  values-none p h = rw (from-many-missed colon value s i p (missed colon s i p h), add-zero)
+
+  module _ (a : Cursor) (h : partAt i (one (is colon) (drop i s)) ≡ P.Read a) (e : ℕ) (q : e ≡ a .at + span isLetterOrDigit 6 (drop (a .at) s)) where
+    on : from values s i ≡ from (seq _∷_ value values) s i
+    on = let f = found colon s i a h in from-many-found colon value-reads value-first (is-out colon isLetterOrDigit refl) s i (f .0) (a .at) (f .1)
+
+    inner : from value s i ≡ mapped (second (found colon s i a h .0)) (from (word 1 (span isLetterOrDigit 6)) s (a .at))
+    unfolding value
+    inner = let f = found colon s i a h in from-seq second (one (is colon)) (word 1 (span isLetterOrDigit 6)) s i (f .0) (a .at) (f .1)
+
+    pub values-short : e ≡ a .at → C.Refused e ≡ countedImage length n (from values s i)
+    unfolding countedImage
+    values-short z =
+        let few : e - a .at < 1 = omega arith in
+        let w : from value s i ≡ no e = inner ∙ ap (mapped (second (found colon s i a h .0))) (run-short isLetterOrDigit 6 s (a .at) e q 1 few) in
+        rw (on, from-seq-no _∷_ value values s i e w)
+
+    pub values-more : (e ≡ a .at → ⊥) → countedImage length (n + 1) (from values s e) ≡ countedImage length n (from values s i)
+    values-more z =
+        let v = take (e - a .at) (drop (a .at) s) in
+        let least : 1 ≤ e - a .at = omega (arith, run-up isLetterOrDigit 6 s (a .at) e q) in
+        let w : from value s i ≡ ok v e = inner ∙ ap (mapped (second (found colon s i a h .0))) (run-read isLetterOrDigit 6 s (a .at) e q 1 least) in
+        value-counted n v (from values s e) ∙ ap (countedImage length n) (sym (on ∙ from-seq _∷_ value values s i v e w))
+
+    -- the place goes on, and stays within the line
+    pub values-on : (i < e) × (e ≤ length s)
+    values-on =
+        let o = found-place colon s i a h in
+        (omega (arith, o .0, run-up isLetterOrDigit 6 s (a .at) e q), run-within isLetterOrDigit 6 s (a .at) e q (o .1))
+
+-- a run of at most one letter is one letter, or none
+one-letter : (s : List ℕ) (j m : ℕ) → m ≡ j + span isLetter 1 (drop j s)
+    → (m ≡ j → from (one isLetter) s j ≡ no m) × ((m ≡ j → ⊥) → (x : ℕ) × (from (one isLetter) s j ≡ ok x m))
+unfolding from one span
+one-letter s j m q = go (drop j s) q
+  where
+    pick : (x : ℕ) (b : Bool) → m ≡ j + cond b 1 0
+        → (m ≡ j → moved j (cond b (ok x 1) (no 0)) ≡ no m) × ((m ≡ j → ⊥) → (y : ℕ) × (moved j (cond b (ok x 1) (no 0)) ≡ ok y m))
+    pick x true q = (λ z. absurd (omega arith), λ z. (x, ap (ok x) (sym q)))
+    pick x false q = (λ z. ap no (sym q), λ z. absurd (z (omega arith)))
+
+    go : (d : List ℕ) → m ≡ j + span isLetter 1 d
+        → (m ≡ j → moved j (one isLetter d) ≡ no m) × ((m ≡ j → ⊥) → (x : ℕ) × (moved j (one isLetter d) ≡ ok x m))
+    go [] q = (λ z. ap no (sym q), λ z. absurd (z (omega arith)))
+    go (x ∷ d) q = pick x (isLetter x) q
+
+abbrev named : List ℕ → Res (List ℕ)
+named = seq _∷_ (one isLetter) (word 0 (span isLetterOrDigit 5))
+
+abbrev body : List ℕ → Res Switch
+body = seq mkSwitch named values
+
+switch-counted : (n x : ℕ) (name : List ℕ) (r : Res (List (List ℕ))) → countedImage length n r ≡ countedImage valuesOf n (mapped (second x) (mapped (mkSwitch name) r))
+unfolding countedImage
+switch-counted n x name (ok vs end) = refl
+switch-counted n x name (no place) = refl
+
+module _ (s : List ℕ) (i n : ℕ) where
+  pub switch-none : (p : ℕ) → partAt i (one (is slash) (drop i s)) ≡ P.Refused p → C.Refused p ≡ countedImage valuesOf n (from switch s i)
+  unfolding countedImage switch
+  switch-none p h = rw (from-seq-no second (one (is slash)) body s i p (missed slash s i p h))
+
+  module _ (a : Cursor) (h : partAt i (one (is slash) (drop i s)) ≡ P.Read a) (m : ℕ) (q : m ≡ a .at + span isLetter 1 (drop (a .at) s)) where
+    behind : from switch s i ≡ mapped (second (found slash s i a h .0)) (from body s (a .at))
+    unfolding switch
+    behind = let f = found slash s i a h in from-seq second (one (is slash)) body s i (f .0) (a .at) (f .1)
+
+    pub switch-short : m ≡ a .at → C.Refused m ≡ countedImage valuesOf n (from switch s i)
+    unfolding countedImage
+    switch-short z =
+        let w : from named s (a .at) ≡ no m = from-seq-no _∷_ (one isLetter) (word 0 (span isLetterOrDigit 5)) s (a .at) m (one-letter s (a .at) m q .0 z) in
+        rw (behind, from-seq-no mkSwitch named values s (a .at) m w)
+
+    module _ (e : ℕ) (d : e ≡ m + span isLetterOrDigit 5 (drop m s)) where
+      pub switch-on : (m ≡ a .at → ⊥) → countedImage length n (from values s e) ≡ countedImage valuesOf n (from switch s i)
+      switch-on z =
+          let x = one-letter s (a .at) m q .1 z in
+          let rest = take (e - m) (drop m s) in
+          let v : from named s (a .at) ≡ ok (x .0 ∷ rest) e =
+          from-seq _∷_ (one isLetter) (word 0 (span isLetterOrDigit 5)) s (a .at) (x .0) m (x .1)
+          ∙ ap (mapped (_∷_ (x .0))) (run-read isLetterOrDigit 5 s m e d 0 (omega arith)) in
+          switch-counted n (found slash s i a h .0) (x .0 ∷ rest) (from values s e)
+          ∙ ap (countedImage valuesOf n) (sym (behind ∙ ap (mapped (second (found slash s i a h .0))) (from-seq mkSwitch named values s (a .at) (x .0 ∷ rest) e v)))
+
+      pub switch-up : i ≤ e
+      switch-up = omega (arith, found-place slash s i a h .0, run-up isLetter 1 s (a .at) m q, run-up isLetterOrDigit 5 s m e d)

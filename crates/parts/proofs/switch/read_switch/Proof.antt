@@ -1,0 +1,47 @@
+use borrow.Author.Needs.{needs}
+use mathlib.Core.Path.{sym, _∙_}
+use native.Mathlib.Omega.{arith}
+use Rattle.parts.proofs.Values.{switch-none, switch-short, switch-on, switch-up}
+use Rattle.parts.proofs.switch.read_switch.Statement.{statement}
+use Rattle.parts.proofs.switch.read_switch.Tie as tie
+
+one-requires : tie.Need-one-requires
+one-requires c κs = search needs
+
+enum-known-p : tie.Need-enum-known-p
+enum-known-p c = search needs
+
+enum-known-p-2 : tie.Need-enum-known-p-2
+enum-known-p-2 c = search needs
+
+run-requires : tie.Need-run-requires
+run-requires c κs = search needs
+
+returns : tie.Need-returns
+returns c = (switch-short _ _ _ _ (sym (c .before .before .before .before .before .one .ensures) ∙ c .before .before .before .p2 .given .1) _ (c .before .run .ensures) (c .if1 .taken), tt)
+
+run-requires-2 : tie.Need-run-requires-2
+run-requires-2 c κs = search needs
+
+read-values-requires : tie.Need-read-values-requires
+read-values-requires c κs = omega (arith, c .before .before .before .before .before .before .before .before .pre, switch-up (c .before .before .before .before .before .before .before .before .args .line .now) (c .before .before .before .before .before .before .before .before .args .c .at) 0 (c .before .before .before .before .p2 .given .0 .0) (sym (c .before .before .before .before .before .before .one .ensures) ∙ c .before .before .before .before .p2 .given .1) (c .before .before .run .result .at) (c .before .before .run .ensures) (c .run2 .result .at) (c .run2 .ensures))
+
+returns-2 : tie.Need-returns-2
+returns-2 c = (switch-none _ _ _ _ (sym (c .before .before .before .one .ensures) ∙ c .before .p .given .1), tt)
+
+returns-3 : tie.Need-returns-3
+returns-3 c = (c .read-values .ensures .0 ∙ switch-on _ _ _ _ (sym (c .before .before .before .before .before .before .before .one .ensures) ∙ c .before .before .before .before .before .p2 .given .1) _ (c .before .before .before .run .ensures) _ (c .before .run2 .ensures) (c .before .before .if1 .left), c .read-values .ensures .1)
+
+pub read-switch-spec : {M : Type 1} → statement M
+read-switch-spec =
+    tie.close
+    (tie.spec
+    one-requires
+    enum-known-p
+    enum-known-p-2
+    run-requires
+    returns
+    run-requires-2
+    read-values-requires
+    returns-2
+    returns-3)

@@ -1,0 +1,90 @@
+// Switches: how many there are, and how many values they have in all.
+ghost use mathlib.Core.Path.{_≡_};
+ghost use Prim.Native.Nat.{_≤_};
+ghost use lib.ListN.{length};
+ghost use Rattle.grammar.specs.Characters.{is, colon, slash};
+ghost use Rattle.grammar.specs.Reader.{many, value, switch, from};
+ghost use Rattle.parts.specs.Images.{valuesOf, countedImage, switchesImage, CountWithin};
+use cursor::Class;
+use cursor::Cursor;
+use cursor::Part;
+
+const SLASH: u8 = 47;
+
+const COLON: u8 = 58;
+
+pub enum Counted {
+    Read(usize, Cursor),
+    Refused(usize),
+}
+
+// The values of a switch, behind n others. A count is no more than the characters before it, so it fits.
+fn read_values(line: &[u8], c: Cursor, n: usize) -> Counted
+    requires { ⌜ n ≤ c .at ⌝ }
+    ensures { λ r. ⌜ r ≡ countedImage length n (from (many (is colon) value) (now (line .entry)) (c .at)) ⌝ }
+    ensures { λ r. ⌜ CountWithin r ⌝ }
+{
+    let p = c.one(line, COLON);
+    match p {
+        Part::Refused(_) => Counted::Read(n, c),
+        Part::Read(a) => {
+            let start = a.at;
+            let characters = a.run(line, Class::LetterOrDigit, 6);
+            let end = characters.at;
+            if end == start {
+                return Counted::Refused(end);
+            }
+            read_values(line, characters, n + 1)
+        }
+    }
+}
+
+// A switch, behind n values of others: how many values there are then.
+fn read_switch(line: &[u8], c: Cursor, n: usize) -> Counted
+    requires { ⌜ n ≤ c .at ⌝ }
+    ensures { λ r. ⌜ r ≡ countedImage valuesOf n (from switch (now (line .entry)) (c .at)) ⌝ }
+    ensures { λ r. ⌜ CountWithin r ⌝ }
+{
+    let p = c.one(line, SLASH);
+    match p {
+        Part::Refused(place) => Counted::Refused(place),
+        Part::Read(a) => {
+            let start = a.at;
+            let letter = a.run(line, Class::Letter, 1);
+            let middle = letter.at;
+            if middle == start {
+                return Counted::Refused(middle);
+            }
+            let name = letter.run(line, Class::LetterOrDigit, 5);
+            read_values(line, name, n)
+        }
+    }
+}
+
+pub struct Counts {
+    pub switches: usize,
+    pub values: usize,
+}
+
+pub enum SwitchesRead {
+    Read(Counts, Cursor),
+    Refused(usize),
+}
+
+// The switches, behind so many others with so many values.
+pub fn read_switches(line: &[u8], c: Cursor, switches: usize, values: usize) -> SwitchesRead
+    requires { ⌜ (switches ≤ c .at) × (values ≤ c .at) ⌝ }
+    ensures { λ r. ⌜ r ≡ switchesImage switches values (from (many (is slash) switch) (now (line .entry)) (c .at)) ⌝ }
+{
+    let p = c.one(line, SLASH);
+    match p {
+        Part::Refused(_) => SwitchesRead::Read(Counts { switches, values }, c),
+        Part::Read(_) => {
+            let w = read_switch(line, c, values);
+            match w {
+                Counted::Refused(place) => SwitchesRead::Refused(place),
+                Counted::Read(more, a) => read_switches(line, a, switches + 1, more),
+            }
+        }
+    }
+}

@@ -1,0 +1,102 @@
+-- What is known of a side follows from what is known of its first specification and of what stands behind it.
+use Prim.Native.Nat.{ℕ, zero, suc, _+_, _-_, _≤_, _<_, _^_}
+use mathlib.Core.Path.{_≡_, refl, sym, ap, _∙_}
+use mathlib.Core.List.{List, [], _∷_}
+use native.Mathlib.Numerals.{sub-one}
+use native.Mathlib.Omega.{arith}
+use lib.ListN.{length, drop}
+use Rattle.grammar.specs.Characters.{is, comma}
+use Rattle.grammar.specs.Parsed.{Specification}
+use Rattle.grammar.specs.Reading.{specificationAt}
+use Rattle.grammar.specs.Reader.{Res, ok, no, mapped, from, one, specification, side}
+use Rattle.cursor.specs.Parts.{partAt}
+use Rattle.cursor.specs.declared.Cursor.{Cursor}
+use Rattle.cursor.specs.declared.Part.{Part}
+use Rattle.cursor.specs.declared.Part.the-variants as C
+use Rattle.cursor.proofs.Runs.{found, missed, found-place}
+use Rattle.parts.specs.Specified.{PartsAt}
+use Rattle.parts.specs.Specified as P
+use Rattle.parts.specs.declared.Specified.{Specified}
+use Rattle.parts.specs.declared.Parts.{Parts}
+use Rattle.parts.specs.declared.Parts.the-variants as W
+use Rattle.sides.specs.Sought.{behindComma, BeginsAt, SoughtAt}
+use Rattle.sides.specs.Sought as Q
+use Rattle.sides.specs.Joined.{startOf, joined, Countable}
+use Rattle.sides.specs.declared.Sought.{Sought}
+use Rattle.sides.specs.declared.Sought.the-variants as S
+use Rattle.sides.proofs.Commas.{side-refused, side-behind, no-comma, comma-begins, specification-on, side-few}
+
+-- what the answer of the reader of parts says of a specification
+
+read-parts : (s : List ℕ) (i : ℕ) (r : Parts) (x : Specified) (next : Cursor) → PartsAt s i r → r ≡ W.Read x next → (v : Specification) × (from specification s i ≡ ok v (next .at))
+read-parts s i r x next (P.PartsAt.refused e) h = let z : _≡_ {A = ℕ} 0 1 = cc in absurd (omega arith)
+read-parts s i r x next (P.PartsAt.read {v} {end} e numbers values switches) h =
+    let b : _≡_ {A = Cursor} (record { at = end }) next = cc in
+    (v, e ∙ ap (λ (c : Cursor). ok v (c .at)) b)
+
+refused-parts : (s : List ℕ) (i : ℕ) (r : Parts) (place : ℕ) → PartsAt s i r → r ≡ W.Refused place → from specification s i ≡ no place
+refused-parts s i r place (P.PartsAt.refused {place = p} e) h = let q : p ≡ place = cc in e ∙ ap no q
+refused-parts s i r place (P.PartsAt.read e numbers values switches) h = let z : _≡_ {A = ℕ} 0 1 = cc in absurd (omega arith)
+
+-- where specification k begins
+
+pub begins-none : (s : List ℕ) (k start : ℕ) → BeginsAt s k [] start
+unfolding specificationAt
+begins-none s k start v e = let z : _≡_ {A = ℕ} 0 1 = cc in absurd (omega arith)
+
+begins-more : (s : List ℕ) (k : ℕ) (v : Specification) (vs : List Specification) (here rest : Cursor) (end : ℕ)
+    → from specification s (here .at) ≡ ok v end → BeginsAt s (k - 1) vs (rest .at) → BeginsAt s k (v ∷ vs) (startOf k here rest .at)
+unfolding specificationAt
+begins-more s zero v vs here rest end e b w h = let q : v ≡ w = cc in (end, e ∙ ap (λ (x : Specification). ok x end) q)
+begins-more s (suc k) v vs here rest end e b w h = (rw sub-one at b) w h
+
+-- behind a specification: whether a comma stands there
+
+module _ (s : List ℕ) (c : Cursor) (r : Part) (h : r ≡ partAt (c .at) (one (is comma) (drop (c .at) s))) where
+  pub side-ends : (k place : ℕ) → r ≡ C.Refused place → SoughtAt s k (from behindComma s (c .at)) (S.Read (record { count = 0; start = c }) c)
+  side-ends k p e = rw (no-comma s (c .at) p (missed comma s (c .at) p (sym h ∙ e))) (Q.SoughtAt.read refl (begins-none s k (c .at)))
+
+  module _ (next : Cursor) (e : r ≡ C.Read next) where
+    -- the characters left are fewer
+    pub comma-passed : (c .at < next .at) × (next .at ≤ length s)
+    comma-passed = let w = found-place comma s (c .at) next (sym h ∙ e) in (omega (arith, w .0), w .1)
+
+    pub side-goes-on : (k : ℕ) (rest : Sought) → SoughtAt s k (from side s (next .at)) rest → SoughtAt s k (from behindComma s (c .at)) rest
+    side-goes-on k rest b = let w = found comma s (c .at) next (sym h ∙ e) in rw (comma-begins s (c .at) (w .0) (next .at) (w .1)) b
+
+-- a specification, and what stands behind it
+
+module _ (s : List ℕ) (here : Cursor) (r : Parts) (h : PartsAt s (here .at) r) where
+  pub side-none : (k place : ℕ) → r ≡ W.Refused place → SoughtAt s k (from side s (here .at)) (S.Refused place)
+  side-none k place e = rw (side-refused s (here .at) place (refused-parts s (here .at) r place h e)) Q.SoughtAt.refused
+
+  module _ (x : Specified) (next : Cursor) (e : r ≡ W.Read x next) where
+    first : (v : Specification) × (from specification s (here .at) ≡ ok v (next .at))
+    first = read-parts s (here .at) r x next h e
+
+    behind : from side s (here .at) ≡ mapped (_∷_ (first .0)) (from behindComma s (next .at))
+    behind = side-behind s (here .at) (first .0) (next .at) (first .1)
+
+    -- the characters left are no more
+    pub went-on : here .at ≤ next .at
+    went-on = specification-on s (here .at) (first .0) (next .at) (first .1)
+
+    module _ (k before : ℕ) (rest : Sought) (d : before ≡ k - 1) (known : SoughtAt s before (from behindComma s (next .at)) rest) where
+      count-by : (y : Res (List Specification)) → from side s (here .at) ≡ mapped (_∷_ (first .0)) y → length s < 2 ^ 63 → (q : Sought) → SoughtAt s before y q → Countable q
+      count-by y b l q Q.SoughtAt.refused = tt
+      count-by y b l q (Q.SoughtAt.read {vs} {end} {found} m c) =
+          let w : suc (length vs) ≤ suc (length s) = side-few s (here .at) (first .0 ∷ vs) end b in
+          omega arith
+
+      pub countable : length s < 2 ^ 63 → Countable rest
+      countable l = count-by (from behindComma s (next .at)) behind l rest known
+
+      join-by : (y : Res (List Specification)) (q : Sought) → SoughtAt s (k - 1) y q → SoughtAt s k (mapped (_∷_ (first .0)) y) (joined k here q)
+      unfolding joined
+      join-by y q Q.SoughtAt.refused = Q.SoughtAt.refused
+      join-by y q (Q.SoughtAt.read {vs} {found} m b) =
+          let n : found .count + 1 ≡ length (first .0 ∷ vs) = omega arith in
+          Q.SoughtAt.read n (begins-more s k (first .0) vs here (found .start) (next .at) (first .1) b)
+
+      pub side-some : (joint : Sought) → joint ≡ joined k here rest → SoughtAt s k (from side s (here .at)) joint
+      side-some joint j = rw (j, behind) (join-by (from behindComma s (next .at)) rest (rw d at known))
