@@ -32,8 +32,8 @@ extern "C" {
 #endif
 
 /*
- * The codes, in the order in which causes are named. They are octal numbers wherever they are written down, so code 41
- * is 041 here, and printed by %zo.
+ * The codes, in the order in which causes are named; the two calls on command lines each have an order of their own.
+ * They are octal numbers wherever they are written down, so code 41 is 041 here, and printed by %zo.
  */
 enum {
     ABZ_OK           = 0,
@@ -52,7 +52,12 @@ enum {
     ABZ_OPENS        = 3,   /* the file has 62 opens already, the most there can be */
     ABZ_NO_ENTRY     = 012, /* the contents have no empty entry for another file */
     ABZ_NO_ROOM      = 042, /* there is no free block, or too few of them in a row */
-    ABZ_CONVERSION   = 060  /* what is to be converted is not of its set, or too large */
+    ABZ_CONVERSION   = 060, /* what is to be converted is not of its set, or too large */
+
+    ABZ_GRAMMAR          = 050, /* the command line is not of the grammar, as told under Command lines */
+    ABZ_NO_SPECIFICATION = 051, /* the command line has no such side, or no such specification there */
+    ABZ_SHORT_BUFFER     = 052, /* the buffer is too short for what is to be written */
+    ABZ_LONG_LINE        = 053  /* the command line is too long */
 };
 
 typedef struct {
@@ -430,6 +435,98 @@ size_t abz_linked_read(const uint8_t *image, size_t image_len, size_t caller,
 abz_answer abz_linked_add(uint8_t *image, size_t image_len, size_t caller,
                           size_t name1, size_t name2, size_t extension, size_t uic,
                           const uint8_t *payload, size_t payload_len);
+
+/*
+ * Command lines
+ *
+ * A command line says which files are for output and, behind <, which are for input. abz_csi1 makes a condensed line of
+ * what an operator typed, if it is of the grammar. abz_csi2 takes a condensed line and gives one file specification of
+ * it: a host asks for those at place 0, 1, 2 and so on of a side until there is none.
+ *
+ * The grammar, where a letter is one of A to Z, a digit one of 0 to 9, and an octal digit one of 0 to 7:
+ *
+ *   command        a side; or a side, <, and another side. The first is the output side, the second the input side.
+ *   side           one or more specifications. Each comma that is not in brackets begins another.
+ *   specification  any of these parts, in this order, and also none of them:
+ *                    - a device and :
+ *                    - a name; or a name, a period and an extension
+ *                    - [, the group, a comma, the user, and ]
+ *                    - any number of switches
+ *   device         2 or 3 letters, then any number of octal digits, which are the unit; none of them make unit 0
+ *   name           1 to 6 letters or digits
+ *   extension      1 to 3 letters or digits
+ *   group, user    one or more octal digits each
+ *   switch         /, a letter, and up to 5 more letters or digits; then any number of values
+ *   value          : and 1 to 6 letters or digits
+ *
+ * So the empty line has one specification, with no part, and no input side; < has one on each side; DT1 is a name, and
+ * DT1: is a device. Any other byte is a fault wherever it stands: lower case, CR and LF, bytes with bit 7 set. No line
+ * can be read in two ways.
+ *
+ * The place of a fault is that of the first character, counted from 0, with which no line of the grammar could go on,
+ * however long lines may be; or the length of the line if it only stops too soon. So it is 3 in A<B<C, 6 in ABCDEFG,
+ * 3 in /S: and 0 in .DAT.
+ */
+
+/*
+ * CSI1: condenses a line and judges it. The condensed line has all bytes of the line, in their order, but for blanks,
+ * TABs, NULs and RUBOUTs (040, 011, 0 and 0177). It is written to the start of condensed, and the bytes behind it stay.
+ * number is its length, which may be 0.
+ *   ABZ_LONG_LINE     line_len is above 512, or the condensed line has more than 128 bytes;
+ *   ABZ_SHORT_BUFFER  condensed_len is less than the condensed line has;
+ *   ABZ_GRAMMAR       the condensed line is not of the grammar; number is the place of the fault in the condensed line,
+ *                     which is not written.
+ * A short buffer hides a fault: a host that wants the place lends 128 bytes, which are enough for every line.
+ */
+abz_answer abz_csi1(const uint8_t *line, size_t line_len, uint8_t *condensed, size_t condensed_len);
+
+/* The sides of a command line. */
+enum {
+    ABZ_OUTPUT_SIDE = 0,
+    ABZ_INPUT_SIDE  = 1
+};
+
+/* The parts that a specification can have besides switches. */
+enum {
+    ABZ_HAS_DEVICE    = 1,
+    ABZ_HAS_NAME      = 2,
+    ABZ_HAS_EXTENSION = 4,
+    ABZ_HAS_UIC       = 8 /* group and user */
+};
+
+typedef struct {
+    size_t code;
+    size_t place;                   /* with ABZ_GRAMMAR that of the fault, else 0 */
+    size_t present;                 /* which parts it has: the sum of their numbers above */
+    size_t device, unit;            /* the device's letters as a Radix-50 word, with a blank behind two of them */
+    size_t name1, name2, extension; /* Radix-50 words, as the calls on files take them */
+    size_t group, user;
+    size_t switches;                /* how many it has */
+} abz_specification;
+
+/*
+ * CSI2: gives the specification at place k, counted from 0, of a side of a condensed line. The members of a part that
+ * it does not have are 0. Of unit, group and user the low 8 bits are given, however many digits they have; so
+ * 256 * group + user is a uic for the calls on files, where 0 means the caller's.
+ *
+ * The switches are written to the start of the slice of that name, in the order in which they stand in the line, and
+ * the bytes behind stay. A switch is words of two bytes, low byte first:
+ *
+ *   0         how many values it has
+ *   1, 2      its name, without the /, as two Radix-50 words with blanks behind
+ *   3, 4      its first value, without the :, likewise
+ *   5, 6 ...  its other values
+ *
+ * So a switch takes 6 bytes and each of its values 4 more, and 384 bytes are enough for every line.
+ *   ABZ_LONG_LINE         line_len is above 128;
+ *   ABZ_GRAMMAR           the line is not of the grammar, whatever side and k are; place is that of the fault. Nothing
+ *                         is dropped here, so that a blank, TAB, NUL or RUBOUT is a fault;
+ *   ABZ_NO_SPECIFICATION  side is neither 0 nor 1; or it is 1, and there is no < in the line; or the side has no
+ *                         specification at place k;
+ *   ABZ_SHORT_BUFFER      switches_len is less than the switches take.
+ */
+abz_specification abz_csi2(const uint8_t *line, size_t line_len, size_t side, size_t k,
+                           uint8_t *switches, size_t switches_len);
 
 #ifdef __cplusplus
 }

@@ -1,2 +1,3 @@
 -- Laws for the boundary.
 pub mod Keys
+pub mod Lines

@@ -19,7 +19,10 @@ ghost use Rattle.growth.specs.Appnd.{appnd};
 ghost use Rattle.growth.specs.Adding.{linkedAdd};
 ghost use Rattle.transfer.specs.Block.{blockIn, blockOut};
 ghost use Rattle.transfer.specs.Linked.{linkedRead};
+ghost use Rattle.command.specs.Csi1.{Csi1Answered};
+ghost use Rattle.command.specs.Csi2.{Csi2Answered};
 use answers::Answer;
+use command::SpecificationAnswer;
 use directory::LookAnswer;
 use opening::Opening;
 use owners::OwnerAnswer;
@@ -394,4 +397,23 @@ pub extern "C" fn abz_bin2o(number: usize, characters: &mut [u8]) -> usize
     ensures { λ r. ⌜ now (characters .exit) ≡ bin2o number (now (characters .entry)) .buffer ⌝ }
 {
     numerals::bin2o(number, characters)
+}
+
+#[no_mangle]
+pub extern "C" fn abz_csi1(line: &[u8], condensed: &mut [u8]) -> Answer
+    ensures { λ r. ⌜ Csi1Answered (now (line .entry)) (now (condensed .entry)) r (now (condensed .exit)) ⌝ }
+{
+    command::condensing_answer(command::csi1(line, condensed))
+}
+
+#[no_mangle]
+pub extern "C" fn abz_csi2(
+    line: &[u8],
+    side: usize,
+    k: usize,
+    switches: &mut [u8],
+) -> SpecificationAnswer
+    ensures { λ r. ⌜ Csi2Answered (now (line .entry)) side k (now (switches .entry)) r (now (switches .exit)) ⌝ }
+{
+    command::asking_answer(command::csi2(line, side, k, switches))
 }
