@@ -1,0 +1,126 @@
+//! One call with all its arguments, made in both ways.
+
+use crate::request::Request;
+use model::answers::{code, Answer, LookAnswer, OwnerAnswer, SpecificationAnswer};
+use model::requests::File;
+use model::{boundary, command, conversions, requests};
+
+/// The numbers of a call. What it lends besides is an image or a line, and a buffer.
+#[derive(Clone, Copy, Debug)]
+#[rustfmt::skip]
+pub enum Numbers {
+    None,
+    Format { form: usize, blocks: usize, contents: usize },
+    File { caller: usize, file: File },
+    /// A protect code, with the segments of ALLOC.
+    New { caller: usize, file: File, protect: usize, segments: usize },
+    Mode { caller: usize, file: File, mode: usize },
+    Place { caller: usize, file: File, place: usize },
+    Rename { caller: usize, old: File, new: File, protect: usize },
+    Append { caller: usize, first: File, second: File },
+    /// A block, or a number to be converted.
+    One(usize),
+    Side { side: usize, k: usize },
+}
+
+#[derive(Clone, Debug)]
+pub struct Call {
+    pub request: Request,
+    pub numbers: Numbers,
+    pub line: Vec<u8>,
+    pub buffer: Vec<u8>,
+}
+
+/// An answer as numbers, the code first.
+pub type Said = Vec<usize>;
+
+fn number(answer: Answer) -> Said {
+    vec![answer.code, answer.number]
+}
+
+fn look(answer: LookAnswer) -> Said {
+    let LookAnswer { code, kind, first, length, protect, writer, readers } = answer;
+    vec![code, kind, first, length, protect, writer, readers]
+}
+
+fn owner(answer: OwnerAnswer) -> Said {
+    vec![answer.code, answer.kind, answer.entry, answer.place]
+}
+
+fn specification(answer: SpecificationAnswer) -> Said {
+    let SpecificationAnswer { code, place, present, device, unit, name1, name2, extension, group, user, switches } =
+        answer;
+    vec![code, place, present, device, unit, name1, name2, extension, group, user, switches]
+}
+
+impl Call {
+    /// Makes the call on the library.
+    #[rustfmt::skip]
+    pub fn library(&self, image: &mut [u8], line: &[u8], buffer: &mut [u8]) -> Said {
+        use Numbers as N;
+        use Request as R;
+        match (self.request, self.numbers) {
+            (R::Format, N::Format { form, blocks, contents }) => vec![boundary::format(image, form, blocks, contents, buffer)],
+            (R::Alloc, N::New { caller, file, protect, segments }) => number(boundary::alloc(image, caller, file, protect, segments)),
+            (R::Openo, N::New { caller, file, protect, .. }) => vec![boundary::openo(image, caller, file, protect)],
+            (R::Delet, N::File { caller, file }) => vec![boundary::delet(image, caller, file)],
+            (R::Renam, N::Rename { caller, old, new, protect }) => vec![boundary::renam(image, caller, old, new, protect)],
+            (R::Appnd, N::Append { caller, first, second }) => vec![boundary::appnd(image, caller, first, second)],
+            (R::Look, N::File { caller, file }) => look(boundary::look(image, caller, file)),
+            (R::Keep, N::File { caller, file }) => vec![boundary::keep(image, caller, file)],
+            (R::Openi, N::File { caller, file }) => vec![boundary::openi(image, caller, file)],
+            (R::Openu, N::File { caller, file }) => vec![boundary::openu(image, caller, file)],
+            (R::Opene, N::File { caller, file }) => vec![boundary::opene(image, caller, file)],
+            (R::Close, N::Mode { caller, file, mode }) => vec![boundary::close(image, caller, file, mode)],
+            (R::Owner, N::One(block)) => owner(boundary::owner(image, block)),
+            (R::BlockIn, N::Place { caller, file, place }) => vec![boundary::block_in(image, caller, file, place, buffer)],
+            (R::BlockOut, N::Place { caller, file, place }) => vec![boundary::block_out(image, caller, file, place, buffer)],
+            (R::LinkedRead, N::Place { caller, file, place }) => vec![boundary::linked_read(image, caller, file, place, buffer)],
+            (R::LinkedAdd, N::File { caller, file }) => number(boundary::linked_add(image, caller, file, buffer)),
+            (R::Radpk, N::None) => number(boundary::radpk(buffer)),
+            (R::Radup, N::One(word)) => vec![boundary::radup(word, buffer)],
+            (R::D2bin, N::None) => number(boundary::d2bin(buffer)),
+            (R::Bin2d, N::One(number)) => vec![boundary::bin2d(number, buffer)],
+            (R::O2bin, N::None) => number(boundary::o2bin(buffer)),
+            (R::Bin2o, N::One(number)) => vec![boundary::bin2o(number, buffer)],
+            (R::Csi1, N::None) => number(boundary::csi1(line, buffer)),
+            (R::Csi2, N::Side { side, k }) => specification(boundary::csi2(line, side, k, buffer)),
+            (request, numbers) => unreachable!("{request:?} {numbers:?} {line:?}"),
+        }
+    }
+
+    /// Makes the call on the model.
+    #[rustfmt::skip]
+    pub fn model(&self, image: &mut [u8], line: &[u8], buffer: &mut [u8]) -> Said {
+        use Numbers as N;
+        use Request as R;
+        match (self.request, self.numbers) {
+            (R::Format, N::Format { form, blocks, contents }) => vec![code(requests::format(image, form, blocks, contents, buffer))],
+            (R::Alloc, N::New { caller, file, protect, segments }) => number(requests::alloc(image, caller, file, protect, segments).into()),
+            (R::Openo, N::New { caller, file, protect, .. }) => vec![code(requests::openo(image, caller, file, protect))],
+            (R::Delet, N::File { caller, file }) => vec![code(requests::delet(image, caller, file))],
+            (R::Renam, N::Rename { caller, old, new, protect }) => vec![code(requests::renam(image, caller, old, new, protect))],
+            (R::Appnd, N::Append { caller, first, second }) => vec![code(requests::appnd(image, caller, first, second))],
+            (R::Look, N::File { caller, file }) => look(requests::look(image, caller, file).into()),
+            (R::Keep, N::File { caller, file }) => vec![code(requests::keep(image, caller, file))],
+            (R::Openi, N::File { caller, file }) => vec![code(requests::openi(image, caller, file))],
+            (R::Openu, N::File { caller, file }) => vec![code(requests::openu(image, caller, file))],
+            (R::Opene, N::File { caller, file }) => vec![code(requests::opene(image, caller, file))],
+            (R::Close, N::Mode { caller, file, mode }) => vec![code(requests::close(image, caller, file, mode))],
+            (R::Owner, N::One(block)) => owner(requests::owner(image, block).into()),
+            (R::BlockIn, N::Place { caller, file, place }) => vec![code(requests::block_in(image, caller, file, place, buffer))],
+            (R::BlockOut, N::Place { caller, file, place }) => vec![code(requests::block_out(image, caller, file, place, buffer))],
+            (R::LinkedRead, N::Place { caller, file, place }) => vec![code(requests::linked_read(image, caller, file, place, buffer))],
+            (R::LinkedAdd, N::File { caller, file }) => number(requests::linked_add(image, caller, file, buffer).into()),
+            (R::Radpk, N::None) => number(conversions::radpk(buffer).into()),
+            (R::Radup, N::One(word)) => vec![code(conversions::radup(word, buffer))],
+            (R::D2bin, N::None) => number(conversions::d2bin(buffer).into()),
+            (R::Bin2d, N::One(number)) => vec![code(conversions::bin2d(number, buffer))],
+            (R::O2bin, N::None) => number(conversions::o2bin(buffer).into()),
+            (R::Bin2o, N::One(number)) => vec![code(conversions::bin2o(number, buffer))],
+            (R::Csi1, N::None) => number(command::csi1(line, buffer).into()),
+            (R::Csi2, N::Side { side, k }) => specification(command::csi2(line, side, k, buffer).into()),
+            (request, numbers) => unreachable!("{request:?} {numbers:?}"),
+        }
+    }
+}

@@ -1,0 +1,106 @@
+//! The requests, and the codes that each can give, by the conditions of 01's table.
+
+#[derive(Clone, Copy, Debug, PartialEq, Eq)]
+pub enum Request {
+    Format,
+    Alloc,
+    Delet,
+    Renam,
+    Appnd,
+    Look,
+    Keep,
+    Openo,
+    Openi,
+    Openu,
+    Opene,
+    Close,
+    Owner,
+    BlockIn,
+    BlockOut,
+    LinkedRead,
+    LinkedAdd,
+    Radpk,
+    Radup,
+    D2bin,
+    Bin2d,
+    O2bin,
+    Bin2o,
+    Csi1,
+    Csi2,
+}
+
+/// Every request that is compared.
+pub const ALL: &[Request] = &[
+    Request::Format,
+    Request::Alloc,
+    Request::Delet,
+    Request::Renam,
+    Request::Appnd,
+    Request::Look,
+    Request::Keep,
+    Request::Openo,
+    Request::Openi,
+    Request::Openu,
+    Request::Opene,
+    Request::Close,
+    Request::Owner,
+    Request::BlockIn,
+    Request::BlockOut,
+    Request::LinkedRead,
+    Request::LinkedAdd,
+    Request::Radpk,
+    Request::Radup,
+    Request::D2bin,
+    Request::Bin2d,
+    Request::O2bin,
+    Request::Bin2o,
+    Request::Csi1,
+    Request::Csi2,
+];
+
+impl Request {
+    /// The codes that can be reached, in the order of the table; any other is a fault.
+    pub fn codes(self) -> &'static [usize] {
+        match self {
+            Request::Format => &[0, 0o41],
+            Request::Alloc => &[0, 0o40, 0o15, 0o41, 0o13, 0o2, 0o6, 0o12, 0o42],
+            Request::Delet => &[0, 0o40, 0o15, 0o2, 0o6, 0o14],
+            Request::Renam => &[0, 0o40, 0o15, 0o41, 0o2, 0o6, 0o14],
+            Request::Appnd => &[0, 0o40, 0o15, 0o41, 0o2, 0o6, 0o43, 0o14],
+            Request::Look => &[0, 0o40, 0o15, 0o2],
+            Request::Keep => &[0, 0o40, 0o15, 0o2, 0o6],
+            Request::Openo => &[0, 0o40, 0o15, 0o41, 0o13, 0o2, 0o6, 0o12],
+            Request::Openi => &[0, 0o40, 0o15, 0o2, 0o6, 0o3],
+            Request::Openu => &[0, 0o40, 0o15, 0o2, 0o6, 0o43, 0o4, 0o3],
+            Request::Opene => &[0, 0o40, 0o15, 0o2, 0o6, 0o5, 0o4, 0o3],
+            Request::Close => &[0, 0o40, 0o15, 0o41, 0o2, 0o45],
+            Request::Owner => &[0, 0o40, 0o44],
+            Request::BlockIn | Request::BlockOut | Request::LinkedRead => {
+                &[0, 0o40, 0o15, 0o41, 0o2, 0o6, 0o43, 0o45, 0o44]
+            }
+            Request::LinkedAdd => &[0, 0o40, 0o15, 0o41, 0o2, 0o6, 0o43, 0o45, 0o42],
+            Request::Radpk | Request::Radup | Request::D2bin | Request::Bin2d | Request::O2bin | Request::Bin2o => {
+                &[0, 0o41, 0o60]
+            }
+            Request::Csi1 => &[0, 0o53, 0o52, 0o50],
+            Request::Csi2 => &[0, 0o53, 0o50, 0o51, 0o52],
+        }
+    }
+
+    /// How often the request is drawn, against the others.
+    pub fn weight(self) -> usize {
+        match self {
+            Request::Alloc | Request::Openo | Request::Openi | Request::Openu | Request::Opene => 6,
+            Request::BlockIn | Request::BlockOut | Request::LinkedRead | Request::LinkedAdd => 6,
+            Request::Delet | Request::Renam | Request::Appnd | Request::Close => 5,
+            Request::Csi1 | Request::Csi2 => 10,
+            Request::Look | Request::Keep | Request::Owner => 3,
+            _ => 2,
+        }
+    }
+
+    /// Whether the request is on an image that must be a consistent pack.
+    pub fn is_on_pack(self) -> bool {
+        self.codes().contains(&0o40)
+    }
+}

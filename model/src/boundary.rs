@@ -1,0 +1,170 @@
+//! The library's C boundary, declared as its header has it, and a safe function for each of its functions.
+
+use crate::answers::{Answer, LookAnswer, OwnerAnswer};
+use crate::requests::File;
+
+#[rustfmt::skip]
+extern "C" {
+    fn abz_format(image: *mut u8, image_len: usize, form: usize, blocks: usize, contents: usize, uics: *const u8, uics_len: usize) -> usize;
+    fn abz_alloc(image: *mut u8, image_len: usize, caller: usize, name1: usize, name2: usize, extension: usize, uic: usize, protect: usize, segments: usize) -> Answer;
+    fn abz_openo(image: *mut u8, image_len: usize, caller: usize, name1: usize, name2: usize, extension: usize, uic: usize, protect: usize) -> usize;
+    fn abz_openi(image: *mut u8, image_len: usize, caller: usize, name1: usize, name2: usize, extension: usize, uic: usize) -> usize;
+    fn abz_openu(image: *mut u8, image_len: usize, caller: usize, name1: usize, name2: usize, extension: usize, uic: usize) -> usize;
+    fn abz_opene(image: *mut u8, image_len: usize, caller: usize, name1: usize, name2: usize, extension: usize, uic: usize) -> usize;
+    fn abz_close(image: *mut u8, image_len: usize, caller: usize, name1: usize, name2: usize, extension: usize, uic: usize, mode: usize) -> usize;
+    fn abz_delet(image: *mut u8, image_len: usize, caller: usize, name1: usize, name2: usize, extension: usize, uic: usize) -> usize;
+    fn abz_renam(image: *mut u8, image_len: usize, caller: usize, name1: usize, name2: usize, extension: usize, uic: usize, new_name1: usize, new_name2: usize, new_extension: usize, protect: usize) -> usize;
+    fn abz_appnd(image: *mut u8, image_len: usize, caller: usize, name1: usize, name2: usize, extension: usize, uic: usize, second_name1: usize, second_name2: usize, second_extension: usize, second_uic: usize) -> usize;
+    fn abz_look(image: *const u8, image_len: usize, caller: usize, name1: usize, name2: usize, extension: usize, uic: usize) -> LookAnswer;
+    fn abz_keep(image: *mut u8, image_len: usize, caller: usize, name1: usize, name2: usize, extension: usize, uic: usize) -> usize;
+    fn abz_owner(image: *const u8, image_len: usize, block: usize) -> OwnerAnswer;
+    fn abz_block_in(image: *const u8, image_len: usize, caller: usize, name1: usize, name2: usize, extension: usize, uic: usize, place: usize, buffer: *mut u8, buffer_len: usize) -> usize;
+    fn abz_block_out(image: *mut u8, image_len: usize, caller: usize, name1: usize, name2: usize, extension: usize, uic: usize, place: usize, buffer: *const u8, buffer_len: usize) -> usize;
+    fn abz_linked_read(image: *const u8, image_len: usize, caller: usize, name1: usize, name2: usize, extension: usize, uic: usize, place: usize, buffer: *mut u8, buffer_len: usize) -> usize;
+    fn abz_linked_add(image: *mut u8, image_len: usize, caller: usize, name1: usize, name2: usize, extension: usize, uic: usize, payload: *const u8, payload_len: usize) -> Answer;
+    fn abz_radpk(chars: *const u8, chars_len: usize) -> Answer;
+    fn abz_radup(word: usize, chars: *mut u8, chars_len: usize) -> usize;
+    fn abz_d2bin(chars: *const u8, chars_len: usize) -> Answer;
+    fn abz_bin2d(number: usize, chars: *mut u8, chars_len: usize) -> usize;
+    fn abz_o2bin(chars: *const u8, chars_len: usize) -> Answer;
+    fn abz_bin2o(number: usize, chars: *mut u8, chars_len: usize) -> usize;
+    fn abz_csi1(line: *const u8, line_len: usize, condensed: *mut u8, condensed_len: usize) -> Answer;
+    fn abz_csi2(line: *const u8, line_len: usize, side: usize, k: usize, switches: *mut u8, switches_len: usize) -> crate::answers::SpecificationAnswer;
+}
+
+// Safe: a slice of Rust has a pointer that is never null, even at length 0, and slices that are lent to be written do
+// not overlap others. The header asks no more of a host.
+
+pub fn format(image: &mut [u8], form: usize, blocks: usize, contents: usize, uics: &[u8]) -> usize {
+    unsafe { abz_format(image.as_mut_ptr(), image.len(), form, blocks, contents, uics.as_ptr(), uics.len()) }
+}
+
+pub fn alloc(image: &mut [u8], caller: usize, file: File, protect: usize, segments: usize) -> Answer {
+    let File { name1, name2, extension, uic } = file;
+    unsafe { abz_alloc(image.as_mut_ptr(), image.len(), caller, name1, name2, extension, uic, protect, segments) }
+}
+
+pub fn openo(image: &mut [u8], caller: usize, file: File, protect: usize) -> usize {
+    let File { name1, name2, extension, uic } = file;
+    unsafe { abz_openo(image.as_mut_ptr(), image.len(), caller, name1, name2, extension, uic, protect) }
+}
+
+pub fn openi(image: &mut [u8], caller: usize, file: File) -> usize {
+    let File { name1, name2, extension, uic } = file;
+    unsafe { abz_openi(image.as_mut_ptr(), image.len(), caller, name1, name2, extension, uic) }
+}
+
+pub fn openu(image: &mut [u8], caller: usize, file: File) -> usize {
+    let File { name1, name2, extension, uic } = file;
+    unsafe { abz_openu(image.as_mut_ptr(), image.len(), caller, name1, name2, extension, uic) }
+}
+
+pub fn opene(image: &mut [u8], caller: usize, file: File) -> usize {
+    let File { name1, name2, extension, uic } = file;
+    unsafe { abz_opene(image.as_mut_ptr(), image.len(), caller, name1, name2, extension, uic) }
+}
+
+pub fn close(image: &mut [u8], caller: usize, file: File, mode: usize) -> usize {
+    let File { name1, name2, extension, uic } = file;
+    unsafe { abz_close(image.as_mut_ptr(), image.len(), caller, name1, name2, extension, uic, mode) }
+}
+
+pub fn delet(image: &mut [u8], caller: usize, file: File) -> usize {
+    let File { name1, name2, extension, uic } = file;
+    unsafe { abz_delet(image.as_mut_ptr(), image.len(), caller, name1, name2, extension, uic) }
+}
+
+/// The new name has no UIC at the boundary; that of `new` is not handed on.
+#[rustfmt::skip]
+pub fn renam(image: &mut [u8], caller: usize, old: File, new: File, protect: usize) -> usize {
+    let File { name1, name2, extension, uic } = old;
+    unsafe {
+        abz_renam(image.as_mut_ptr(), image.len(), caller, name1, name2, extension, uic, new.name1, new.name2, new.extension, protect)
+    }
+}
+
+#[rustfmt::skip]
+pub fn appnd(image: &mut [u8], caller: usize, first: File, second: File) -> usize {
+    let File { name1, name2, extension, uic } = first;
+    unsafe {
+        abz_appnd(image.as_mut_ptr(), image.len(), caller, name1, name2, extension, uic, second.name1, second.name2, second.extension, second.uic)
+    }
+}
+
+pub fn look(image: &[u8], caller: usize, file: File) -> LookAnswer {
+    let File { name1, name2, extension, uic } = file;
+    unsafe { abz_look(image.as_ptr(), image.len(), caller, name1, name2, extension, uic) }
+}
+
+pub fn keep(image: &mut [u8], caller: usize, file: File) -> usize {
+    let File { name1, name2, extension, uic } = file;
+    unsafe { abz_keep(image.as_mut_ptr(), image.len(), caller, name1, name2, extension, uic) }
+}
+
+pub fn owner(image: &[u8], block: usize) -> OwnerAnswer {
+    unsafe { abz_owner(image.as_ptr(), image.len(), block) }
+}
+
+#[rustfmt::skip]
+pub fn block_in(image: &[u8], caller: usize, file: File, place: usize, buffer: &mut [u8]) -> usize {
+    let File { name1, name2, extension, uic } = file;
+    unsafe {
+        abz_block_in(image.as_ptr(), image.len(), caller, name1, name2, extension, uic, place, buffer.as_mut_ptr(), buffer.len())
+    }
+}
+
+#[rustfmt::skip]
+pub fn block_out(image: &mut [u8], caller: usize, file: File, place: usize, buffer: &[u8]) -> usize {
+    let File { name1, name2, extension, uic } = file;
+    unsafe {
+        abz_block_out(image.as_mut_ptr(), image.len(), caller, name1, name2, extension, uic, place, buffer.as_ptr(), buffer.len())
+    }
+}
+
+#[rustfmt::skip]
+pub fn linked_read(image: &[u8], caller: usize, file: File, place: usize, buffer: &mut [u8]) -> usize {
+    let File { name1, name2, extension, uic } = file;
+    unsafe {
+        abz_linked_read(image.as_ptr(), image.len(), caller, name1, name2, extension, uic, place, buffer.as_mut_ptr(), buffer.len())
+    }
+}
+
+#[rustfmt::skip]
+pub fn linked_add(image: &mut [u8], caller: usize, file: File, payload: &[u8]) -> Answer {
+    let File { name1, name2, extension, uic } = file;
+    unsafe {
+        abz_linked_add(image.as_mut_ptr(), image.len(), caller, name1, name2, extension, uic, payload.as_ptr(), payload.len())
+    }
+}
+
+pub fn radpk(chars: &[u8]) -> Answer {
+    unsafe { abz_radpk(chars.as_ptr(), chars.len()) }
+}
+
+pub fn radup(word: usize, chars: &mut [u8]) -> usize {
+    unsafe { abz_radup(word, chars.as_mut_ptr(), chars.len()) }
+}
+
+pub fn d2bin(chars: &[u8]) -> Answer {
+    unsafe { abz_d2bin(chars.as_ptr(), chars.len()) }
+}
+
+pub fn bin2d(number: usize, chars: &mut [u8]) -> usize {
+    unsafe { abz_bin2d(number, chars.as_mut_ptr(), chars.len()) }
+}
+
+pub fn o2bin(chars: &[u8]) -> Answer {
+    unsafe { abz_o2bin(chars.as_ptr(), chars.len()) }
+}
+
+pub fn bin2o(number: usize, chars: &mut [u8]) -> usize {
+    unsafe { abz_bin2o(number, chars.as_mut_ptr(), chars.len()) }
+}
+
+pub fn csi1(line: &[u8], condensed: &mut [u8]) -> Answer {
+    unsafe { abz_csi1(line.as_ptr(), line.len(), condensed.as_mut_ptr(), condensed.len()) }
+}
+
+pub fn csi2(line: &[u8], side: usize, k: usize, switches: &mut [u8]) -> crate::answers::SpecificationAnswer {
+    unsafe { abz_csi2(line.as_ptr(), line.len(), side, k, switches.as_mut_ptr(), switches.len()) }
+}

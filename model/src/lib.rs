@@ -1,0 +1,15 @@
+//! The file service of document 01 as a plain program, written from that paper and not from the library, so that the
+//! two can be run side by side. Nothing here is proved; what counts is that it was written apart.
+
+pub mod answers;
+pub mod boundary;
+pub mod command;
+pub mod conversions;
+pub mod listing;
+pub mod pack;
+pub mod refusal;
+pub mod requests;
+pub mod words;
+
+#[cfg(test)]
+mod examples;

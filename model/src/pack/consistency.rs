@@ -1,0 +1,114 @@
+//! Whether an image is a consistent pack, and which blocks its files hold.
+
+use super::blocks::BlockSet;
+use super::entry::{self, Entry, CONTIGUOUS, ENTRY_BYTES, EXTEND, LINKED, MOST, MOST_OPENS, OUTPUT, UPDATE};
+use super::header::Header;
+use super::{link, name};
+use crate::refusal::Refusal;
+use crate::words::word;
+
+/// What is known of a consistent image.
+pub struct Pack {
+    pub header: Header,
+    held: BlockSet,
+}
+
+impl Pack {
+    /// "Free: above c and in no file."
+    pub fn is_free(&self, block: usize) -> bool {
+        block > self.header.contents && block < self.header.blocks && !self.held.contains(block)
+    }
+
+    /// The highest block that is free.
+    pub fn highest_free(&self) -> Option<usize> {
+        (self.header.contents + 1..self.header.blocks).rev().find(|&block| !self.held.contains(block))
+    }
+
+    /// The highest start of so many free blocks in a row.
+    pub fn highest_free_run(&self, blocks: usize) -> Option<usize> {
+        let mut run = 0;
+        for block in (self.header.contents + 1..self.header.blocks).rev() {
+            run = if self.held.contains(block) { 0 } else { run + 1 };
+            if run == blocks {
+                return Some(block);
+            }
+        }
+        None
+    }
+
+    /// The lowest empty entry.
+    pub fn lowest_empty_entry(&self, image: &[u8]) -> Option<usize> {
+        (0..self.header.entries()).find(|&index| entry::is_empty(entry::bytes(image, index)))
+    }
+}
+
+/// Takes an image for a pack, or refuses it as not consistent.
+pub fn examine(image: &[u8]) -> Result<Pack, Refusal> {
+    consistent(image).ok_or(Refusal::Inconsistent)
+}
+
+fn consistent(image: &[u8]) -> Option<Pack> {
+    let header = Header::read(image)?;
+    let mut held = BlockSet::new();
+    let mut keys = [0; MOST];
+    let mut used = 0;
+    for index in 0..header.entries() {
+        let bytes = entry::bytes(image, index);
+        if entry::is_empty(bytes) {
+            continue;
+        }
+        let file = Entry::read(bytes);
+        if !is_file(&header, bytes, &file) || !holds_its_blocks(image, &header, &file, &mut held) {
+            return None;
+        }
+        keys[used] = entry::key(bytes);
+        used += 1;
+    }
+    // "differ in name, extension or UIC": two alike would stand side by side.
+    let keys = &mut keys[..used];
+    keys.sort_unstable();
+    let differ = keys.windows(2).all(|pair| pair[0] != pair[1]);
+    differ.then_some(Pack { header, held })
+}
+
+/// What an entry must be apart from its blocks.
+fn is_file(header: &Header, bytes: &[u8; ENTRY_BYTES], file: &Entry) -> bool {
+    name::is_name(file.name1 as usize, file.name2 as usize)
+        && name::is_extension(file.extension as usize)
+        && header.uics.contain(file.uic as usize)
+        && file.protect <= 255
+        && match file.kind {
+            CONTIGUOUS => matches!(file.writer, 0 | UPDATE),
+            LINKED => matches!(file.writer, 0 | OUTPUT | EXTEND),
+            _ => false,
+        }
+        && file.opens() <= MOST_OPENS as u32
+        && (11..16).all(|index| word(bytes, index) == 0)
+}
+
+/// Puts the blocks of a file among those that are held; false if one is no body or is held already, or if the three
+/// numbers of the entry do not say what is there.
+fn holds_its_blocks(image: &[u8], header: &Header, file: &Entry, held: &mut BlockSet) -> bool {
+    let (first, length, last) = (file.first as usize, file.length as usize, file.last as usize);
+    if file.kind == CONTIGUOUS {
+        return length >= 1
+            && first > header.contents
+            && last < header.blocks
+            && last + 1 == first + length
+            && (first..=last).all(|block| held.insert(block));
+    }
+    if length == 0 {
+        return first == 0 && last == 0;
+    }
+    // A chain that comes back to one of its own blocks meets it as held; so this ends, and the blocks are distinct.
+    let mut block = first;
+    for place in 0..length {
+        if block <= header.contents || block >= header.blocks || !held.insert(block) {
+            return false;
+        }
+        if place + 1 < length {
+            block = link(image, block);
+        }
+    }
+    block == last && link(image, last) == 0
+}
