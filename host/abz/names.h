@@ -1,0 +1,27 @@
+/* Numbers, UICs and file names as a technician writes them, turned into what the service takes. */
+#ifndef NAMES_H
+#define NAMES_H
+
+#include <stdbool.h>
+#include <stddef.h>
+
+typedef struct {
+    size_t name1, name2, extension, uic; /* uic 0: the caller's */
+} file_name;
+
+/* The four arguments of a file, as every request has them. */
+#define FOUR(file) (file).name1, (file).name2, (file).extension, (file).uic
+
+/* What a new file gets where no protect code is given: its owner may do all with it, everyone else may read it. */
+enum { PROTECT_USUAL = 033 };
+
+/*
+ * Each of these says on standard error what is wrong with the text, and returns false, unless the text can be written
+ * as numbers. Whether the service likes the numbers is for the service to say.
+ */
+bool read_decimal(const char *what, const char *text, size_t *number);
+bool read_protect(const char *text, size_t *protect); /* octal; NULL leaves the number as it is */
+bool read_uic(const char *text, size_t *uic);         /* [23,10] or 23,10 */
+bool read_name(const char *text, file_name *file);    /* FREQ.DAT or FREQ.DAT[23,10] */
+
+#endif

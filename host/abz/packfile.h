@@ -1,0 +1,40 @@
+/*
+ * Packs that are kept in files. A command reads the pack, lends its bytes to the service, and only where that did all
+ * that was asked are they written back.
+ */
+#ifndef PACKFILE_H
+#define PACKFILE_H
+
+#include "contents.h"
+
+#include <stdbool.h>
+#include <stddef.h>
+#include <stdint.h>
+
+typedef struct {
+    const char *path;
+    size_t length;
+    uint8_t image[BLOCK * BLOCKS_MOST + 1]; /* one byte more than any pack, so that a file too long is seen to be so */
+} pack_file;
+
+/*
+ * Each of these says on standard error what went wrong where it returns false. Whether the bytes are a pack at all is
+ * not looked at: the service says that, in every request.
+ */
+
+/* For requests that change nothing. */
+bool pack_read(pack_file *pack, const char *path);
+
+/* For requests that change the pack. Until abz ends, no other abz changes the file. */
+bool pack_take(pack_file *pack, const char *path);
+
+/* Whether a name leads to the file that the pack is in. It says nothing. */
+bool pack_is(const pack_file *pack, const char *path);
+
+/* For formatting: so many blocks of 0. There may be a file already or not; if so, no other abz changes it. */
+bool pack_begin(pack_file *pack, const char *path, size_t blocks);
+
+/* Puts the image into the file. If this returns false, the file is as it was. */
+bool pack_write(const pack_file *pack);
+
+#endif

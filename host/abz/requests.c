@@ -1,0 +1,181 @@
+/*
+ * Commands that are one request each: the arguments become numbers, the pack is read, the service is called, and where
+ * it did what was asked the pack is written back.
+ */
+#include "commands.h"
+
+#include "abezolit.h"
+#include "names.h"
+#include "packfile.h"
+#include "show.h"
+#include "tell.h"
+
+#include <stdio.h>
+#include <string.h>
+
+enum { FORM = 1, UICS_MOST = 64 };
+
+static pack_file pack;
+
+/* The end of a request that changes the pack. */
+static int finish(const char *command, size_t code)
+{
+    if (code != ABZ_OK)
+        return tell_refusal(command, code);
+    return pack_write(&pack) ? STATUS_DONE : STATUS_FAILED;
+}
+
+/* ---- Packs ---- */
+
+/* UICs as words, low byte first. Of more than a pack takes one is enough for the service to see that. */
+static bool read_uics(char **texts, uint8_t uics[2 * (UICS_MOST + 1)], size_t *length)
+{
+    size_t uic;
+
+    for (*length = 0; *texts; texts++) {
+        if (!read_uic(*texts, &uic))
+            return false;
+        if (*length <= 2 * UICS_MOST) {
+            uics[(*length)++] = (uint8_t)(uic % 256);
+            uics[(*length)++] = (uint8_t)(uic / 256);
+        }
+    }
+    return true;
+}
+
+int command_format(char **arguments)
+{
+    size_t blocks, contents, length;
+    uint8_t uics[2 * (UICS_MOST + 1)];
+
+    if (!read_decimal("BLOCKS", arguments[1], &blocks) || !read_decimal("CONTENTS", arguments[2], &contents)
+        || !read_uics(arguments + 3, uics, &length))
+        return STATUS_USAGE;
+    if (!pack_begin(&pack, arguments[0], blocks))
+        return STATUS_FAILED;
+    return finish("format", abz_format(pack.image, pack.length, FORM, blocks, contents, uics, length));
+}
+
+/* ---- Files ---- */
+
+static void show_look(const abz_look_answer *answer)
+{
+    static const char *const kinds[] = { "", "contiguous", "linked" };
+    static const char *const writers[] = { "none", "update", "output", "extension" };
+
+    printf("kind     %s\nfirst    ", kinds[answer->kind]);
+    show_count(answer->first);
+    printf("\nlength   ");
+    show_count(answer->length);
+    printf("\nprotect  ");
+    show_octal(answer->protect);
+    printf("\nwriter   %s\nreaders  ", writers[answer->writer]);
+    show_count(answer->readers);
+    putchar('\n');
+}
+
+int command_look(char **arguments)
+{
+    size_t caller;
+    file_name file;
+    abz_look_answer answer;
+
+    if (!read_uic(arguments[1], &caller) || !read_name(arguments[2], &file))
+        return STATUS_USAGE;
+    if (!pack_read(&pack, arguments[0]))
+        return STATUS_FAILED;
+    answer = abz_look(pack.image, pack.length, caller, FOUR(file));
+    if (answer.code != ABZ_OK)
+        return tell_refusal("look", answer.code);
+    show_look(&answer);
+    return show_end() ? STATUS_DONE : STATUS_FAILED;
+}
+
+int command_alloc(char **arguments)
+{
+    size_t caller, segments, protect = PROTECT_USUAL;
+    file_name file;
+    abz_answer answer;
+
+    if (!read_uic(arguments[1], &caller) || !read_name(arguments[2], &file)
+        || !read_decimal("SEGMENTS", arguments[3], &segments) || !read_protect(arguments[4], &protect))
+        return STATUS_USAGE;
+    if (!pack_take(&pack, arguments[0]))
+        return STATUS_FAILED;
+    answer = abz_alloc(pack.image, pack.length, caller, FOUR(file), protect, segments);
+    if (answer.code == ABZ_OK) {
+        printf("first block ");
+        show_count(answer.number);
+        putchar('\n');
+        if (!show_end()) /* before the pack is written: where abz fails, the pack is to be as it was */
+            return STATUS_FAILED;
+    }
+    return finish("alloc", answer.code);
+}
+
+int command_delete(char **arguments)
+{
+    size_t caller;
+    file_name file;
+
+    if (!read_uic(arguments[1], &caller) || !read_name(arguments[2], &file))
+        return STATUS_USAGE;
+    if (!pack_take(&pack, arguments[0]))
+        return STATUS_FAILED;
+    return finish("delete", abz_delet(pack.image, pack.length, caller, FOUR(file)));
+}
+
+/* The protect code that a file has. Where there is none, RENAM refuses too, and with the code that comes first. */
+static size_t present_protect(size_t caller, file_name file)
+{
+    return abz_look(pack.image, pack.length, caller, FOUR(file)).protect;
+}
+
+/* A file keeps its owner, so that a UIC here would be passed over in silence. */
+static bool read_new_name(const char *text, file_name *file)
+{
+    if (strchr(text, '[') == NULL)
+        return read_name(text, file);
+    complain("'%s': a new name has no UIC, since a file keeps its owner", text);
+    return false;
+}
+
+int command_rename(char **arguments)
+{
+    size_t caller, protect;
+    file_name old, new;
+
+    if (!read_uic(arguments[1], &caller) || !read_name(arguments[2], &old) || !read_new_name(arguments[3], &new)
+        || !read_protect(arguments[4], &protect))
+        return STATUS_USAGE;
+    if (!pack_take(&pack, arguments[0]))
+        return STATUS_FAILED;
+    if (arguments[4] == NULL)
+        protect = present_protect(caller, old);
+    return finish("rename", abz_renam(pack.image, pack.length, caller, FOUR(old), new.name1, new.name2, new.extension,
+                                      protect));
+}
+
+int command_append(char **arguments)
+{
+    size_t caller;
+    file_name first, second;
+
+    if (!read_uic(arguments[1], &caller) || !read_name(arguments[2], &first) || !read_name(arguments[3], &second))
+        return STATUS_USAGE;
+    if (!pack_take(&pack, arguments[0]))
+        return STATUS_FAILED;
+    return finish("append", abz_appnd(pack.image, pack.length, caller, FOUR(first), FOUR(second)));
+}
+
+int command_keep(char **arguments)
+{
+    size_t caller;
+    file_name file;
+
+    if (!read_uic(arguments[1], &caller) || !read_name(arguments[2], &file))
+        return STATUS_USAGE;
+    if (!pack_take(&pack, arguments[0]))
+        return STATUS_FAILED;
+    return finish("keep", abz_keep(pack.image, pack.length, caller, FOUR(file)));
+}

@@ -1,0 +1,97 @@
+/* The words of the codes: the only place where abz knows what a code means. */
+#include "tell.h"
+
+#include "abezolit.h"
+
+#include <errno.h>
+#include <stdarg.h>
+#include <stdio.h>
+#include <string.h>
+
+typedef struct {
+    size_t code;
+    const char *command; /* NULL in the row for all other commands, which is the last of its code */
+    const char *words;
+} cause;
+
+/*
+ * Codes stand in the order of the build document's table. One code can have several causes, and a command usually
+ * knows which of them it can be; so it has words of its own where they say more. All codes are here, also those that
+ * no command of abz meets.
+ */
+static const cause causes[] = {
+    { ABZ_INCONSISTENT, NULL, "the file is not a consistent pack" },
+    { ABZ_NAME, NULL, "a name is 1 to 6 of A-Z and 0-9, an extension 0 to 3 of them" },
+    { ABZ_ARGUMENT, "format", "BLOCKS is 16 to 1024, CONTENTS 1 to 8; at most 64 UICs, none twice and none [0,0]" },
+    { ABZ_ARGUMENT, "alloc", "SEGMENTS is at least 1, and PROTECT at most 377" },
+    { ABZ_ARGUMENT, "put", "PROTECT is at most 377" },
+    { ABZ_ARGUMENT, "rename", "PROTECT is at most 377" },
+    { ABZ_ARGUMENT, "append", "a file cannot be appended to itself" },
+    { ABZ_ARGUMENT, NULL, "an argument is not one that the request takes" },
+    { ABZ_NO_USER, NULL, "the owner is not in the pack's list of UICs" },
+    { ABZ_EXISTENCE, "alloc", "there is such a file already" },
+    { ABZ_EXISTENCE, "put", "there is such a file already" },
+    { ABZ_EXISTENCE, "rename", "there is no such file under this UIC, or there is one of the new name already" },
+    { ABZ_EXISTENCE, "append", "there is no such file under its UIC, the first or the second" },
+    { ABZ_EXISTENCE, "get", "there is no such file under this UIC, or it is still open for output" },
+    { ABZ_EXISTENCE, NULL, "there is no such file under this UIC" },
+    { ABZ_RIGHT, "alloc", "a file is created by its owner only" },
+    { ABZ_RIGHT, "put", "a file is created by its owner only, and with 100 in PROTECT even he may not write to it" },
+    { ABZ_RIGHT, "delete", "the caller may not delete this file" },
+    { ABZ_RIGHT, "rename", "the caller may not write to this file" },
+    { ABZ_RIGHT, "append", "the caller may not write to the first file, or may not delete the second" },
+    { ABZ_RIGHT, "keep", "only its owner may keep a file" },
+    { ABZ_RIGHT, "get", "the caller may not read this file" },
+    { ABZ_RIGHT, NULL, "the caller lacks the right" },
+    { ABZ_NOT_LINKED, NULL, "a contiguous file cannot be opened for extension" },
+    { ABZ_KIND, "append", "only a linked file can be appended, and only to a linked one" },
+    { ABZ_KIND, "get", "the file is contiguous, and only linked ones are read so" },
+    { ABZ_KIND, NULL, "the file is of the other kind, contiguous or linked" },
+    { ABZ_WRITER, NULL, "the file has a writer already" },
+    { ABZ_OPEN, "append", "one of the files is open" },
+    { ABZ_OPEN, NULL, "the file is open" },
+    { ABZ_NOT_OPEN, NULL, "the file is not open as the request needs it" },
+    { ABZ_NO_BLOCK, NULL, "there is no such block" },
+    { ABZ_OPENS, NULL, "the file is open 62 times already" },
+    { ABZ_NO_ENTRY, NULL, "the pack's contents have no empty entry" },
+    { ABZ_NO_ROOM, "alloc", "nowhere on the pack are so many blocks free in a row" },
+    { ABZ_NO_ROOM, NULL, "the pack has too few free blocks" },
+    { ABZ_GRAMMAR, NULL, "this is no command: the mark is where it goes wrong or stops too soon" },
+    { ABZ_NO_SPECIFICATION, NULL, "the line has no such side or specification" },
+    { ABZ_SHORT_BUFFER, NULL, "the buffer is too short" },
+    { ABZ_LONG_LINE, NULL, "the line is longer than 512 characters, or than 128 without its blanks" },
+    { ABZ_CONVERSION, NULL, "what is to be converted is not of its set, or too large" },
+};
+
+static const char *words_of(const char *command, size_t code)
+{
+    for (size_t i = 0; i < sizeof causes / sizeof *causes; i++)
+        if (causes[i].code == code && (causes[i].command == NULL || strcmp(causes[i].command, command) == 0))
+            return causes[i].words;
+    return "for a cause that abz has no words for";
+}
+
+void complain(const char *format, ...)
+{
+    va_list arguments;
+
+    /* What was printed before is to be seen before, also where both go to one terminal. */
+    fflush(stdout);
+    fputs("abz: ", stderr);
+    va_start(arguments, format);
+    vfprintf(stderr, format, arguments);
+    va_end(arguments);
+    fputc('\n', stderr);
+}
+
+bool complain_of(const char *file)
+{
+    complain("%s: %s", file, strerror(errno));
+    return false;
+}
+
+int tell_refusal(const char *command, size_t code)
+{
+    complain("%s: refused %zo: %s", command, code, words_of(command, code));
+    return STATUS_FAILED;
+}
