@@ -12,9 +12,11 @@ int main(void)
     const size_t name2 = abz_radpk((const uint8_t *)"Q  ", 3).number;
     const size_t extension = abz_radpk((const uint8_t *)"DAT", 3).number;
 
-    abz_format(pack, sizeof pack, 1, 16, 1, uics, sizeof uics);
+    const size_t formatted = abz_format(pack, sizeof pack, 1, 16, 1, uics, sizeof uics);
     const abz_answer made = abz_alloc(pack, sizeof pack, caller, name1, name2, extension, 0, 3, 9);
     const abz_owner_answer owner = abz_owner(pack, sizeof pack, 15);
-    printf("code %zo, first block %zu; block 15 is place %zu of entry %zu\n", made.code, made.number, owner.place, owner.entry);
-    return made.code != 0;
+    if (formatted != ABZ_OK || made.code != ABZ_OK || owner.code != ABZ_OK)
+        return 1;
+    printf("first block %zu; block 15 is place %zu of entry %zu\n", made.number, owner.place, owner.entry);
+    return 0;
 }

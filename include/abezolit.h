@@ -41,7 +41,7 @@ enum {
     ABZ_NAME         = 015, /* a name or an extension is not legal */
     ABZ_ARGUMENT     = 041, /* an argument that the call does not take, as a buffer of another size */
     ABZ_NO_USER      = 013, /* a file is to be created under a UIC that is not in the pack's list */
-    ABZ_EXISTENCE    = 2,   /* there is no such file; where a file is to get this name, there is one already */
+    ABZ_EXISTENCE    = 2,   /* there is no such file; for an open, it is open for output; for a new name, there is one already */
     ABZ_RIGHT        = 6,   /* the caller lacks the right, as told under Rights */
     ABZ_NOT_LINKED   = 5,   /* a contiguous file is to be opened for extension */
     ABZ_KIND         = 043, /* the file is of the other kind than the call takes */
@@ -69,7 +69,7 @@ typedef struct {
  * Conversions
  *
  * Three pairs, each the other's inverse. A buffer of characters has exactly the size that is named, with no NUL
- * behind, and characters are ASCII: lower case, bytes with bit 7 set, signs, and blanks among digits are of no set.
+ * behind, and characters are ASCII: lower case, bytes with bit 7 set, and signs and blanks among digits are of no set.
  *
  * Each call refuses with, in this order:
  *   ABZ_ARGUMENT    chars_len is not the size named, whatever else is wrong;
@@ -137,8 +137,8 @@ size_t abz_bin2o(size_t number, uint8_t *chars, size_t chars_len);
  *   uic           the owner's. 0 means the caller's: the number caller is taken, which is the UIC of the user for
  *                 whom the host calls.
  *
- * A name or extension of another shape is not legal, and so is every number from 64000 up. A caller or uic may be
- * any number; no file has one that is not in the pack's list.
+ * A name or extension of another shape is not legal, nor is any number from 64000 up. A caller or uic may be any
+ * number; no file has a UIC that is not in the pack's list.
  *
  * A pack is consistent if the image has all that is said above and is exactly 512 * n bytes long, and if
  *   - each file has a legal name and extension and a UIC of the list, and no two files have all four numbers alike;
@@ -212,7 +212,8 @@ abz_owner_answer abz_owner(const uint8_t *image, size_t image_len, size_t block)
  *   - another of the group, where caller / 256 is the file's UIC / 256, goes by bits 3 to 5, protect / 8 % 8;
  *   - anyone else goes by bits 0 to 2, protect % 8.
  * In these three bits 0 is read, write and delete; 1 is read and write; 2 and 3 are read; 4 to 7 are nothing. The group
- * may so be given less than all others. Bit 7 (0200) marks a file that is to be kept at Finish; it is no right.
+ * may so be given less than all others. Bit 7 (0200) is no right: it marks a file for a host that clears away a user's
+ * files when the user finishes. KEEP sets it, and no call goes by it.
  *
  * Opens
  *
@@ -277,7 +278,7 @@ size_t abz_opene(uint8_t *image, size_t image_len, size_t caller,
  *   ABZ_NAME          the name or the extension is not legal;
  *   ABZ_ARGUMENT      mode is none of the four;
  *   ABZ_EXISTENCE     there is no such file;
- *   ABZ_NOT_OPEN      its writer is not mode; or mode is ABZ_INPUT, and it has no reader.
+ *   ABZ_NOT_OPEN      mode is ABZ_INPUT, and it has no reader; or mode is one of the other three, and is not its writer.
  */
 size_t abz_close(uint8_t *image, size_t image_len, size_t caller,
                  size_t name1, size_t name2, size_t extension, size_t uic, size_t mode);
@@ -305,7 +306,8 @@ size_t abz_keep(uint8_t *image, size_t image_len, size_t caller,
 
 /*
  * RENAM: gives a file a new name, extension and protect code. The owner stays, and so does all else. It cannot change
- * the protect code alone: to keep its name too, a file is renamed twice.
+ * the protect code alone: to keep its name too, a file is renamed twice, the first time with a protect code that still
+ * lets the caller write. An owner whose file has bit 6 set may not rename it, and so cannot clear that bit.
  *   ABZ_INCONSISTENT
  *   ABZ_NAME          the name or the extension is not legal, the old or the new;
  *   ABZ_ARGUMENT      protect is above 255;
@@ -349,7 +351,7 @@ size_t abz_appnd(uint8_t *image, size_t image_len, size_t caller,
  *   ABZ_NO_ROOM       ALLOC only: nowhere are so many blocks free in a row.
  *
  * ALLOC makes a contiguous file that is closed and large enough for so many segments of 64 words, 4 to a block: it has
- * segments / 4 blocks, rounded up, of any number. Of all places where so many blocks are free in a row, it gets the one
+ * segments / 4 blocks, rounded up; any number may be asked for. Of all places where so many blocks are free in a row, it gets the one
  * that starts highest; number is its first block. The blocks are not written and hold what they held.
  *
  * OPENO makes a linked file that has no block and is open for output: its writer is ABZ_OUTPUT. It needs no free block.
@@ -506,8 +508,9 @@ typedef struct {
 
 /*
  * CSI2: gives the specification at place k, counted from 0, of a side of a condensed line. The members of a part that
- * it does not have are 0. Of unit, group and user the low 8 bits are given, however many digits they have; so
- * 256 * group + user is a uic for the calls on files, where 0 means the caller's.
+ * it does not have are 0. Unit, group and user are octal in the line, and of each the low 8 bits are given, however many
+ * digits it has; so 256 * group + user is a uic for the calls on files, where 0 means the caller's: ABZ_HAS_UIC tells
+ * whether one was written. line_len is the number that CSI1 gave, not the length of the buffer it was lent.
  *
  * The switches are written to the start of the slice of that name, in the order in which they stand in the line, and
  * the bytes behind stay. A switch is words of two bytes, low byte first:

@@ -153,6 +153,6 @@ absent-said line said says (suc zero) = (λ is. inl (refl, input-side line said 
 absent-said line said says (suc (suc side)) = (λ is. inr (omega arith), λ or. no-side (suc (suc side)) (kept said) (omega arith))
 
 -- "side 0 is output, 1 input, and a line with no `<` has no input side"
-pub absent-iff : (line : List ℕ) (reading : Reading) → Reads line reading → (side : ℕ)
+pub absent-side-iff : (line : List ℕ) (reading : Reading) → Reads line reading → (side : ℕ)
     → sideOf side reading ≡ [] ↔ (((side ≡ 1) × (reading .input ≡ none)) ⊎ (2 ≤ side))
-absent-iff line reading (reads {said} says) side = absent-said line said says side
+absent-side-iff line reading (reads {said} says) side = absent-said line said says side

@@ -14,7 +14,7 @@ use Rattle.pack.specs.declared.Entry.{Entry}
 use Rattle.pack.specs.declared.BlockNo.{BlockNo}
 use Rattle.pack.specs.Test.{listed}
 use Rattle.pack.specs.File.{blocksOf}
-use Rattle.pack.specs.Entry.{entryOf, blocksAt, Empty}
+use Rattle.pack.specs.Entry.{entryWord, entryOf, blocksAt, Empty}
 use Rattle.pack.proofs.Tests.{go-on, stop}
 use Rattle.consistency.specs.declared.Walked.{Walked}
 use Rattle.consistency.specs.declared.Walked.the-variants.{End, Stopped}
@@ -139,3 +139,13 @@ at-entry img g map e =
 
 pub answers : (img : List ℕ) (g : Geometry) (map : List ℕ) (e : ℕ) (x : Entry) → x ≡ entryOf img g e → Answers img g map e x
 answers img g map e x is = subst (Answers img g map e) (sym is) (at-entry img g map e)
+
+-- where w is what was read of its first word
+module _ (img : List ℕ) (g : Geometry) (e : ℕ) (w : ℕ) (is : w ≡ entryWord img g e 0) where
+  pub name-zero : w ≡ 0 → entryOf img g e .name1 ≡ 0
+  unfolding entryOf
+  name-zero zero = sym is ∙ zero
+
+  pub name-used : (x : Entry) → x ≡ entryOf img g e → (w ≡ 0 → ⊥) → x .name1 ≡ 0 → ⊥
+  unfolding entryOf
+  name-used x at used zero = used (is ∙ (ap (λ (y : Entry). y .name1) (sym at) ∙ zero))

@@ -1,17 +1,19 @@
 -- That files differ: each test of pairs is true exactly if no two entries have one name, extension and UIC; and the tests step by step.
-use Prim.Native.Nat.{ℕ, suc, zero, _+_, _-_, _≤_, _<_}
+use Prim.Native.Nat.{ℕ, suc, zero, _+_, _-_, _%_, _≤_, _<_}
 use mathlib.Core.Path.{_≡_, refl, sym, ap, subst, _∙_}
 use mathlib.Core.Bool.{Bool, true, false, not, _&&_}
 use mathlib.Core.List.{List}
 use mathlib.Core.Logic.{_↔_}
 use native.Mathlib.Omega.{arith}
 use native.Mathlib.Decide.{ℕ-discrete}
+use lib.ListN.{length, getD, set, length-set}
+use lib.Seq.{getD-set-same, getD-set-other}
 use lib.Dec.{eqb}
 use borrow.Author.Tests.{eq-eqb, ne-eqb, eqb-true, not-true}
 use Rattle.pack.specs.declared.Geometry.{Geometry}
 use Rattle.pack.specs.Entry.{entryWord, entryOf, SameFile}
 use Rattle.pack.proofs.Tests.{and-left, and-right, and-both, go-on, stop, true-not-false}
-use Rattle.consistency.specs.Differ.{sameTest, apartTest, uniqueTest, differTest}
+use Rattle.consistency.specs.Differ.{sameTest, remainders, keyRemainder, apartTest, uniqueTest, differTest}
 
 -- entries left to count from e on
 pub left-of : (e end : ℕ) → e < end → end - e ≡ suc (end - (e + 1))
@@ -147,18 +149,78 @@ module _ (img : List ℕ) (g : Geometry) where
   unfolding uniqueTest
   unique-used e end total is used = simp (ne-eqb _ _ used, is)
 
-  pub differ-start : (end total : ℕ) → end ≡ total → differTest img g 0 total ≡ differTest img g 0 (end - 0)
-  differ-start end total is = let all : total ≡ end - 0 = omega arith in ap (differTest img g 0) all
-
   module _ (e end total : ℕ) (is : end ≡ total) (below : e < end) where
     pub differ-step : uniqueTest img g e (total - (e + 1)) ≡ true → differTest img g e (end - e) ≡ differTest img g (e + 1) (end - (e + 1))
     unfolding differTest
     differ-step unique = ap (differTest img g e) (left-of e end below) ∙ simp (is, unique)
 
-    pub differ-not : uniqueTest img g e (total - (e + 1)) ≡ false → differTest img g e (end - e) ≡ false
-    unfolding differTest
-    differ-not twice = ap (differTest img g e) (left-of e end below) ∙ simp (is, twice)
-
   pub differ-end : (e end : ℕ) → end ≤ e → differTest img g e (end - e) ≡ true
   unfolding differTest
   differ-end e end done = let none : end - e ≡ 0 = omega arith in ap (differTest img g e) none
+
+  -- the remainder of what was read
+  pub remainder-of : (e : ℕ) {w₀ w₁ w₂ w₃ : ℕ} → w₀ ≡ entryWord img g e 0 → w₁ ≡ entryWord img g e 1 → w₂ ≡ entryWord img g e 2 → w₃ ≡ entryWord img g e 3
+      → (w₀ + w₁ + (w₂ + w₃)) % remainders ≡ keyRemainder img g e
+  unfolding keyRemainder
+  remainder-of e is₀ is₁ is₂ is₃ = rw (is₀, is₁, is₂, is₃)
+
+  same-remainder : (e f : ℕ) → Same e f → keyRemainder img g e ≡ keyRemainder img g f
+  unfolding keyRemainder entryOf
+  same-remainder e f same = rw (same .name1, same .name2, same .extension, same .uic)
+
+  -- the remainders of the entries from e up to `total` are marked
+  pub record Marked (marks : List ℕ) (e total : ℕ) : Type 0 where
+    pub long : length marks ≡ remainders
+    pub marked : (i : ℕ) → e ≤ i → i < total → getD marks (keyRemainder img g i) 0 ≡ 1
+
+  pub marked-none : (marks : List ℕ) (end total : ℕ) → length marks ≡ remainders → end ≡ total → Marked marks end total
+  marked-none marks end total long is = record { long = long; marked = λ i low high. absurd (omega arith) }
+
+  module _ (marks : List ℕ) (e total at : ℕ) (is : at ≡ keyRemainder img g e) where
+    pub marked-more : at < remainders → Marked marks (e + 1) total → Marked (set marks at 1) e total
+    marked-more few before =
+        record {
+          long = length-set marks at 1 ∙ before .long;
+          marked = λ i low high. elim (ℕ-discrete (keyRemainder img g i) at) [
+            | yes same ↦ ap (λ (n : ℕ). getD (set marks at 1) n 0) same ∙ getD-set-same marks at 1 0 (omega (arith, few, before .long))
+            | no other ↦ getD-set-other marks at (keyRemainder img g i) 1 0 other ∙ before .marked i (behind i low other) high
+          ];
+        }
+      where
+        behind : (i : ℕ) → e ≤ i → (keyRemainder img g i ≡ at → ⊥) → e + 1 ≤ i
+        behind i low other = elim (ℕ-discrete e i) [
+          | yes here ↦ absurd (other (ap (keyRemainder img g) (sym here) ∙ sym is))
+          | no later ↦ omega (arith, later)
+        ]
+
+    -- where the remainder of e is not marked, no later file is the same
+    pub unmarked-unique : getD marks at 0 ≡ 0 → Marked marks (e + 1) total → uniqueTest img g e (total - (e + 1)) ≡ true
+    unmarked-unique free before = unique-tested e (total - (e + 1)) (λ used i low high same.
+        let there : getD marks (keyRemainder img g i) 0 ≡ 1 = before .marked i low (omega arith) in
+        let one : getD marks at 0 ≡ 1 = ap (λ (n : ℕ). getD marks n 0) (is ∙ same-remainder e i same) ∙ there in
+        omega (arith, free, one))
+
+  -- downwards, from e to the entry before it
+  module _ (e total : ℕ) (some : 0 < e) (most : e ≤ total) where
+    back : e - 1 + 1 ≡ e
+    back = omega arith
+
+    pub differ-down : uniqueTest img g (e - 1) (total - (e - 1 + 1)) ≡ true → differTest img g e (total - e) ≡ true → differTest img g (e - 1) (total - (e - 1)) ≡ true
+    differ-down unique rest =
+        differ-step (e - 1) total total refl (omega arith) unique ∙ subst (λ (n : ℕ). differTest img g n (total - n) ≡ true) (sym back) rest
+
+    pub marked-back : (marks : List ℕ) → Marked marks e total → Marked marks (e - 1 + 1) total
+    marked-back marks before = subst (λ (n : ℕ). Marked marks n total) (sym back) before
+
+  pub differ-twice : (e total : ℕ) → e < total → uniqueTest img g e (total - (e + 1)) ≡ false → false ≡ differTest img g 0 total
+  differ-twice e total below twice = otherwise (differTest img g 0 total) (λ test.
+      true-not-false (sym (unique-tested e (total - (e + 1)) (λ used i low high. differ-means 0 total test e i (omega arith) (omega arith) (omega arith) used)) ∙ twice))
+    where
+      otherwise : (t : Bool) → (t ≡ true → ⊥) → false ≡ t
+      otherwise true no-way = absurd (no-way refl)
+      otherwise false no-way = refl
+
+  pub differ-all : (e total : ℕ) → e ≡ 0 → differTest img g e (total - e) ≡ true → true ≡ differTest img g 0 total
+  differ-all e total none test =
+      let all : total - 0 ≡ total = omega arith in
+      sym test ∙ (ap (λ (n : ℕ). differTest img g n (total - n)) none ∙ ap (differTest img g 0) all)

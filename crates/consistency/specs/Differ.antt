@@ -1,5 +1,5 @@
 -- That files differ in name, extension or UIC, as a test of each pair of entries.
-use Prim.Native.Nat.{ℕ, suc, zero, _+_}
+use Prim.Native.Nat.{ℕ, suc, zero, _+_, _%_}
 use mathlib.Core.Bool.{Bool, true, cond, not, _&&_}
 use mathlib.Core.List.{List}
 use lib.Dec.{eqb}
@@ -12,6 +12,15 @@ sameTest img g e f =
     eqb (entryWord img g e 0) (entryWord img g f 0)
     && (eqb (entryWord img g e 1) (entryWord img g f 1)
     && (eqb (entryWord img g e 2) (entryWord img g f 2) && eqb (entryWord img g e 3) (entryWord img g f 3)))
+
+-- how many numbers there are of name, extension and UIC
+abbrev pub remainders : ℕ
+remainders = 1024
+
+-- such a number: where it differs, so do the entries
+unfoldable pub keyRemainder : List ℕ → Geometry → ℕ → ℕ
+keyRemainder img g e =
+    (entryWord img g e 0 + entryWord img g e 1 + (entryWord img g e 2 + entryWord img g e 3)) % remainders
 
 -- entry e differs from each of the `k` entries from f on
 unfoldable pub apartTest : List ℕ → Geometry → ℕ → ℕ → ℕ → Bool

@@ -11,7 +11,7 @@ ghost use Rattle.pack.specs.Entry.{blocksAt};
 ghost use Rattle.pack.specs.Consistent.{held};
 ghost use Rattle.consistency.specs.Walk.{mark, blocksFrom, walkOf, ended};
 ghost use Rattle.consistency.specs.Entry.{keyTest, kindTest, opensTest, fieldsTest, bodyTest, restTest, entryTest};
-ghost use Rattle.consistency.specs.Differ.{sameTest, uniqueTest, differTest};
+ghost use Rattle.consistency.specs.Differ.{sameTest, remainders, keyRemainder, uniqueTest, differTest};
 ghost use Rattle.consistency.specs.Test.{scanTest, markAll, consistent, openedOf};
 use pack::BlockNo;
 use pack::Entry;
@@ -171,10 +171,10 @@ fn is_entry_right(img: &[u8], map: &mut [u8], g: Geometry, e: usize) -> bool
     ensures { λ r. ⌜ r ≡ entryTest (now (img .entry)) g (now (map .entry)) e ⌝ }
     ensures { λ r. ⌜ (r ≡ true → now (map .exit) ≡ mark (now (map .entry)) (blocksAt (now (img .entry)) g e)) ⌝ }
 {
-    let x = pack::read_entry(img, g, e);
-    if x.name1 == 0 {
+    if pack::entry_word(img, g, e, 0) == 0 {
         return is_rest_zero(img, g, e, 0);
     }
+    let x = pack::read_entry(img, g, e);
     if !are_fields_right(img, x) {
         return false;
     }
@@ -239,17 +239,37 @@ fn is_unique(img: &[u8], g: Geometry, e: usize) -> bool
     true
 }
 
+// So many numbers stand for name, extension and UIC that of 128 files few have one that another has.
+const REMAINDERS: usize = 1024;
+
+// The same for the same name, extension and UIC, and of other files seldom the same.
+fn key_remainder(img: &[u8], g: Geometry, e: usize) -> usize
+    requires { ⌜ Sized (now img) g ⌝ }
+    requires { ⌜ e < slots g ⌝ }
+    ensures { λ r. ⌜ r ≡ keyRemainder (now (img .entry)) g e ⌝ }
+    ensures { λ r. ⌜ r < remainders ⌝ }
+{
+    let name = pack::entry_word(img, g, e, 0) + pack::entry_word(img, g, e, 1);
+    let rest = pack::entry_word(img, g, e, 2) + pack::entry_word(img, g, e, 3);
+    (name + rest) % REMAINDERS
+}
+
+// Downwards, with the numbers of the entries behind this one marked: only where its own is among them can a later file be the same.
 fn do_files_differ(img: &[u8], g: Geometry) -> bool
     requires { ⌜ Sized (now img) g ⌝ }
     ensures { λ r. ⌜ r ≡ differTest (now (img .entry)) g 0 (slots g) ⌝ }
 {
-    let end = slot_count(g);
-    let mut e = 0;
-    while e < end {
-        if !is_unique(img, g, e) {
-            return false;
+    let mut marks = [0u8; REMAINDERS];
+    let mut e = slot_count(g);
+    while 0 < e {
+        e -= 1;
+        let at = key_remainder(img, g, e);
+        if marks[at] != 0 {
+            if !is_unique(img, g, e) {
+                return false;
+            }
         }
-        e += 1;
+        marks[at] = 1;
     }
     true
 }

@@ -11,10 +11,6 @@ use Rattle.radix.specs.Names.{isLetter, isLetterOrDigit}
 use Rattle.radix.proofs.Characters.{Coded, Outside, coded}
 use Rattle.grammar.specs.Grammar.{All, nil, cons}
 
-pub or-false : (b : Bool) → b || false ≡ b
-or-false true = refl
-or-false false = refl
-
 pub letter-or-digit : (x : ℕ) → isLetterOrDigit x ≡ true → ((65 ≤ x) × (x ≤ 90)) ⊎ ((48 ≤ x) × (x ≤ 57))
 letter-or-digit x named = by (leb 65 x) (leb x 90) (leb 48 x) (leb x 57) refl refl refl refl named
   where

@@ -4,7 +4,7 @@ ghost use Prim.Native.Nat.{_+_, _-_, _<_, _≤_};
 ghost use lib.ListN.{length, take, drop};
 ghost use Rattle.answers.specs.Conversion.{orElse};
 ghost use Rattle.radix.specs.Characters.{codeOf};
-ghost use Rattle.radix.specs.Names.{isLetterOrDigit};
+ghost use Rattle.radix.specs.Names.{isLetter, isLetterOrDigit};
 ghost use Rattle.grammar.specs.Characters.{is};
 ghost use Rattle.grammar.specs.Grammar.{octal, All};
 ghost use Rattle.grammar.specs.Reading.{low8};
@@ -34,23 +34,26 @@ pub enum Part {
     Refused(usize),
 }
 
+fn is_letter(character: u8) -> bool
+    ensures { λ r. ⌜ r ≡ isLetter character ⌝ }
+{
+    65 <= character && character <= 90
+}
+
 fn is_letter_or_digit(character: u8) -> bool
     ensures { λ r. ⌜ r ≡ isLetterOrDigit character ⌝ }
 {
-    if 65 <= character {
-        return character <= 90;
+    if is_letter(character) {
+        return true;
     }
-    if 48 <= character {
-        return character <= 57;
-    }
-    false
+    48 <= character && character <= 57
 }
 
 pub fn belongs(class: Class, character: u8) -> bool
     ensures { λ r. ⌜ r ≡ classOf class character ⌝ }
 {
     match class {
-        Class::Letter => 65 <= character && character <= 90,
+        Class::Letter => is_letter(character),
         Class::Octal => 48 <= character && character <= 55,
         Class::LetterOrDigit => is_letter_or_digit(character),
     }

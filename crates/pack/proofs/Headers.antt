@@ -50,6 +50,26 @@ pub zeros-end : (img : List ℕ) (from k : ℕ) → k ≡ 0 → zeros img from k
 unfolding zeros
 zeros-end img from k none = ap (zeros img from) none
 
+-- and with what was found of the words before
+and-never : (t : Bool) → (t && false) ≡ false
+and-never true = refl
+and-never false = refl
+
+pub zeros-clear : (img : List ℕ) (from k : ℕ) (clear later : Bool) → 0 < k → wordAt img from ≡ 0 → later ≡ clear
+    → (clear && zeros img from k) ≡ (later && zeros img (from + 1) (k - 1))
+zeros-clear img from k clear later some is same = rw (same, zeros-step img from k some is)
+
+pub zeros-never : (img : List ℕ) (from k : ℕ) (clear later : Bool) → 0 < k → (wordAt img from ≡ 0 → ⊥) → later ≡ false
+    → (clear && zeros img from k) ≡ (later && zeros img (from + 1) (k - 1))
+zeros-never img from k clear later some never same = rw (same, zeros-not img from k some never) (and-never clear)
+
+pub zeros-done : (img : List ℕ) (from k : ℕ) (clear : Bool) → k ≡ 0 → (clear && zeros img from k) ≡ clear
+zeros-done img from k clear none = rw (zeros-end img from k none) (and-true clear)
+  where
+    and-true : (t : Bool) → (t && true) ≡ t
+    and-true true = refl
+    and-true false = refl
+
 -- a number among words
 pub record Among (img : List ℕ) (word from k : ℕ) : Type 0 where
   pub at : ℕ

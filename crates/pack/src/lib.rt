@@ -64,7 +64,7 @@ pub enum Owner {
     Held(usize, Place),
 }
 
-// The four numbers that a form decides.
+// The numbers that a form decides.
 pub fn segments_of(form: usize) -> Segments
     ensures { λ r. ⌜ r .0 ≡ segmentsOf form ⌝ }
 {
@@ -134,14 +134,15 @@ pub fn zero_words(img: &[u8], from: usize, count: usize) -> bool
 {
     let mut at = from;
     let mut left = count;
+    let mut clear = true;
     while 0 < left {
         if words::word_at(img, at) != 0 {
-            return false;
+            clear = false;
         }
         at += 1;
         left -= 1;
     }
-    true
+    clear
 }
 
 pub fn is_among(img: &[u8], word: usize, from: usize, count: usize) -> bool

@@ -8,7 +8,7 @@ use Rattle.radix.specs.Names.{isLetter, isLetterOrDigit}
 use Rattle.grammar.specs.Characters.{is, isOctal, colon}
 use Rattle.grammar.specs.Grammar.{All, octal}
 use Rattle.grammar.specs.Reading.{low8}
-use Rattle.grammar.specs.Reader.{Res, mapped, from, seq, first, mkDevice, word, span, spanAll, one, device}
+use Rattle.grammar.specs.Reader.{Res, no, mapped, from, seq, first, mkDevice, word, span, spanAll, one, device}
 use Rattle.grammar.proofs.Places.{from-seq, from-seq-no}
 use Rattle.cursor.specs.Parts.{partAt}
 use Rattle.cursor.specs.Words.{filledWord}
@@ -22,9 +22,13 @@ abbrev unitAndColon : List ℕ → Res (List ℕ)
 unitAndColon = seq first (word 0 (spanAll isOctal)) (one (is colon))
 
 module _ (s : List ℕ) (i middle : ℕ) (m : middle ≡ i + span isLetter 3 (drop i s)) where
+  pub device-few : middle - i < 2 → from device s i ≡ no middle
+  unfolding device
+  device-few few = from-seq-no mkDevice (word 2 (span isLetter 3)) unitAndColon s i middle (run-short isLetter 3 s i middle m 2 few)
+
   pub device-short : middle - i < 2 → D.Refused middle ≡ deviceImage (from device s i)
-  unfolding device deviceImage
-  device-short few = rw (from-seq-no mkDevice (word 2 (span isLetter 3)) unitAndColon s i middle (run-short isLetter 3 s i middle m 2 few))
+  unfolding deviceImage
+  device-short few = rw (device-few few)
 
   module _ (enough : 2 ≤ middle - i) (end : ℕ) (d : end ≡ middle + span isOctal (length s) (drop middle s)) where
     letters-within : middle ≤ length s
@@ -36,23 +40,23 @@ module _ (s : List ℕ) (i middle : ℕ) (m : middle ≡ i + span isLetter 3 (dr
     pub unit-inside : (middle ≤ end) × (end ≤ length s)
     unit-inside = (run-up isOctal (length s) s middle end d, run-within isOctal (length s) s middle end d letters-within)
 
-    abbrev letters : List ℕ
+    abbrev pub letters : List ℕ
     letters = take (middle - i) (drop i s)
 
-    abbrev unit : List ℕ
+    abbrev pub unit : List ℕ
     unit = take (end - middle) (drop middle s)
 
-    whole : from device s i ≡ mapped (mkDevice letters) (mapped (first unit) (from (one (is colon)) s end))
+    pub device-whole : from device s i ≡ mapped (mkDevice letters) (mapped (first unit) (from (one (is colon)) s end))
     unfolding device
-    whole =
+    device-whole =
         from-seq mkDevice (word 2 (span isLetter 3)) unitAndColon s i letters middle (run-read isLetter 3 s i middle m 2 enough)
         ∙ ap (mapped (mkDevice letters)) (from-seq first (word 0 (spanAll isOctal)) (one (is colon)) s middle unit end (whole-read isOctal s middle end d 0 (omega arith)))
 
     pub device-refused : (place : ℕ) → partAt end (one (is colon) (drop end s)) ≡ P.Refused place → D.Refused place ≡ deviceImage (from device s i)
     unfolding deviceImage
-    device-refused place h = rw (whole, missed colon s end place h)
+    device-refused place h = rw (device-whole, missed colon s end place h)
 
     pub device-read : (next : Cursor) → partAt end (one (is colon) (drop end s)) ≡ P.Read next
         → {w n : ℕ} → w ≡ filledWord letters → n ≡ low8 (octal unit) → D.Read (record { word = w; unit = n }) next ≡ deviceImage (from device s i)
     unfolding deviceImage
-    device-read next h p q = rw (whole, found colon s end next h .1, p, q)
+    device-read next h p q = rw (device-whole, found colon s end next h .1, p, q)

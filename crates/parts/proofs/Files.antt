@@ -34,12 +34,9 @@ wordable m s i e q some-characters =
 abbrev extended : List ℕ → Res (List ℕ)
 extended = seq second (one (is period)) (word 1 (span isLetterOrDigit 3))
 
-module _ (s : List ℕ) (i : ℕ) (name : NameWords) where
-  pub extension-none : (p : ℕ) → partAt i (one (is period) (drop i s)) ≡ P.Refused p
-      → F.Read (record { present = true; extended = false; name1 = name .first; name2 = name .second; extension = 0 }) (record { at = i })
-      ≡ extensionImage name (from extension s i)
-  unfolding extensionImage
-  extension-none p h = rw (from-opt-missed period extended s i p (missed period s i p h))
+module _ (s : List ℕ) (i : ℕ) where
+  pub extension-absent : (p : ℕ) → partAt i (one (is period) (drop i s)) ≡ P.Refused p → from extension s i ≡ ok none i
+  extension-absent p h = from-opt-missed period extended s i p (missed period s i p h)
 
   module _ (a : Cursor) (h : partAt i (one (is period) (drop i s)) ≡ P.Read a) (e : ℕ) (q : e ≡ a .at + span isLetterOrDigit 3 (drop (a .at) s)) where
     behind : from extension s i ≡ mapped some (mapped (second (found period s i a h .0)) (from (word 1 (span isLetterOrDigit 3)) s (a .at)))
@@ -48,17 +45,31 @@ module _ (s : List ℕ) (i : ℕ) (name : NameWords) where
         from-opt-found period extended s i (f .0) (a .at) (f .1)
         ∙ ap (mapped some) (from-seq second (one (is period)) (word 1 (span isLetterOrDigit 3)) s i (f .0) (a .at) (f .1))
 
+    pub extension-few : e ≡ a .at → from extension s i ≡ no e
+    extension-few z = let few : e - a .at < 1 = omega arith in rw (behind, run-short isLetterOrDigit 3 s (a .at) e q 1 few)
+
+    pub extension-some : (e ≡ a .at → ⊥) → from extension s i ≡ ok (some (take (e - a .at) (drop (a .at) s))) e
+    extension-some z =
+        let least : 1 ≤ e - a .at = omega (arith, run-up isLetterOrDigit 3 s (a .at) e q) in
+        rw (behind, run-read isLetterOrDigit 3 s (a .at) e q 1 least)
+
+module _ (s : List ℕ) (i : ℕ) (name : NameWords) where
+  pub extension-none : (p : ℕ) → partAt i (one (is period) (drop i s)) ≡ P.Refused p
+      → F.Read (record { present = true; extended = false; name1 = name .first; name2 = name .second; extension = 0 }) (record { at = i })
+      ≡ extensionImage name (from extension s i)
+  unfolding extensionImage
+  extension-none p h = rw (extension-absent s i p h)
+
+  module _ (a : Cursor) (h : partAt i (one (is period) (drop i s)) ≡ P.Read a) (e : ℕ) (q : e ≡ a .at + span isLetterOrDigit 3 (drop (a .at) s)) where
     pub extension-short : e ≡ a .at → F.Refused e ≡ extensionImage name (from extension s i)
     unfolding extensionImage
-    extension-short z = let few : e - a .at < 1 = omega arith in rw (behind, run-short isLetterOrDigit 3 s (a .at) e q 1 few)
+    extension-short z = rw (extension-few s i a h e q z)
 
     pub extension-read : (e ≡ a .at → ⊥) → {w : ℕ} → w ≡ filledWord (take (e - a .at) (drop (a .at) s))
         → F.Read (record { present = true; extended = true; name1 = name .first; name2 = name .second; extension = w }) (record { at = e })
         ≡ extensionImage name (from extension s i)
     unfolding extensionImage
-    extension-read z is =
-        let least : 1 ≤ e - a .at = omega (arith, run-up isLetterOrDigit 3 s (a .at) e q) in
-        rw (behind, run-read isLetterOrDigit 3 s (a .at) e q 1 least, is)
+    extension-read z is = rw (extension-some s i a h e q z, is)
 
 -- an optional part that begins with a run, by the run's length
 opt-run : {A : Type 0} (t : ℕ → Bool) (m i : ℕ) (f : List ℕ → Res A) (d : List ℕ)
@@ -87,25 +98,29 @@ joined n words is (ok e end) = rw (is .0, is .1)
 joined n words is (no place) = refl
 
 -- a run with any bound finds no name where none stands
+pub file-absent : (m : ℕ) (s : List ℕ) (i e : ℕ) → e ≡ i + span isLetterOrDigit m (drop i s) → ltb 0 m ≡ true → e ≡ i → from file s i ≡ ok none i
+unfolding file from
+file-absent zero s i e q bound z = let o : _≡_ {A = ℕ} 0 1 = cc in absurd (omega arith)
+file-absent (suc m) s i e q bound z = let w : span isLetterOrDigit (suc m) (drop i s) ≡ 0 = omega arith in opt-run isLetterOrDigit m i named (drop i s) .0 w
+
 pub file-none : (m : ℕ) (s : List ℕ) (i e : ℕ) → e ≡ i + span isLetterOrDigit m (drop i s) → ltb 0 m ≡ true → e ≡ i
     → F.Read (record { present = false; extended = false; name1 = 0; name2 = 0; extension = 0 }) (record { at = i }) ≡ fileImage (from file s i)
-unfolding file from fileImage
-file-none zero s i e q bound z = let o : _≡_ {A = ℕ} 0 1 = cc in absurd (omega arith)
-file-none (suc m) s i e q bound z = let w : span isLetterOrDigit (suc m) (drop i s) ≡ 0 = omega arith in rw (opt-run isLetterOrDigit m i named (drop i s) .0 w)
+unfolding fileImage
+file-none m s i e q bound z = rw (file-absent m s i e q bound z)
 
 module _ (s : List ℕ) (i e : ℕ) (q : e ≡ i + span isLetterOrDigit 6 (drop i s)) where
   module _ (some-name : e ≡ i → ⊥) where
-    abbrev name : List ℕ
+    abbrev pub name : List ℕ
     name = take (e - i) (drop i s)
 
     begun : from file s i ≡ mapped some (from named s i)
     unfolding file from
     begun = let positive : 1 ≤ span isLetterOrDigit 6 (drop i s) = omega arith in opt-run isLetterOrDigit 5 i named (drop i s) .1 positive
 
-    then : from file s i ≡ mapped some (mapped (mkFile name) (from extension s e))
-    then =
+    pub file-then : from file s i ≡ mapped some (mapped (mkFile name) (from extension s e))
+    file-then =
         let least : 1 ≤ e - i = omega (arith, run-up isLetterOrDigit 6 s i e q) in
         begun ∙ ap (mapped some) (from-seq mkFile (word 1 (span isLetterOrDigit 6)) extension s i name e (run-read isLetterOrDigit 6 s i e q 1 least))
 
     pub file-named : (words : NameWords) → (words .first ≡ firstWord name) × (words .second ≡ secondWord name) → extensionImage words (from extension s e) ≡ fileImage (from file s i)
-    file-named words is = joined name words is (from extension s e) ∙ ap fileImage (sym then)
+    file-named words is = joined name words is (from extension s e) ∙ ap fileImage (sym file-then)

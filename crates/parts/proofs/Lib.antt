@@ -6,3 +6,4 @@ pub mod Uics
 pub mod Values
 pub mod Switches
 pub mod Wholes
+pub mod Passing

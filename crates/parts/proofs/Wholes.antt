@@ -23,13 +23,13 @@ use Rattle.parts.specs.declared.switch.Counts.{Counts}
 use Rattle.parts.specs.declared.switch.SwitchesRead.the-variants as S
 use Rattle.parts.specs.declared.Parts.the-variants as P
 
-abbrev brackets : List ℕ → Res (Option Uic)
+abbrev pub brackets : List ℕ → Res (Option Uic)
 brackets = opt (is opening) uic
 
-abbrev switches : List ℕ → Res (List Switch)
+abbrev pub switches : List ℕ → Res (List Switch)
 switches = many (is slash) switch
 
-abbrev tail : List ℕ → Res Tail
+abbrev pub tail : List ℕ → Res Tail
 tail = seq mkTail brackets switches
 
 -- what the images of the parts' answers say
@@ -59,7 +59,7 @@ unfolding uicImage
 uic-no p (ok u j) e = let z : _≡_ {A = ℕ} 0 1 = cc in absurd (omega arith)
 uic-no p (no j) e = cc
 
-switches-ok : (n : Counts) (a : Cursor) (r : Res (List Switch)) → switchesImage 0 0 r ≡ S.Read n a
+pub switches-ok : (n : Counts) (a : Cursor) (r : Res (List Switch)) → switchesImage 0 0 r ≡ S.Read n a
     → (ws : List Switch) × (r ≡ ok ws (a .at)) × (n .switches ≡ length ws) × (n .values ≡ valuesIn ws)
 unfolding switchesImage
 switches-ok n a (ok ws j) e =
@@ -70,7 +70,7 @@ switches-ok n a (ok ws j) e =
     (ws, ap (λ (c : Cursor). ok ws (c .at)) b, omega (arith, k), omega (arith, v))
 switches-ok n a (no p) e = let z : _≡_ {A = ℕ} 0 1 = cc in absurd (omega arith)
 
-switches-no : (p : ℕ) (r : Res (List Switch)) → switchesImage 0 0 r ≡ S.Refused p → r ≡ no p
+pub switches-no : (p : ℕ) (r : Res (List Switch)) → switchesImage 0 0 r ≡ S.Refused p → r ≡ no p
 unfolding switchesImage
 switches-no p (ok ws j) e = let z : _≡_ {A = ℕ} 0 1 = cc in absurd (omega arith)
 switches-no p (no j) e = cc

@@ -2,3 +2,4 @@
 pub mod Numbers
 pub mod Specified
 pub mod Images
+pub mod Passed

@@ -1,16 +1,21 @@
 // Readers of the parts of a specification, in the order in which they stand: device and file, group and user, switches.
 mod bracket;
 mod front;
+mod pass;
 mod switch;
 
 ghost use mathlib.Core.Path.{_≡_};
 ghost use Prim.Native.Nat.{_≤_};
+ghost use Rattle.grammar.specs.Characters.{is, slash};
+ghost use Rattle.grammar.specs.Reader.{many, switch, specification, from};
 ghost use Rattle.parts.specs.Numbers.{bit, presentBits};
 ghost use Rattle.parts.specs.Specified.{PartsAt};
 ghost use Rattle.parts.specs.Images.{made};
+ghost use Rattle.parts.specs.Passed.{passed};
 use bracket::UicNumbers;
 use bracket::UicRead;
 use cursor::Cursor;
+use cursor::Part;
 use front::HeadNumbers;
 use front::HeadRead;
 use switch::SwitchesRead;
@@ -97,6 +102,33 @@ pub fn read_parts(line: &[u8], c: Cursor) -> Parts
                         }
                     }
                 }
+            }
+        }
+    }
+}
+
+fn pass_switches(line: &[u8], c: Cursor) -> Part
+    ensures { λ r. ⌜ r ≡ passed (from (many (is slash) switch) (now (line .entry)) (c .at)) ⌝ }
+{
+    let w = switch::read_switches(line, c, 0, 0);
+    match w {
+        SwitchesRead::Refused(place) => Part::Refused(place),
+        SwitchesRead::Read(_, next) => Part::Read(next),
+    }
+}
+
+// Where the specification ends, for those who ask nothing else of it.
+pub fn pass_parts(line: &[u8], c: Cursor) -> Part
+    ensures { λ r. ⌜ r ≡ passed (from specification (now (line .entry)) (c .at)) ⌝ }
+{
+    let h = pass::pass_head(line, c);
+    match h {
+        Part::Refused(place) => Part::Refused(place),
+        Part::Read(a) => {
+            let u = pass::pass_uic(line, a);
+            match u {
+                Part::Refused(place) => Part::Refused(place),
+                Part::Read(b) => pass_switches(line, b),
             }
         }
     }

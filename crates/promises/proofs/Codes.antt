@@ -64,20 +64,20 @@ rung true code rows iff rest = here (iff .0 refl)
 rung false code rows iff rest = behind (fails false iff refl) (rest refl)
 
 -- what is given has one code
-abbrev One : (ℕ → Type 0) → Type 0
+abbrev pub One : (ℕ → Type 0) → Type 0
 One Code = (a b : ℕ) → Code a → Code b → a ≡ b
 
-rung-one : {Given : Type 0} {code : ℕ} {Behind : ℕ → Type 0} → One Behind → One (Rung Given code Behind)
+pub rung-one : {Given : Type 0} {code : ℕ} {Behind : ℕ → Type 0} → One Behind → One (Rung Given code Behind)
 rung-one one a b (here given) (here again) = refl
 rung-one one a b (here given) (behind never x) = absurd (never given)
 rung-one one a b (behind never x) (here given) = absurd (never given)
 rung-one one a b (behind never x) (behind again y) = one a b x y
 
-success-one : One Success
+pub success-one : One Success
 success-one a b x y = x ∙ sym y
 
 -- the code given is this one exactly in its case
-exactly : {Code : ℕ → Type 0} {given : ℕ} → One Code → Code given → (code : ℕ) → given ≡ code ↔ Code code
+pub exactly : {Code : ℕ → Type 0} {given : ℕ} → One Code → Code given → (code : ℕ) → given ≡ code ↔ Code code
 exactly {Code} {given} one has code = (λ is. subst Code is has, λ other. one given code has other)
 
 -- a row that is given where a test fails
@@ -116,7 +116,7 @@ granted : (right : Right) (caller uic protect : ℕ) → not (may right caller u
 granted right caller uic protect = denies (may right caller uic protect) (may-iff right caller uic protect)
 
 -- two keys of one name, extension and UIC are one key
-one-key : (a b : Key) → sameKey a b ≡ true ↔ a ≡ b
+pub one-key : (a b : Key) → sameKey a b ≡ true ↔ a ≡ b
 unfolding sameKey
 one-key a b = (
   λ t.

@@ -9,3 +9,5 @@ pub mod Pack
 pub mod Requests
 pub mod Again
 pub mod Commands
+pub mod CommandCodes
+pub mod Single

@@ -21,6 +21,12 @@ use Rattle.asking.specs.Rights.{May}
 use Rattle.asking.specs.Opens.{opens}
 use Rattle.creation.specs.Alloc.{lengthFor}
 use Rattle.creation.specs.Choice.{FreeRun}
+use mathlib.Core.Option.{none, some}
+use Rattle.grammar.specs.Parsed.{Specification}
+use Rattle.grammar.specs.Reading.{Reading, Reads, sideOf, specificationAt}
+use Rattle.grammar.specs.Place.{Wrong}
+use Rattle.switches.specs.Encoded.{encoded}
+use Rattle.command.specs.Condensed.{condensed, lineLimit, TooLong}
 
 -- "Of several, the first in this table is given.": the row holds and its code is given, or it does not and the rows behind it decide
 pub data Rung (Given : Type 0) (code : ℕ) (Behind : ℕ → Type 0) : ℕ → Type 0 where
@@ -140,3 +146,26 @@ LinkedAddCode img key caller payload =
     (Rung (Lacking Write caller (fileOf img key)) 0o6
     (Rung (fileOf img key .kind ≡ 1) 0o43
     (Rung ((fileOf img key .writer ≡ 2) ⊎ (fileOf img key .writer ≡ 3) → ⊥) 0o45 (Rung ((b : ℕ) → FreeBlock img b → ⊥) 0o42 Success))))
+
+-- CSI1: "Order: 53, raw line over 512 or condensed over 128; 52, buffer shorter than the condensed line; 50, not in the grammar"
+abbrev pub Csi1Code : List ℕ → List ℕ → ℕ → Type 0
+Csi1Code line buffer =
+    Rung (TooLong line) 0o53 (Rung (length buffer < length (condensed line)) 0o52 (Rung (Wrong (condensed line)) 0o50 Success))
+
+-- "no such side or specification" in the line's reading
+abbrev pub NoSpecification : List ℕ → ℕ → ℕ → Type 0
+NoSpecification line side k = (reading : Reading) → Reads line reading → specificationAt k (sideOf side reading) ≡ none
+
+-- "switch buffer too short" for the specification that is there
+pub record ShortFor (line : List ℕ) (side k : ℕ) (buffer : List ℕ) : Type 0 where
+  pub reading : Reading
+  pub reads : Reads line reading
+  pub specification : Specification
+  pub there : specificationAt k (sideOf side reading) ≡ some specification
+  pub short : length buffer < length (encoded (specification .switches))
+
+-- CSI2: "Order: 53, over 128; 50; 51, no such side or specification; 52, switch buffer too short."
+abbrev pub Csi2Code : List ℕ → ℕ → ℕ → List ℕ → ℕ → Type 0
+Csi2Code line side k buffer =
+    Rung (lineLimit < length line) 0o53
+    (Rung (Wrong line) 0o50 (Rung (NoSpecification line side k) 0o51 (Rung (ShortFor line side k buffer) 0o52 Success)))

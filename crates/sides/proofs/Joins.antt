@@ -14,29 +14,14 @@ use Rattle.cursor.specs.declared.Cursor.{Cursor}
 use Rattle.cursor.specs.declared.Part.{Part}
 use Rattle.cursor.specs.declared.Part.the-variants as C
 use Rattle.cursor.proofs.Runs.{found, missed, found-place}
-use Rattle.parts.specs.Specified.{PartsAt}
-use Rattle.parts.specs.Specified as P
-use Rattle.parts.specs.declared.Specified.{Specified}
-use Rattle.parts.specs.declared.Parts.{Parts}
-use Rattle.parts.specs.declared.Parts.the-variants as W
+use Rattle.parts.specs.Passed.{passed}
+use Rattle.parts.proofs.Passing.{passed-ok, passed-no}
 use Rattle.sides.specs.Sought.{behindComma, BeginsAt, SoughtAt}
 use Rattle.sides.specs.Sought as Q
 use Rattle.sides.specs.Joined.{startOf, joined, Countable}
 use Rattle.sides.specs.declared.Sought.{Sought}
 use Rattle.sides.specs.declared.Sought.the-variants as S
 use Rattle.sides.proofs.Commas.{side-refused, side-behind, no-comma, comma-begins, specification-on, side-few}
-
--- what the answer of the reader of parts says of a specification
-
-read-parts : (s : List ℕ) (i : ℕ) (r : Parts) (x : Specified) (next : Cursor) → PartsAt s i r → r ≡ W.Read x next → (v : Specification) × (from specification s i ≡ ok v (next .at))
-read-parts s i r x next (P.PartsAt.refused e) h = let z : _≡_ {A = ℕ} 0 1 = cc in absurd (omega arith)
-read-parts s i r x next (P.PartsAt.read {v} {end} e numbers values switches) h =
-    let b : _≡_ {A = Cursor} (record { at = end }) next = cc in
-    (v, e ∙ ap (λ (c : Cursor). ok v (c .at)) b)
-
-refused-parts : (s : List ℕ) (i : ℕ) (r : Parts) (place : ℕ) → PartsAt s i r → r ≡ W.Refused place → from specification s i ≡ no place
-refused-parts s i r place (P.PartsAt.refused {place = p} e) h = let q : p ≡ place = cc in e ∙ ap no q
-refused-parts s i r place (P.PartsAt.read e numbers values switches) h = let z : _≡_ {A = ℕ} 0 1 = cc in absurd (omega arith)
 
 -- where specification k begins
 
@@ -66,13 +51,13 @@ module _ (s : List ℕ) (c : Cursor) (r : Part) (h : r ≡ partAt (c .at) (one (
 
 -- a specification, and what stands behind it
 
-module _ (s : List ℕ) (here : Cursor) (r : Parts) (h : PartsAt s (here .at) r) where
-  pub side-none : (k place : ℕ) → r ≡ W.Refused place → SoughtAt s k (from side s (here .at)) (S.Refused place)
-  side-none k place e = rw (side-refused s (here .at) place (refused-parts s (here .at) r place h e)) Q.SoughtAt.refused
+module _ (s : List ℕ) (here : Cursor) (r : Part) (h : r ≡ passed (from specification s (here .at))) where
+  pub side-none : (k place : ℕ) → r ≡ C.Refused place → SoughtAt s k (from side s (here .at)) (S.Refused place)
+  side-none k place e = rw (side-refused s (here .at) place (passed-no place (from specification s (here .at)) (sym h ∙ e))) Q.SoughtAt.refused
 
-  module _ (x : Specified) (next : Cursor) (e : r ≡ W.Read x next) where
+  module _ (next : Cursor) (e : r ≡ C.Read next) where
     first : (v : Specification) × (from specification s (here .at) ≡ ok v (next .at))
-    first = read-parts s (here .at) r x next h e
+    first = passed-ok next (from specification s (here .at)) (sym h ∙ e)
 
     behind : from side s (here .at) ≡ mapped (_∷_ (first .0)) (from behindComma s (next .at))
     behind = side-behind s (here .at) (first .0) (next .at) (first .1)

@@ -7,8 +7,7 @@ ghost use Rattle.sides.specs.Sought.{behindComma, SoughtAt, LocatedIn};
 ghost use Rattle.sides.specs.Joined.{behindOutput, startOf, joined, Countable, among, chosen};
 use cursor::Cursor;
 use cursor::Part;
-use parts::Parts;
-use parts::read_parts;
+use parts::pass_parts;
 
 // How many specifications there are, and where one of them begins.
 pub struct Found {
@@ -65,10 +64,10 @@ fn join(k: usize, here: Cursor, rest: Sought) -> Sought
 fn read_specification(line: &[u8], c: Cursor, k: usize) -> Sought
     ensures { λ r. ⌜ SoughtAt (now (line .entry)) k (from side (now (line .entry)) (c .at)) r ⌝ }
 {
-    let specification = read_parts(line, c);
+    let specification = pass_parts(line, c);
     match specification {
-        Parts::Refused(place) => Sought::Refused(place),
-        Parts::Read(_, next) => join(k, c, read_side(line, next, before(k))),
+        Part::Refused(place) => Sought::Refused(place),
+        Part::Read(next) => join(k, c, read_side(line, next, before(k))),
     }
 }
 

@@ -1,26 +1,25 @@
 use Prim.Native.Nat.{_+_, _*_, _≤_}
 use mathlib.Core.Path.{_≡_, refl, sym, _∙_}
+use mathlib.Core.Bool.{_&&_}
+use mathlib.Core.Logic.{⊎-elim}
 use native.Mathlib.Omega.{arith}
 use lib.ListN.{length}
 use Rattle.pack.specs.Test.{zeros}
-use Rattle.pack.proofs.Headers.{zeros-step, zeros-not, zeros-end}
+use Rattle.pack.proofs.Headers.{zeros-clear, zeros-never, zeros-done}
 use Rattle.pack.proofs.zero_words.Statement.{statement}
 use Rattle.pack.proofs.zero_words.Tie as tie
 
 abbrev Inv-loop : tie.InvT-loop
-Inv-loop img from count at₀ left₀ at left = (at + left ≡ from + count) × (zeros img from count ≡ zeros img at left)
+Inv-loop img from count at₀ left₀ clear₀ at left clear = (at + left ≡ from + count) × (zeros img from count ≡ (clear && zeros img at left))
 
 abbrev μ-loop : tie.MeasureT-loop
-μ-loop img from count at₀ left₀ at left = left
+μ-loop img from count at₀ left₀ clear₀ at left clear = left
 
 loop-holds : tie.Need-loop-holds Inv-loop μ-loop
 loop-holds c = (refl, refl)
 
 word-at-requires : tie.Need-word-at-requires Inv-loop μ-loop
 word-at-requires c κs = omega arith
-
-returns : tie.Need-returns Inv-loop μ-loop
-returns c = sym (c .before .before .before .loop .inv .1 ∙ zeros-not _ _ _ (c .before .before .loop-test .taken) (λ is. c .if1 .taken (c .before .word-at .ensures .0 ∙ is)))
 
 add-at : tie.Need-add-at Inv-loop μ-loop
 add-at c = omega arith
@@ -32,11 +31,17 @@ loop-less : tie.Need-loop-less Inv-loop μ-loop
 loop-less c = omega arith
 
 loop-again : tie.Need-loop-again Inv-loop μ-loop
-loop-again c = (omega arith, c .before .before .before .loop .inv .1 ∙ zeros-step _ _ _ (c .before .before .loop-test .taken) (sym (c .before .word-at .ensures .0) ∙ c .if1 .left))
+loop-again c =
+    let some = c .before .before .loop-test .taken in
+    let is = c .before .word-at .ensures .0 in (
+      omega arith,
+      c .before .before .before .loop .inv .1
+          ∙ ⊎-elim (λ w. zeros-never _ _ _ (c .before .before .before .loop .clear) _ some (λ zero. w .0 .taken (is ∙ zero)) (w .1)) (λ w. zeros-clear _ _ _ _ _ some (sym is ∙ w .0 .left) (w .1)) (c .if1 .came),
+    )
 
-returns-2 : tie.Need-returns-2 Inv-loop μ-loop
-returns-2 c = let none : c .before .loop .left ≡ 0 = omega arith in
-    sym (c .before .loop .inv .1 ∙ zeros-end _ _ _ none)
+returns : tie.Need-returns Inv-loop μ-loop
+returns c = let none : c .before .loop .left ≡ 0 = omega arith in
+    sym (c .before .loop .inv .1 ∙ zeros-done _ _ _ _ none)
 
 pub zero-words-spec : {M : Type 1} → statement M
 zero-words-spec =
@@ -46,9 +51,8 @@ zero-words-spec =
     μ-loop
     loop-holds
     word-at-requires
-    returns
     add-at
     sub-left
     loop-less
     loop-again
-    returns-2)
+    returns)

@@ -14,7 +14,7 @@ use Rattle.sides.proofs.+read_side+read_specification.Lts-read_specific
 use Rattle.cursor.proofs.Cursor.one.Reads as one-reads
 use Rattle.sides.proofs.before.Reads as before-reads
 use Rattle.sides.proofs.join.Reads as join-reads
-use Rattle.parts.proofs.read_parts.Reads as read-parts-reads
+use Rattle.parts.proofs.pass_parts.Reads as pass-parts-reads
 use Rattle.sides.proofs.+read_side+read_specification.{statement}
 use Rattle.sides.proofs.+read_side+read_specification.Tie.{close}
 
@@ -97,9 +97,9 @@ read-side-returns-2 : (t : ℕ) → read-side-lts.Need-returns-2 (
 ) (read-side-at t) read-side.Post
 read-side-returns-2 t c = side-goes-on (c .before .before .before .before .before .before .args .line .now) (c .before .before .before .before .before .before .args .c) _ (c .before .before .before .before .one .ensures) _ (c .before .before .comma .given .1) _ _ (c .read-specification .ensures)
 
-read-specification-read-parts-requires : (t : ℕ) → read-specification-lts.Need-read-parts-requires (
-  read-parts-reads.Asked,
-  read-parts-reads.Learnt,
+read-specification-pass-parts-requires : (t : ℕ) → read-specification-lts.Need-pass-parts-requires (
+  pass-parts-reads.Asked,
+  pass-parts-reads.Learnt,
   before-reads.Asked,
   before-reads.Learnt,
   read-side-below t,
@@ -107,12 +107,12 @@ read-specification-read-parts-requires : (t : ℕ) → read-specification-lts.Ne
   join-reads.Asked,
   join-reads.Learnt,
 ) (read-specification-at t) read-specification.Post
-read-specification-read-parts-requires t c κs = search needs
+read-specification-pass-parts-requires t c κs = search needs
 
 read-specification-enum-known-specification :
     (t : ℕ) → read-specification-lts.Need-enum-known-specification (
-      read-parts-reads.Asked,
-      read-parts-reads.Learnt,
+      pass-parts-reads.Asked,
+      pass-parts-reads.Learnt,
       before-reads.Asked,
       before-reads.Learnt,
       read-side-below t,
@@ -124,8 +124,8 @@ read-specification-enum-known-specification t c = search needs
 
 read-specification-enum-known-specification-2 :
     (t : ℕ) → read-specification-lts.Need-enum-known-specification-2 (
-      read-parts-reads.Asked,
-      read-parts-reads.Learnt,
+      pass-parts-reads.Asked,
+      pass-parts-reads.Learnt,
       before-reads.Asked,
       before-reads.Learnt,
       read-side-below t,
@@ -136,8 +136,8 @@ read-specification-enum-known-specification-2 :
 read-specification-enum-known-specification-2 t c = search needs
 
 read-specification-before-requires : (t : ℕ) → read-specification-lts.Need-before-requires (
-  read-parts-reads.Asked,
-  read-parts-reads.Learnt,
+  pass-parts-reads.Asked,
+  pass-parts-reads.Learnt,
   before-reads.Asked,
   before-reads.Learnt,
   read-side-below t,
@@ -148,8 +148,8 @@ read-specification-before-requires : (t : ℕ) → read-specification-lts.Need-b
 read-specification-before-requires t c κs = search needs
 
 read-specification-read-side-requires : (t : ℕ) → read-specification-lts.Need-read-side-requires (
-  read-parts-reads.Asked,
-  read-parts-reads.Learnt,
+  pass-parts-reads.Asked,
+  pass-parts-reads.Learnt,
   before-reads.Asked,
   before-reads.Learnt,
   read-side-below t,
@@ -158,12 +158,12 @@ read-specification-read-side-requires : (t : ℕ) → read-specification-lts.Nee
   join-reads.Learnt,
 ) (read-specification-at t) read-specification.Post
 read-specification-read-side-requires t c κs =
-    let m = went-on _ _ _ (c .before .before .before .before .read-parts .ensures) _ _ (c .before .before .specification2 .given .1) in
+    let m = went-on _ _ _ (c .before .before .before .before .pass-parts .ensures) _ (c .before .before .specification2 .given .1) in
     (omega (arith, m, c .before .before .before .before .before .before .pre .0), tt)
 
 read-specification-join-requires : (t : ℕ) → read-specification-lts.Need-join-requires (
-  read-parts-reads.Asked,
-  read-parts-reads.Learnt,
+  pass-parts-reads.Asked,
+  pass-parts-reads.Learnt,
   before-reads.Asked,
   before-reads.Learnt,
   read-side-below t,
@@ -171,11 +171,11 @@ read-specification-join-requires : (t : ℕ) → read-specification-lts.Need-joi
   join-reads.Asked,
   join-reads.Learnt,
 ) (read-specification-at t) read-specification.Post
-read-specification-join-requires t c κs = countable _ _ _ (c .before .before .before .before .before .read-parts .ensures) _ _ (c .before .before .before .specification2 .given .1) _ _ _ (c .before .before2 .ensures) (c .read-side .ensures) (omega (arith, c .before .before .before .before .before .before .before .good .0 .1))
+read-specification-join-requires t c κs = countable _ _ _ (c .before .before .before .before .before .pass-parts .ensures) _ (c .before .before .before .specification2 .given .1) _ _ _ (c .before .before2 .ensures) (c .read-side .ensures) (omega (arith, c .before .before .before .before .before .before .before .good .0 .1))
 
 read-specification-returns : (t : ℕ) → read-specification-lts.Need-returns (
-  read-parts-reads.Asked,
-  read-parts-reads.Learnt,
+  pass-parts-reads.Asked,
+  pass-parts-reads.Learnt,
   before-reads.Asked,
   before-reads.Learnt,
   read-side-below t,
@@ -183,11 +183,11 @@ read-specification-returns : (t : ℕ) → read-specification-lts.Need-returns (
   join-reads.Asked,
   join-reads.Learnt,
 ) (read-specification-at t) read-specification.Post
-read-specification-returns t c = side-none _ _ _ (c .before .before .before .read-parts .ensures) _ _ (c .before .specification .given .1)
+read-specification-returns t c = side-none _ _ _ (c .before .before .before .pass-parts .ensures) _ _ (c .before .specification .given .1)
 
 read-specification-returns-2 : (t : ℕ) → read-specification-lts.Need-returns-2 (
-  read-parts-reads.Asked,
-  read-parts-reads.Learnt,
+  pass-parts-reads.Asked,
+  pass-parts-reads.Learnt,
   before-reads.Asked,
   before-reads.Learnt,
   read-side-below t,
@@ -195,7 +195,7 @@ read-specification-returns-2 : (t : ℕ) → read-specification-lts.Need-returns
   join-reads.Asked,
   join-reads.Learnt,
 ) (read-specification-at t) read-specification.Post
-read-specification-returns-2 t c = side-some _ _ _ (c .before .before .before .before .before .before .read-parts .ensures) _ _ (c .before .before .before .before .specification2 .given .1) _ _ _ (c .before .before .before2 .ensures) (c .before .read-side .ensures) _ (c .join .ensures)
+read-specification-returns-2 t c = side-some _ _ _ (c .before .before .before .before .before .before .pass-parts .ensures) _ (c .before .before .before .before .specification2 .given .1) _ _ _ (c .before .before .before2 .ensures) (c .before .read-side .ensures) _ (c .join .ensures)
 
 pub +read-side+read-specification-spec : {M : Type 1} → statement M
 +read-side+read-specification-spec =
@@ -214,8 +214,8 @@ pub +read-side+read-specification-spec : {M : Type 1} → statement M
     (read-side-returns t)
     (read-side-returns-2 t))
     λ t. read-specification-lts.spec (
-      read-parts-reads.Asked,
-      read-parts-reads.Learnt,
+      pass-parts-reads.Asked,
+      pass-parts-reads.Learnt,
       before-reads.Asked,
       before-reads.Learnt,
       read-side-below t,
@@ -225,7 +225,7 @@ pub +read-side+read-specification-spec : {M : Type 1} → statement M
     )
     (read-specification-at t)
     read-specification.Post
-    (read-specification-read-parts-requires t)
+    (read-specification-pass-parts-requires t)
     (read-specification-enum-known-specification t)
     (read-specification-enum-known-specification-2 t)
     (read-specification-before-requires t)

@@ -1,0 +1,17 @@
+use borrow.Author.Needs.{needs}
+use mathlib.Core.Path.{_∙_}
+use Rattle.parts.proofs.Passing.{pass-no-file, pass-file}
+use Rattle.parts.proofs.pass.pass_named.Statement.{statement}
+use Rattle.parts.proofs.pass.pass_named.Tie as tie
+
+returns : tie.Need-returns
+returns c = pass-no-file _ _ _ (c .before .before .before .before .pre) (c .if1 .taken)
+
+pass-extension-requires : tie.Need-pass-extension-requires
+pass-extension-requires c κs = search needs
+
+returns-2 : tie.Need-returns-2
+returns-2 c = c .pass-extension .ensures ∙ pass-file _ _ _ (c .before .before .before .before .before .pre) (c .before .if1 .left)
+
+pub pass-named-spec : {M : Type 1} → statement M
+pass-named-spec = tie.close (tie.spec returns pass-extension-requires returns-2)
