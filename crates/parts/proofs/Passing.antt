@@ -6,9 +6,9 @@ use mathlib.Core.Option.{some, none}
 use native.Mathlib.Omega.{arith}
 use lib.ListN.{length, take, drop}
 use Rattle.radix.specs.Names.{isLetter, isLetterOrDigit}
-use Rattle.grammar.specs.Characters.{is, isOctal, colon, comma, period, opening, closing, slash}
+use Rattle.grammar.specs.Characters.{is, isOctal, colon, comma, period, opening, closing}
 use Rattle.grammar.specs.Parsed.{Switch}
-use Rattle.grammar.specs.Reader.{Res, ok, no, mapped, moved, from, seq, opt, many, first, second, span, one, mkDevice, mkFile, mkUic, mkHead, mkTail, mkSpecification, device, file, head, uic, switch, specification}
+use Rattle.grammar.specs.Reader.{Res, ok, no, mapped, moved, from, opt, first, second, span, one, mkDevice, mkFile, mkUic, mkHead, mkTail, mkSpecification, device, file, head, uic, specification}
 use Rattle.grammar.proofs.Places.{from-seq, from-seq-no}
 use Rattle.cursor.specs.Parts.{partAt}
 use Rattle.cursor.specs.declared.Cursor.{Cursor}

@@ -4,7 +4,7 @@ use mathlib.Core.Path.{_≡_, refl, sym, ap, _∙_}
 use mathlib.Core.List.{List, _∷_}
 use native.Mathlib.Nat.{add-zero}
 use native.Mathlib.Omega.{arith}
-use lib.ListN.{length, drop}
+use lib.ListN.{length, drop, getD}
 use Rattle.grammar.specs.Characters.{is, slash}
 use Rattle.grammar.specs.Parsed.{Switch, valuesIn}
 use Rattle.grammar.specs.Reader.{Res, ok, no, mapped, from, seq, many, one, switch}
@@ -13,6 +13,7 @@ use Rattle.grammar.proofs.Places.{from-seq, from-seq-no, from-many-missed, from
 use Rattle.cursor.specs.Parts.{partAt}
 use Rattle.cursor.specs.declared.Cursor.{Cursor}
 use Rattle.cursor.specs.declared.Part.the-variants as P
+use Rattle.cursor.proofs.Steps.{one-end, one-here, one-not}
 use Rattle.cursor.proofs.Runs.{found, missed}
 use Rattle.parts.specs.Images.{valuesOf, countedImage, switchesImage}
 use Rattle.parts.specs.declared.switch.Counted.the-variants as C
@@ -66,3 +67,22 @@ module _ (s : List ℕ) (i k n : ℕ) where
       pub switches-more : countedImage valuesOf n (from switch s i) ≡ C.Read more b
           → (i < b .at) × (b .at ≤ length s) × (switchesImage (k + 1) more (from switches s (b .at)) ≡ switchesImage k n (from switches s i))
       switches-more c = more-from (from switch s i) refl c
+
+-- the same, as a look at the character finds it
+module _ (s : List ℕ) (i k n : ℕ) where
+  pub switches-at-end : length s ≤ i → S.Read (record { switches = k; values = n }) (record { at = i }) ≡ switchesImage k n (from switches s i)
+  switches-at-end l = switches-none s i k n (i + 0) (ap (partAt i) (one-end slash s i l))
+
+  pub switches-at-other : i < length s → (getD s i 0 ≡ slash → ⊥) → S.Read (record { switches = k; values = n }) (record { at = i }) ≡ switchesImage k n (from switches s i)
+  switches-at-other l z = switches-none s i k n (i + 0) (ap (partAt i) (one-not slash s i l z))
+
+  module _ (l : i < length s) (h : getD s i 0 ≡ slash) where
+    here : partAt i (one (is slash) (drop i s)) ≡ P.Read (record { at = i + 1 })
+    here = ap (partAt i) (one-here slash s i l h)
+
+    pub switches-at-refused : (p : ℕ) → countedImage valuesOf n (from switch s i) ≡ C.Refused p → S.Refused p ≡ switchesImage k n (from switches s i)
+    switches-at-refused p c = switches-refused s i k n (record { at = i + 1 }) here p c
+
+    pub switches-at-more : (more : ℕ) (b : Cursor) → countedImage valuesOf n (from switch s i) ≡ C.Read more b
+        → (i < b .at) × (b .at ≤ length s) × (switchesImage (k + 1) more (from switches s (b .at)) ≡ switchesImage k n (from switches s i))
+    switches-at-more more b c = switches-more s i k n (record { at = i + 1 }) here more b c

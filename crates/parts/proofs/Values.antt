@@ -5,7 +5,7 @@ use mathlib.Core.List.{List, [], _∷_}
 use mathlib.Core.Bool.{Bool, true, false, cond}
 use native.Mathlib.Nat.{add-zero}
 use native.Mathlib.Omega.{arith}
-use lib.ListN.{length, take, drop}
+use lib.ListN.{length, take, drop, getD}
 use Rattle.radix.specs.Names.{isLetter, isLetterOrDigit}
 use Rattle.grammar.specs.Characters.{is, colon, slash}
 use Rattle.grammar.specs.Parsed.{Switch}
@@ -15,6 +15,7 @@ use Rattle.grammar.proofs.Places.{from-seq, from-seq-no, from-many-missed, from
 use Rattle.cursor.specs.Parts.{partAt}
 use Rattle.cursor.specs.declared.Cursor.{Cursor}
 use Rattle.cursor.specs.declared.Part.the-variants as P
+use Rattle.cursor.proofs.Steps.{one-end, one-here, one-not}
 use Rattle.cursor.proofs.Runs.{found, missed, found-place, run-up, run-within, run-read, run-short}
 use Rattle.parts.specs.Images.{valuesOf, countedImage}
 use Rattle.parts.specs.declared.switch.Counted.the-variants as C
@@ -59,6 +60,27 @@ module _ (s : List ℕ) (i n : ℕ) where
     values-on =
         let o = found-place colon s i a h in
         (omega (arith, o .0, run-up isLetterOrDigit 6 s (a .at) e q), run-within isLetterOrDigit 6 s (a .at) e q (o .1))
+
+-- the same, as a look at the character finds it
+module _ (s : List ℕ) (i n : ℕ) where
+  pub values-at-end : length s ≤ i → C.Read n (record { at = i }) ≡ countedImage length n (from values s i)
+  values-at-end l = values-none s i n (i + 0) (ap (partAt i) (one-end colon s i l))
+
+  pub values-at-other : i < length s → (getD s i 0 ≡ colon → ⊥) → C.Read n (record { at = i }) ≡ countedImage length n (from values s i)
+  values-at-other l z = values-none s i n (i + 0) (ap (partAt i) (one-not colon s i l z))
+
+  module _ (l : i < length s) (h : getD s i 0 ≡ colon) (e : ℕ) (q : e ≡ i + 1 + span isLetterOrDigit 6 (drop (i + 1) s)) where
+    here : partAt i (one (is colon) (drop i s)) ≡ P.Read (record { at = i + 1 })
+    here = ap (partAt i) (one-here colon s i l h)
+
+    pub values-at-short : e ≡ i + 1 → C.Refused e ≡ countedImage length n (from values s i)
+    values-at-short z = values-short s i n (record { at = i + 1 }) here e q z
+
+    pub values-at-more : (e ≡ i + 1 → ⊥) → countedImage length (n + 1) (from values s e) ≡ countedImage length n (from values s i)
+    values-at-more z = values-more s i n (record { at = i + 1 }) here e q z
+
+    pub values-at-on : (i < e) × (e ≤ length s)
+    values-at-on = values-on s i n (record { at = i + 1 }) here e q
 
 -- a run of at most one letter is one letter, or none
 one-letter : (s : List ℕ) (j m : ℕ) → m ≡ j + span isLetter 1 (drop j s)

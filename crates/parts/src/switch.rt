@@ -24,19 +24,22 @@ fn read_values(line: &[u8], c: Cursor, n: usize) -> Counted
     ensures { λ r. ⌜ r ≡ countedImage length n (from (many (is colon) value) (now (line .entry)) (c .at)) ⌝ }
     ensures { λ r. ⌜ CountWithin r ⌝ }
 {
-    let p = c.one(line, COLON);
-    match p {
-        Part::Refused(_) => Counted::Read(n, c),
-        Part::Read(a) => {
-            let start = a.at;
-            let characters = a.run(line, Class::LetterOrDigit, 6);
-            let end = characters.at;
-            if end == start {
-                return Counted::Refused(end);
-            }
-            read_values(line, characters, n + 1)
+    let mut at = c.at;
+    let mut count = n;
+    while at < line.len() {
+        if line[at] != COLON {
+            return Counted::Read(count, Cursor { at });
         }
+        let start = Cursor { at: at + 1 };
+        let characters = start.run(line, Class::LetterOrDigit, 6);
+        let end = characters.at;
+        if end == at + 1 {
+            return Counted::Refused(end);
+        }
+        at = end;
+        count += 1;
     }
+    Counted::Read(count, Cursor { at })
 }
 
 // A switch, behind n values of others: how many values there are then.
@@ -76,15 +79,34 @@ pub fn read_switches(line: &[u8], c: Cursor, switches: usize, values: usize) -> 
     requires { ⌜ (switches ≤ c .at) × (values ≤ c .at) ⌝ }
     ensures { λ r. ⌜ r ≡ switchesImage switches values (from (many (is slash) switch) (now (line .entry)) (c .at)) ⌝ }
 {
-    let p = c.one(line, SLASH);
-    match p {
-        Part::Refused(_) => SwitchesRead::Read(Counts { switches, values }, c),
-        Part::Read(_) => {
-            let w = read_switch(line, c, values);
-            match w {
-                Counted::Refused(place) => SwitchesRead::Refused(place),
-                Counted::Read(more, a) => read_switches(line, a, switches + 1, more),
+    let mut at = c.at;
+    let mut number = switches;
+    let mut total = values;
+    while at < line.len() {
+        if line[at] != SLASH {
+            return SwitchesRead::Read(
+                Counts {
+                    switches: number,
+                    values: total,
+                },
+                Cursor { at },
+            );
+        }
+        let w = read_switch(line, Cursor { at }, total);
+        match w {
+            Counted::Refused(place) => return SwitchesRead::Refused(place),
+            Counted::Read(more, next) => {
+                at = next.at;
+                total = more;
+                number += 1;
             }
         }
     }
+    SwitchesRead::Read(
+        Counts {
+            switches: number,
+            values: total,
+        },
+        Cursor { at },
+    )
 }
