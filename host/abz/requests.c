@@ -113,7 +113,11 @@ int command_alloc(char **arguments)
     return finish("alloc", answer.code);
 }
 
-int command_delete(char **arguments)
+/* Requests that take a file and nothing else. */
+typedef size_t file_request(uint8_t *image, size_t image_len, size_t caller,
+                            size_t name1, size_t name2, size_t extension, size_t uic);
+
+static int request_on_file(const char *command, file_request *request, char **arguments)
 {
     size_t caller;
     file_name file;
@@ -122,7 +126,12 @@ int command_delete(char **arguments)
         return STATUS_USAGE;
     if (!pack_take(&pack, arguments[0]))
         return STATUS_FAILED;
-    return finish("delete", abz_delet(pack.image, pack.length, caller, FOUR(file)));
+    return finish(command, request(pack.image, pack.length, caller, FOUR(file)));
+}
+
+int command_delete(char **arguments)
+{
+    return request_on_file("delete", abz_delet, arguments);
 }
 
 /* The protect code that a file has. Where there is none, RENAM refuses too, and with the code that comes first. */
@@ -170,12 +179,5 @@ int command_append(char **arguments)
 
 int command_keep(char **arguments)
 {
-    size_t caller;
-    file_name file;
-
-    if (!read_uic(arguments[1], &caller) || !read_name(arguments[2], &file))
-        return STATUS_USAGE;
-    if (!pack_take(&pack, arguments[0]))
-        return STATUS_FAILED;
-    return finish("keep", abz_keep(pack.image, pack.length, caller, FOUR(file)));
+    return request_on_file("keep", abz_keep, arguments);
 }
