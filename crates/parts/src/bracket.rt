@@ -3,16 +3,13 @@ ghost use mathlib.Core.Path.{_≡_};
 ghost use Rattle.grammar.specs.Characters.{is, opening};
 ghost use Rattle.grammar.specs.Reader.{opt, uic, from};
 ghost use Rattle.parts.specs.Images.{user, userImage, uicImage};
+use crate::characters::CLOSING;
+use crate::characters::COMMA;
+use crate::characters::OPENING;
 use cursor::Class;
 use cursor::Cursor;
 use cursor::Part;
 use cursor::low_octal;
-
-const COMMA: u8 = 44;
-
-const OPENING: u8 = 91;
-
-const CLOSING: u8 = 93;
 
 pub struct UicNumbers {
     pub present: bool,

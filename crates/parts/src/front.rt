@@ -2,6 +2,8 @@
 ghost use mathlib.Core.Path.{_≡_};
 ghost use Rattle.grammar.specs.Reader.{device, file, head, from};
 ghost use Rattle.parts.specs.Images.{extension, deviceImage, extensionImage, fileImage, headImage, headWith};
+use crate::characters::COLON;
+use crate::characters::PERIOD;
 use cursor::Class;
 use cursor::Cursor;
 use cursor::NameWords;
@@ -9,10 +11,6 @@ use cursor::Part;
 use cursor::low_octal;
 use cursor::name_words;
 use cursor::word_of;
-
-const PERIOD: u8 = 46;
-
-const COLON: u8 = 58;
 
 pub struct DeviceNumbers {
     pub word: usize,
