@@ -1,8 +1,8 @@
 -- The laws of keys: found exactly if an entry has the key, and at most one has it.
 use Prim.Native.Nat.{ℕ, suc, zero, _+_, _-_, _≤_, _<_}
 use mathlib.Core.Path.{_≡_, refl, sym, ap, subst, _∙_}
-use mathlib.Core.Logic.{_↔_, _⊎_, inl, inr}
-use mathlib.Core.Bool.{Bool, true, false, cond, _&&_}
+use mathlib.Core.Logic.{inl, inr, _↔_}
+use mathlib.Core.Bool.{Bool, true, false}
 use mathlib.Core.List.{List}
 use mathlib.Core.Option.{Option, none, some}
 use native.Mathlib.Omega.{arith}
@@ -15,13 +15,11 @@ use Rattle.pack.specs.declared.Geometry.{Geometry}
 use Rattle.pack.specs.declared.Entry.{Entry}
 use Rattle.pack.specs.declared.Key.{Key}
 use Rattle.pack.specs.Geometry.{geometryOf, slots}
-use Rattle.pack.specs.Entry.{entryOf, entryWord, Empty, SameFile}
+use Rattle.pack.specs.Entry.{entryOf, Empty, Used, RightEntry}
 use Rattle.pack.specs.Consistent.{Consistent}
 use Rattle.pack.specs.Untouched.{Keyed}
 use Rattle.pack.proofs.Tests.{and-left, and-right, and-both, go-on, stop, true-not-false}
-use Rattle.asking.specs.declared.Found.{Found}
-use Rattle.asking.specs.declared.Found.the-variants.{At, Nothing}
-use Rattle.asking.specs.Keys.{keyOf, legalKey, matches, findFrom, found, foundIn}
+use Rattle.asking.specs.Keys.{keyOf, legalKey, matches, findFrom, found}
 
 -- UIC 0 is the caller's
 module _ (caller name1 name2 extension uic : ℕ) where
@@ -134,11 +132,26 @@ none-keyed img g key e (suc k) is i low high m = by (matches key (entryOf img g 
     by false t later (yes same) = true-not-false (sym (matches-iff key (entryOf img g e) .1 (subst (λ (j : ℕ). Keyed key (entryOf img g j)) (sym same) m)) ∙ t)
     by false t later (no other) = later (rw t at is) i (omega (arith, other)) (omega arith) m
 
--- of a legal key at most one entry of a consistent image has it
-not-empty : (img : List ℕ) (g : Geometry) (key : Key) (e : ℕ) → legalKey key ≡ true → Keyed key (entryOf img g e) → Empty img g e → ⊥
+-- an entry of a legal key is in use
+pub not-empty : (img : List ℕ) (g : Geometry) (key : Key) (e : ℕ) → legalKey key ≡ true → Keyed key (entryOf img g e) → Empty img g e → ⊥
 unfolding entryOf
 not-empty img g key e legal k empty = name-not-zero _ _ (legal-iff key .0 legal .0) (sym (k .name1) ∙ empty .zero 0 (omega arith))
 
+pub keyed-used : (img : List ℕ) (g : Geometry) (key : Key) (e : ℕ) → legalKey key ≡ true → Keyed key (entryOf img g e) → RightEntry img g e → Used img g e (entryOf img g e)
+keyed-used img g key e legal keyed (inl empty) = absurd (not-empty img g key e legal keyed empty)
+keyed-used img g key e legal keyed (inr used) = used
+
+-- two keys of one entry
+pub key-single : {key key′ : Key} {x : Entry} → Keyed key x → Keyed key′ x → key′ ≡ key
+key-single k k′ =
+    λ i. record {
+      name1 = (sym (k′ .name1) ∙ k .name1) i;
+      name2 = (sym (k′ .name2) ∙ k .name2) i;
+      extension = (sym (k′ .extension) ∙ k .extension) i;
+      uic = (sym (k′ .uic) ∙ k .uic) i;
+    }
+
+-- of a legal key at most one entry of a consistent image has it
 module _ {img : List ℕ} (right : Consistent img) (key : Key) (legal : legalKey key ≡ true) where
   at-most : (e f : ℕ) → e < f → f < slots (geometryOf img) → Keyed key (entryOf img (geometryOf img) e) → Keyed key (entryOf img (geometryOf img) f) → ⊥
   at-most e f less inside k l =

@@ -1,8 +1,7 @@
 -- The first stage of every request on a file: a consistent image, a legal name, right arguments, and the file's entry.
 use Prim.Native.Nat.{ℕ}
-use mathlib.Core.Bool.{Bool, cond, not}
+use mathlib.Core.Bool.{Bool, not}
 use mathlib.Core.List.{List, [], _∷_}
-use lib.Dec.{eqb}
 use Rattle.answers.specs.Refusals.{Row, row, firstOf, onSuccess}
 use Rattle.answers.specs.Conversion.{missing, orElse}
 use Rattle.pack.specs.declared.Entry.{Entry}
@@ -27,7 +26,10 @@ entryNo img key = orElse 0 (found img key)
 unfoldable pub fileOf : List ℕ → Key → Entry
 fileOf img key = entryOf img (geometryOf img) (entryNo img key)
 
--- the stage's answer
-unfoldable pub askedOf : List ℕ → Key → Bool → Asked
-askedOf img key wrong =
-    onSuccess (firstOf (fileRows img key wrong)) (File (geometryOf img) (entryNo img key) (fileOf img key)) (Refused (firstOf (fileRows img key wrong)))
+-- what a stage answers: the file, or the code of the first row that refuses
+unfoldable pub stageOf : List Row → List ℕ → Key → Asked
+stageOf rows img key = onSuccess (firstOf rows) (File (geometryOf img) (entryNo img key) (fileOf img key)) (Refused (firstOf rows))
+
+-- the first stage's answer
+abbrev pub askedOf : List ℕ → Key → Bool → Asked
+askedOf img key wrong = stageOf (fileRows img key wrong) img key

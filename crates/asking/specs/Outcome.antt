@@ -1,5 +1,6 @@
 -- What a request on an image comes to: its code, its numbers, and what image and lent buffer then hold.
 use Prim.Native.Nat.{ℕ}
+use mathlib.Core.Path.{_≡_}
 use mathlib.Core.List.{List, [], _∷_}
 use Rattle.answers.specs.Refusals.{Row, firstOf, onSuccess}
 
@@ -24,3 +25,9 @@ settled rows image buffer effect =
       image = onSuccess (firstOf rows) (effect .image) image;
       buffer = onSuccess (firstOf rows) (effect .buffer) buffer;
     }
+
+-- what that leaves of an outcome: the numbers that are 0, the image and the buffer as they were
+pub record Unchanged (outcome : Outcome) (zeros image buffer : List ℕ) : Type 0 where
+  pub same-numbers : outcome .numbers ≡ zeros
+  pub same-image : outcome .image ≡ image
+  pub same-buffer : outcome .buffer ≡ buffer

@@ -6,7 +6,6 @@ pub mod Room
 pub mod Giving
 pub mod Stages
 pub mod Decoding
-pub mod Bytes
 pub mod Only
 pub mod Causes
 pub mod Asked

@@ -23,12 +23,13 @@ use Rattle.frame.proofs.Chain.{next-contiguous, chain-length, extent-place, ext
 use Rattle.frame.specs.Framed.{Only, Never, Kept}
 use Rattle.frame.proofs.Framing.{kept-same}
 use Rattle.frame.proofs.Untouched.{untouched-refl}
+use Rattle.asking.proofs.Outcome.{code-is, success-image, success-numbers, refusal-keeps, image-by}
+use Rattle.asking.specs.Outcome.{Unchanged}
 use Rattle.creation.specs.Creating.{creatingRows, created}
 use Rattle.creation.specs.Alloc.{highestRun, lengthFor, startFor, allocRows, alloc}
 use Rattle.creation.specs.Choice.{LowestEmpty, FreeRun, HighestRun}
 use Rattle.creation.specs.Filled.{newFile, extentFrom}
 use Rattle.creation.specs.Stages.{entryFor}
-use Rattle.creation.proofs.Settling.{code-is, image-done, numbers-done, refusal-keeps, image-by}
 use Rattle.creation.proofs.Highest.{run-none}
 use Rattle.creation.proofs.Deciding.{creatable}
 use Rattle.creation.proofs.Allocating.{rows-42, rows-clear, Allocatable, segments-some, allocatable}
@@ -85,7 +86,7 @@ module _ (img : List ℕ) (key : Key) (caller protect segments : ℕ) where
 
   -- "A refusal returns its code, any other number in the answer 0 .., and nothing in the image .. changes."
   pub alloc-refused : (alloc img key caller protect segments .code ≡ 0 → ⊥)
-      → (alloc img key caller protect segments .image ≡ img) × (alloc img key caller protect segments .numbers ≡ 0 ∷ [])
+      → Unchanged (alloc img key caller protect segments) (0 ∷ []) img []
   unfolding alloc
   alloc-refused = refusal-keeps (allocRows img key caller protect segments) img [] _
 
@@ -167,7 +168,7 @@ module _ (img : List ℕ) (key : Key) (caller protect segments : ℕ) where
 
   image-made : (success : alloc img key caller protect segments .code ≡ 0) → alloc img key caller protect segments .image ≡ made (alloc-allocatable success)
   unfolding alloc created
-  image-made success = image-done (allocRows img key caller protect segments) img [] _ (sym code-rows ∙ success)
+  image-made success = success-image (allocRows img key caller protect segments) img [] _ (sym code-rows ∙ success)
 
   pub alloc-consistent : Consistent img → Consistent (alloc img key caller protect segments .image)
   alloc-consistent right = image-is Consistent right made-consistent
@@ -207,7 +208,7 @@ module _ (img : List ℕ) (key : Key) (caller protect segments : ℕ) where
       record {
         entry = a .ready .entry;
         extent = a .extent;
-        number = numbers-done (allocRows img key caller protect segments) img [] _ (sym code-rows ∙ success);
+        number = success-numbers (allocRows img key caller protect segments) img [] _ (sym code-rows ∙ success);
         file =
             ap (λ (img′ : List ℕ). entryOf img′ (geometryOf img) (entryFor img)) (image-made success)
             ∙ entered-entry (a .ready) (extentFrom (startFor img segments) (lengthFor img segments));

@@ -11,10 +11,12 @@ use lib.ListN.{length, getD}
 use borrow.Author.Tests.{eqb-false}
 use Rattle.answers.specs.Refusals.{firstOf, tableOrder, inOrder}
 use Rattle.answers.specs.Conversion.{orElse}
+use Rattle.answers.proofs.Refusals.{behind-refused, behind-clear, success-is, refusal-is}
 use Rattle.pack.specs.declared.Geometry.{Geometry}
 use Rattle.pack.specs.declared.BlockNo.{BlockNo}
 use Rattle.pack.specs.declared.Key.{Key}
 use Rattle.pack.specs.Geometry.{geometryOf, slots, Sized}
+use Rattle.asking.proofs.Outcome.{done-answer, refused-answer}
 use Rattle.creation.specs.Creating.{creatingRows, setEntryWords}
 use Rattle.creation.specs.Alloc.{blocksFor, highestRun, lengthFor, startFor, allocRows, alloc}
 use Rattle.creation.specs.Choice.{HighestRun}
@@ -23,7 +25,6 @@ use Rattle.creation.specs.Stages.{entryFor, allocatingOf}
 use Rattle.creation.specs.declared.allocation.Blocks.{Blocks}
 use Rattle.creation.specs.declared.allocation.Allocating.{Allocating}
 use Rattle.creation.specs.declared.allocation.Allocating.the-variants.{Extent, Refused}
-use Rattle.creation.proofs.Settling.{behind-refused, behind-clear, success-is, refusal-is, done, refused}
 use Rattle.creation.proofs.Rounding.{blocks-some}
 use Rattle.creation.proofs.Highest.{run-highest, run-inside}
 use Rattle.creation.proofs.Deciding.{creating-coded, Creatable, creatable, Allowed, Forbidden}
@@ -38,7 +39,7 @@ module _ (img : List ℕ) (key : Key) (caller protect segments : ℕ) where
   pub rows-forbidden : {code : ℕ} → firstOf (creatingRows img key caller protect (eqb segments 0)) ≡ code → (code ≡ 0 → ⊥)
       → firstOf (allocRows img key caller protect segments) ≡ code
   unfolding allocRows
-  rows-forbidden first never = behind-refused _ (creatingRows img key caller protect (eqb segments 0)) (λ is. never (sym first ∙ is)) ∙ first
+  rows-forbidden first never = behind-refused _ (creatingRows img key caller protect (eqb segments 0)) first never
 
   pub rows-42 : firstOf (creatingRows img key caller protect (eqb segments 0)) ≡ 0 → highestRun img (lengthFor img segments) ≡ none
       → firstOf (allocRows img key caller protect segments) ≡ 0o42
@@ -158,7 +159,7 @@ module _ (img : List ℕ) (key : Key) (caller protect segments : ℕ) where
         by (no never) =
             let same = told-denied never in
             let first : firstOf (allocRows img key caller protect segments) ≡ code = cc in
-            let r = refused (allocRows img key caller protect segments) img [] _ first (λ zero. never (first ∙ zero)) in
+            let r = refused-answer (allocRows img key caller protect segments) img [] _ first (λ zero. never (first ∙ zero)) in
             (r .0, (r .1, r .2))
 
     module _ (g : Geometry) (e : ℕ) (s : BlockNo) (k : Blocks) (told : answer ≡ Extent g e s k) where
@@ -191,7 +192,7 @@ module _ (img : List ℕ) (key : Key) (caller protect segments : ℕ) where
           let c = chosen g e s k told in
           let extent : (s .0 ≡ startFor img segments) × (k .0 ≡ lengthFor img segments) = (sym (c .start), sym (c .length)) in
           let d =
-          done (allocRows img key caller protect segments) img [] _ (c .clear) (s .0 ∷ []) img′ (ap (λ (x : ℕ). x ∷ []) (sym (c .start)))
+          done-answer (allocRows img key caller protect segments) img [] _ (c .clear) (s .0 ∷ []) img′ (ap (λ (x : ℕ). x ∷ []) (sym (c .start)))
           (written
           ∙ (λ i. setEntryWords img g e 0 (wordsOf (newFile key protect (extentFrom (extent .0 i) (extent .1 i)))))
           ∙ created-at img _ g e (c .measures) (c .number)) in

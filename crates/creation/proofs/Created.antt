@@ -8,10 +8,11 @@ use lib.ListN.{getD}
 use Rattle.pack.specs.declared.Geometry.{Geometry}
 use Rattle.pack.specs.declared.Key.{Key}
 use Rattle.pack.specs.Geometry.{geometryOf, slots, Sized}
+use Rattle.asking.proofs.Legal.{legal-words}
 use Rattle.creation.specs.Creating.{setEntryWords, created}
 use Rattle.creation.specs.Filled.{Writable, Shape, newFile}
 use Rattle.creation.specs.Stages.{entryFor}
-use Rattle.creation.proofs.Fitting.{key-words}
+use Rattle.creation.proofs.Fitting.{listed-word}
 use Rattle.creation.proofs.Deciding.{Creatable}
 
 -- the image with the new entry, at the measures and the entry that the code has
@@ -25,12 +26,12 @@ module _ {img : List ℕ} {key : Key} {caller protect : ℕ} {wrong : Bool} (rea
   pub writable : ((i : ℕ) → getD img i 0 < 256) → (shape : Shape) → shape .kind < 65536 → shape .first < 65536 → shape .length < 65536 → shape .last < 65536 → shape .writer < 65536
       → Writable (newFile key protect shape)
   writable bytes shape kind first length last writer =
-      let words = key-words img key bytes (ready .legal) (ready .known) in
+      let words = legal-words key (ready .legal) in
       record {
-        name1 = words .name1;
-        name2 = words .name2;
-        extension = words .extension;
-        uic = words .uic;
+        name1 = omega (arith, words .name1);
+        name2 = omega (arith, words .name2);
+        extension = omega (arith, words .extension);
+        uic = listed-word img (key .uic) bytes (ready .known);
         protect = omega (arith, ready .small);
         kind = kind;
         first = first;

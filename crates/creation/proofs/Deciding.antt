@@ -3,13 +3,15 @@ use Prim.Native.Nat.{ℕ, _≤_, _<_}
 use mathlib.Core.Path.{_≡_, refl, sym, ap, _∙_}
 use mathlib.Core.Bool.{Bool, true, false, not}
 use mathlib.Core.List.{List}
-use mathlib.Core.Option.{Option, none, some}
+use mathlib.Core.Option.{none, some}
 use native.Mathlib.Omega.{arith}
 use native.Mathlib.Decide.{ℕ-discrete}
 use lib.Dec.{eqb, ltb}
 use borrow.Author.Tests.{eq-eqb, ne-eqb, eqb-true, lt-ltb, le-ltb, ltb-false, not-false}
 use Rattle.answers.specs.Refusals.{firstOf, onSuccess, tableOrder, inOrder}
-use Rattle.answers.specs.Conversion.{missing, orElse}
+use Rattle.answers.specs.Conversion.{missing}
+use Rattle.answers.proofs.Refusals.{none-given, coded, success-is, refusal-is}
+use Rattle.answers.proofs.Missing.{present, absent}
 use Rattle.pack.specs.declared.Geometry.{Geometry}
 use Rattle.pack.specs.declared.Key.{Key}
 use Rattle.pack.specs.Geometry.{geometryOf, Sized}
@@ -24,7 +26,6 @@ use Rattle.creation.specs.Choice.{LowestEmpty}
 use Rattle.creation.specs.Stages.{entryFor, creatingOf}
 use Rattle.creation.specs.declared.creating.Creating.{Creating}
 use Rattle.creation.specs.declared.creating.Creating.the-variants.{At, Refused}
-use Rattle.creation.proofs.Settling.{first-passed, coded, success-is, refusal-is}
 use Rattle.creation.proofs.Lowest.{empty-lowest}
 
 module _ (img : List ℕ) (key : Key) (caller protect : ℕ) (wrong : Bool) where
@@ -94,25 +95,17 @@ module _ (img : List ℕ) (key : Key) (caller protect : ℕ) (wrong : Bool) wher
     pub entry : LowestEmpty img (entryFor img)
     pub sized : Sized img (geometryOf img)
 
-  is-none : (o : Option ℕ) → not (missing o) ≡ false → o ≡ none
-  is-none none is = refl
-  is-none (some e) is = let z : _≡_ {A = ℕ} 0 1 = cc in absurd (omega arith)
-
-  is-some : (o : Option ℕ) → missing o ≡ false → o ≡ some (orElse 0 o)
-  is-some none is = let z : _≡_ {A = ℕ} 0 1 = cc in absurd (omega arith)
-  is-some (some e) is = refl
-
   pub creatable : firstOf (creatingRows img key caller protect wrong) ≡ 0 → Creatable
   unfolding creatingRows
   creatable clear =
-      let a = first-passed (not (consistent img)) 0o40 _ (λ is. omega arith) clear in
-      let b = first-passed (not (legalKey key)) 0o15 _ (λ is. omega arith) (a .1) in
-      let c = first-passed wrong 0o41 _ (λ is. omega arith) (b .1) in
-      let d = first-passed (ltb 255 protect) 0o41 _ (λ is. omega arith) (c .1) in
-      let e = first-passed (not (listed img (key .uic))) 0o13 _ (λ is. omega arith) (d .1) in
-      let f = first-passed (not (missing (found img key))) 0o2 _ (λ is. omega arith) (e .1) in
-      let g = first-passed (not (eqb (key .uic) caller)) 0o6 _ (λ is. omega arith) (f .1) in
-      let h = first-passed (missing (lowestEmpty img)) 0o12 _ (λ is. omega arith) (g .1) in
+      let a = none-given (not (consistent img)) 0o40 _ (λ is. omega arith) clear in
+      let b = none-given (not (legalKey key)) 0o15 _ (λ is. omega arith) (a .1) in
+      let c = none-given wrong 0o41 _ (λ is. omega arith) (b .1) in
+      let d = none-given (ltb 255 protect) 0o41 _ (λ is. omega arith) (c .1) in
+      let e = none-given (not (listed img (key .uic))) 0o13 _ (λ is. omega arith) (d .1) in
+      let f = none-given (not (missing (found img key))) 0o2 _ (λ is. omega arith) (e .1) in
+      let g = none-given (not (eqb (key .uic) caller)) 0o6 _ (λ is. omega arith) (f .1) in
+      let h = none-given (missing (lowestEmpty img)) 0o12 _ (λ is. omega arith) (g .1) in
       let right = consistent-iff img .0 (not-false _ (a .0)) in
       record {
         right = right;
@@ -120,9 +113,9 @@ module _ (img : List ℕ) (key : Key) (caller protect : ℕ) (wrong : Bool) wher
         argument = c .0;
         small = ltb-false 255 protect (d .0);
         known = not-false _ (e .0);
-        absent = is-none (found img key) (f .0);
+        absent = absent (found img key) (f .0);
         own = eqb-true (key .uic) caller (not-false _ (g .0));
-        entry = empty-lowest img (entryFor img) .0 (is-some (lowestEmpty img) (h .0));
+        entry = empty-lowest img (entryFor img) .0 (present (lowestEmpty img) (h .0));
         sized = header-sized img (right .header);
       }
 

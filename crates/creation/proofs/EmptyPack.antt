@@ -5,8 +5,7 @@ use mathlib.Core.Bool.{true}
 use mathlib.Core.List.{List}
 use mathlib.Core.Logic.{inl}
 use native.Mathlib.Omega.{arith}
-use lib.ListN.{length, getD, drop}
-use lib.Seq.{getD-drop}
+use lib.ListN.{length, drop}
 use Rattle.words.specs.Word.{wordAt}
 use Rattle.pack.specs.declared.Geometry.{Geometry}
 use Rattle.pack.specs.declared.Owner.the-variants.{System, Free}
@@ -119,17 +118,6 @@ module _ (image : List ℕ) (form blocks contents : ℕ) (uics : List ℕ) where
     pub format-system : (b : ℕ) → b < bodiesOf form contents → ownerOf (formatted image form blocks contents uics) b ≡ System
     format-system b below = owner-system format-consistent b .1 (rw format-geometry below)
 
-    pub format-length : length (formatted image form blocks contents uics) ≡ length image
-    format-length = formatted-length image form blocks contents uics formattable
-
     -- "bodies untouched": the bytes from the first body on
     pub format-bodies : drop (systemBytes form contents) (formatted image form blocks contents uics) ≡ drop (systemBytes form contents) image
     format-bodies = formatted-bodies image form blocks contents uics formattable
-
-    pub format-byte : (k : ℕ) → systemBytes form contents ≤ k → getD (formatted image form blocks contents uics) k 0 ≡ getD image k 0
-    format-byte k behind =
-        let place : k ≡ systemBytes form contents + (k - systemBytes form contents) = omega arith in
-        ap (λ (i : ℕ). getD result i 0) place
-        ∙ (sym (getD-drop (systemBytes form contents) result (k - systemBytes form contents) 0)
-        ∙ (ap (λ (l : List ℕ). getD l (k - systemBytes form contents) 0) format-bodies
-        ∙ (getD-drop (systemBytes form contents) image (k - systemBytes form contents) 0 ∙ ap (λ (i : ℕ). getD image i 0) (sym place))))

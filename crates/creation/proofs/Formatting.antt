@@ -3,7 +3,7 @@ use Prim.Native.Nat.{ℕ, _%_}
 use mathlib.Core.Path.{_≡_, refl, sym, ap, _∙_}
 use mathlib.Core.Bool.{Bool, true, false, not}
 use mathlib.Core.List.{List, [], _++_}
-use mathlib.Core.Logic.{_↔_, _⊎_, inl, inr}
+use mathlib.Core.Logic.{_↔_}
 use native.Mathlib.Omega.{arith}
 use lib.Dec.{eqb}
 use lib.ListN.{length, drop, replicate}
@@ -11,10 +11,10 @@ use borrow.Author.Tests.{eq-eqb, ne-eqb, eqb-true}
 use Rattle.answers.specs.Refusals.{tableOrder, inOrder}
 use Rattle.answers.proofs.Refusals.{refuse, pass, clear}
 use Rattle.pack.specs.Test.{measured, distinct}
-use Rattle.pack.proofs.Tests.{and-left, and-right, and-both, go-on, stop, true-not-false}
+use Rattle.pack.proofs.Tests.{and-left, and-right, and-both, go-on, stop}
 use Rattle.pack.proofs.Headers.{measured-is, is-measured, distinct-is, is-distinct}
-use Rattle.asking.specs.Outcome.{Outcome}
-use Rattle.asking.proofs.Outcome.{settled-refused, settled-success}
+use Rattle.asking.specs.Outcome.{Outcome, Unchanged}
+use Rattle.asking.proofs.Outcome.{settled-refused, settled-success, refusal-keeps}
 use Rattle.creation.specs.Format.{uicsIn, Formattable, formatTest, systemBytes, headed, formatted, formatRows, format}
 use Rattle.creation.proofs.Room.{header-inside}
 use Rattle.creation.proofs.Writing.{formatted-is}
@@ -99,38 +99,10 @@ module _ (image : List ℕ) (form blocks contents : ℕ) (uics : List ℕ) where
   unfolding formatRows
   format-ordered = refl
 
-  -- the code is 0, or 41 exactly if the rule does not hold
-  pub format-codes : (format image form blocks contents uics .code ≡ 0) ⊎ (format image form blocks contents uics .code ≡ 0o41)
-  format-codes = by (formatTest (length image) form blocks contents uics) refl
-    where
-      by : (test : Bool) → formatTest (length image) form blocks contents uics ≡ test
-          → (format image form blocks contents uics .code ≡ 0) ⊎ (format image form blocks contents uics .code ≡ 0o41)
-      by true holds = inl (ap (λ (o : Outcome). o .code) (format-done holds))
-      by false fails = inr (ap (λ (o : Outcome). o .code) (format-refused fails))
-
-  pub format-refuses : format image form blocks contents uics .code ≡ 0o41 ↔ (Formattable (length image) form blocks contents uics → ⊥)
-  format-refuses = by (formatTest (length image) form blocks contents uics) refl
-    where
-      by : (test : Bool) → formatTest (length image) form blocks contents uics ≡ test
-          → format image form blocks contents uics .code ≡ 0o41 ↔ (Formattable (length image) form blocks contents uics → ⊥)
-      by true holds = (
-        λ code f. omega (arith, code, ap (λ (o : Outcome). o .code) (format-done holds)),
-        λ never. absurd (never (test-formattable (length image) form blocks contents uics holds)),
-      )
-      by false fails = (
-        λ code f. true-not-false (sym (formattable-test (length image) form blocks contents uics f) ∙ fails),
-        λ never. ap (λ (o : Outcome). o .code) (format-refused fails),
-      )
-
   -- "nothing in the image or a lent buffer changes"
-  pub format-unchanged : (format image form blocks contents uics .code ≡ 0 → ⊥)
-      → (format image form blocks contents uics .image ≡ image) × (format image form blocks contents uics .buffer ≡ uics)
-  format-unchanged refused = by (formatTest (length image) form blocks contents uics) refl
-    where
-      by : (test : Bool) → formatTest (length image) form blocks contents uics ≡ test
-          → (format image form blocks contents uics .image ≡ image) × (format image form blocks contents uics .buffer ≡ uics)
-      by true holds = absurd (refused (ap (λ (o : Outcome). o .code) (format-done holds)))
-      by false fails = (ap (λ (o : Outcome). o .image) (format-refused fails), ap (λ (o : Outcome). o .buffer) (format-refused fails))
+  pub format-unchanged : (format image form blocks contents uics .code ≡ 0 → ⊥) → Unchanged (format image form blocks contents uics) [] image uics
+  unfolding format
+  format-unchanged = refusal-keeps (formatRows image form blocks contents uics) image uics _
 
   -- the code and the image of each, as the code comes to them
   pub refused-code : formatTest (length image) form blocks contents uics ≡ false → 0o41 ≡ format image form blocks contents uics .code

@@ -14,17 +14,16 @@ use Rattle.pack.specs.Consistent.{Consistent}
 use Rattle.pack.specs.Owner.{ownerOf}
 use Rattle.pack.specs.Untouched.{Untouched}
 use Rattle.frame.proofs.Counting.{count-nil}
-use Rattle.frame.specs.Framed.{Only, Never, Kept}
-use Rattle.frame.proofs.Framing.{kept-same}
 use Rattle.frame.proofs.Untouched.{untouched-refl}
+use Rattle.asking.proofs.Outcome.{code-is, success-image, refusal-keeps, image-by}
+use Rattle.asking.specs.Outcome.{Unchanged}
 use Rattle.creation.specs.Creating.{creatingRows, created}
 use Rattle.creation.specs.Openo.{openo}
 use Rattle.creation.specs.Choice.{LowestEmpty}
 use Rattle.creation.specs.Filled.{newFile, emptyOutput}
 use Rattle.creation.specs.Stages.{entryFor}
-use Rattle.creation.proofs.Settling.{code-is, image-done, refusal-keeps, image-by}
 use Rattle.creation.proofs.Deciding.{Creatable, creatable}
-use Rattle.creation.proofs.Entered.{entered, entered-kept, entered-entry, entered-untouched, entered-consistent, entered-others}
+use Rattle.creation.proofs.Entered.{entered, entered-entry, entered-untouched, entered-consistent, entered-others}
 
 -- the new file has no block
 no-blocks : (img : List ℕ) (g : Geometry) (key : Key) (protect : ℕ) → blocksOf img g (newFile key protect emptyOutput) ≡ []
@@ -37,13 +36,9 @@ linked img g key protect = record { kind = refl; end = refl; last = refl; writer
 
 module _ (img : List ℕ) (key : Key) (caller protect : ℕ) where
   -- "A refusal returns its code, .. and nothing in the image .. changes."
-  pub openo-refused : (openo img key caller protect .code ≡ 0 → ⊥) → (openo img key caller protect .image ≡ img) × (openo img key caller protect .numbers ≡ [])
+  pub openo-refused : (openo img key caller protect .code ≡ 0 → ⊥) → Unchanged (openo img key caller protect) [] img []
   unfolding openo
   openo-refused = refusal-keeps (creatingRows img key caller protect false) img [] _
-
-  pub openo-creatable : openo img key caller protect .code ≡ 0 → Creatable img key caller protect false
-  unfolding openo
-  openo-creatable success = creatable img key caller protect false (sym (code-is (creatingRows img key caller protect false) img [] _) ∙ success)
 
   module _ (ready : Creatable img key caller protect false) where
     none-counted : (b : ℕ) → count b (blocksOf (entered ready emptyOutput) (geometryOf img) (newFile key protect emptyOutput)) ≡ 0
@@ -63,12 +58,6 @@ module _ (img : List ℕ) (key : Key) (caller protect : ℕ) where
   pub openo-consistent : Consistent img → Consistent (openo img key caller protect .image)
   openo-consistent right = image-is Consistent right written-consistent
 
-  -- nothing but the words of the lowest empty entry is written
-  pub openo-kept : Kept (Only (entryFor img)) Never img (openo img key caller protect .image) (geometryOf img)
-  openo-kept =
-      image-is (λ img′. Kept (Only (entryFor img)) Never img img′ (geometryOf img)) (kept-same img (geometryOf img))
-      (λ ready. entered-kept ready emptyOutput)
-
   -- every file is untouched: the request's own key has none
   pub openo-untouched : (key′ : Key) → Untouched key′ img (openo img key caller protect .image)
   openo-untouched key′ = image-is (Untouched key′ img) (untouched-refl key′ img) (λ ready. entered-untouched ready emptyOutput key′)
@@ -85,6 +74,6 @@ module _ (img : List ℕ) (key : Key) (caller protect : ℕ) where
       let clear = sym (code-is (creatingRows img key caller protect false) img [] _) ∙ success in
       let ready = creatable img key caller protect false clear in (
         ready .entry,
-        ap (λ (img′ : List ℕ). entryOf img′ (geometryOf img) (entryFor img)) (image-done (creatingRows img key caller protect false) img [] _ clear)
+        ap (λ (img′ : List ℕ). entryOf img′ (geometryOf img) (entryFor img)) (success-image (creatingRows img key caller protect false) img [] _ clear)
             ∙ entered-entry ready emptyOutput,
       )

@@ -9,13 +9,13 @@ use Rattle.answers.specs.Refusals.{tableOrder, inOrder}
 use Rattle.pack.specs.declared.Geometry.{Geometry}
 use Rattle.pack.specs.declared.Key.{Key}
 use Rattle.pack.specs.Geometry.{slots, Sized}
+use Rattle.asking.proofs.Outcome.{done-answer, refused-answer}
 use Rattle.creation.specs.Creating.{creatingRows, setEntryWords}
 use Rattle.creation.specs.Openo.{openo}
 use Rattle.creation.specs.Filled.{wordsOf, Writable, newFile, emptyOutput}
 use Rattle.creation.specs.Stages.{creatingOf}
 use Rattle.creation.specs.declared.creating.Creating.{Creating}
 use Rattle.creation.specs.declared.creating.Creating.the-variants.{At, Refused}
-use Rattle.creation.proofs.Settling.{done, refused}
 use Rattle.creation.proofs.Deciding.{creating-ordered, creatable, allowed, forbidden}
 use Rattle.creation.proofs.Created.{created-at, writable, sized-at, inside-at}
 
@@ -27,7 +27,7 @@ module _ (img : List ℕ) (key : Key) (caller protect : ℕ) (answer : Creating)
   unfolding openo
   output-refused code told =
       let f = forbidden img key caller protect false answer is code told in
-      let r = refused (creatingRows img key caller protect false) img [] _ (f .first) (f .never) in
+      let r = refused-answer (creatingRows img key caller protect false) img [] _ (f .first) (f .never) in
       (r .0, r .2)
 
   module _ (g : Geometry) (e : ℕ) (told : answer ≡ At g e) where
@@ -44,5 +44,5 @@ module _ (img : List ℕ) (key : Key) (caller protect : ℕ) (answer : Creating)
     unfolding openo
     output-done img′ written =
         let a = allowed img key caller protect false answer is g e told in
-        let d = done (creatingRows img key caller protect false) img [] _ (a .clear) [] img′ refl (written ∙ created-at img _ g e (a .measures) (a .number)) in
+        let d = done-answer (creatingRows img key caller protect false) img [] _ (a .clear) [] img′ refl (written ∙ created-at img _ g e (a .measures) (a .number)) in
         (d .0, d .2)

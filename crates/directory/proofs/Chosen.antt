@@ -1,23 +1,20 @@
 -- The file that a request changes: its entry is in use and has its key, and where nothing but that entry changes no other file is touched.
 use Prim.Native.Nat.{ℕ, _<_}
-use mathlib.Core.Path.{_≡_, refl, sym, ap, subst, _∙_}
+use mathlib.Core.Path.{_≡_, refl, ap, subst, _∙_}
 use mathlib.Core.Bool.{Bool, true}
 use mathlib.Core.List.{List}
-use mathlib.Core.Logic.{inl, inr}
 use mathlib.Core.Option.{some}
-use native.Mathlib.Omega.{arith}
-use Rattle.radix.proofs.Names.{name-not-zero}
 use Rattle.pack.specs.declared.Geometry.{Geometry}
 use Rattle.pack.specs.declared.Entry.{Entry}
 use Rattle.pack.specs.declared.Key.{Key}
 use Rattle.pack.specs.Geometry.{geometryOf, slots, Sized}
-use Rattle.pack.specs.Entry.{entryOf, Used, RightEntry}
+use Rattle.pack.specs.Entry.{entryOf, Used}
 use Rattle.pack.specs.Consistent.{Consistent}
 use Rattle.pack.specs.Untouched.{Keyed, Untouched}
 use Rattle.pack.proofs.Headers.{header-sized}
 use Rattle.asking.specs.Keys.{legalKey, found}
 use Rattle.asking.specs.Asked.{entryNo, fileOf}
-use Rattle.asking.proofs.Keys.{legal-iff, found-iff}
+use Rattle.asking.proofs.Keys.{found-iff, keyed-used, key-single}
 use Rattle.asking.proofs.Stage.{FileAsked}
 use Rattle.frame.specs.Framed.{Only, Never, Kept}
 use Rattle.frame.proofs.Held.{framed-never}
@@ -32,12 +29,6 @@ pub record Chosen (img : List ℕ) (key : Key) (g : Geometry) (e : ℕ) : Type 0
   pub keyed : Keyed key (entryOf img g e)
   pub used : Used img g e (entryOf img g e)
 
--- a right entry of a legal key is in use
-in-use : (img : List ℕ) (g : Geometry) (key : Key) (e : ℕ) → legalKey key ≡ true → Keyed key (entryOf img g e) → RightEntry img g e → Used img g e (entryOf img g e)
-unfolding entryOf
-in-use img g key e legal keyed (inl empty) = absurd (name-not-zero _ _ (legal-iff key .0 legal .0) (sym (keyed .name1) ∙ empty .zero 0 (omega arith)))
-in-use img g key e legal keyed (inr used) = used
-
 pub chosen : (img : List ℕ) (key : Key) → Consistent img → legalKey key ≡ true → (e : ℕ) → found img key ≡ some e → Chosen img key (geometryOf img) (entryNo img key)
 unfolding entryNo
 chosen img key right legal e there =
@@ -50,7 +41,7 @@ chosen img key right legal e there =
       inside = at .0;
       legal = legal;
       keyed = at .1;
-      used = in-use img (geometryOf img) key e legal (at .1) (right .entries e (at .0));
+      used = keyed-used img (geometryOf img) key e legal (at .1) (right .entries e (at .0));
     })
 
 pub asked-chosen : {img : List ℕ} {key : Key} {wrong : Bool} {g : Geometry} {e : ℕ} {x : Entry} → FileAsked img key wrong g e x
@@ -67,18 +58,8 @@ unfolding fileOf
 file-found img key g e measures there =
     ap (λ (h : Geometry). entryOf img h (entryNo img key)) measures ∙ ap (entryOf img g) (number-found img key there)
 
--- two keys of one entry
-pub one-key : {key key′ : Key} {x : Entry} → Keyed key x → Keyed key′ x → key′ ≡ key
-one-key k k′ =
-    λ i. record {
-      name1 = (sym (k′ .name1) ∙ k .name1) i;
-      name2 = (sym (k′ .name2) ∙ k .name2) i;
-      extension = (sym (k′ .extension) ∙ k .extension) i;
-      uic = (sym (k′ .uic) ∙ k .uic) i;
-    }
-
 pub chosen-untouched : {img img′ : List ℕ} {key : Key} {g : Geometry} {e : ℕ} → Chosen img key g e → Kept (Only e) Never img img′ g
     → (key′ : Key) → (key′ ≡ key → ⊥) → Untouched key′ img img′
 chosen-untouched {img} {img′} {key} {g} {e} c kept key′ other =
     untouched-framed (c .measures) (c .right) (framed-never kept) key′
-    (λ f within is used keyed. other (one-key (c .keyed) (subst (λ (i : ℕ). Keyed key′ (entryOf img g i)) is keyed)))
+    (λ f within is used keyed. other (key-single (c .keyed) (subst (λ (i : ℕ). Keyed key′ (entryOf img g i)) is keyed)))

@@ -1,18 +1,19 @@
--- What a DELET leaves: a consistent image, all other files, and the blocks of the deleted one free.
+-- What a DELET leaves: a consistent image, all other files, no entry of the deleted one, and its blocks free.
 use Prim.Native.Nat.{ℕ, _<_}
 use mathlib.Core.Path.{_≡_, refl, sym, ap, subst, _∙_}
 use mathlib.Core.List.{List, []}
+use mathlib.Core.Option.{none}
 use native.Mathlib.Omega.{arith}
 use native.Mathlib.Decide.{ℕ-discrete}
 use Rattle.pack.specs.declared.Geometry.{Geometry}
 use Rattle.pack.specs.declared.Key.{Key}
 use Rattle.pack.specs.declared.Owner.the-variants.{Free}
-use Rattle.pack.specs.Geometry.{geometryOf}
+use Rattle.pack.specs.Geometry.{geometryOf, slots}
 use Rattle.pack.specs.File.{count}
-use Rattle.pack.specs.Entry.{blocksAt, Empty}
+use Rattle.pack.specs.Entry.{blocksAt, Empty, entryOf}
 use Rattle.pack.specs.Consistent.{held, Consistent}
 use Rattle.pack.specs.Owner.{placeFrom, ownerOf}
-use Rattle.pack.specs.Untouched.{Untouched}
+use Rattle.pack.specs.Untouched.{Untouched, Keyed}
 use Rattle.asking.specs.Asked.{entryNo}
 use Rattle.asking.specs.Written.{clearEntry}
 use Rattle.frame.specs.Framed.{Only, Never, Kept, Framed}
@@ -23,12 +24,16 @@ use Rattle.frame.proofs.Held.{framed-never, held-one}
 use Rattle.frame.proofs.Described.{consistent-emptied}
 use Rattle.frame.proofs.Untouched.{untouched-refl}
 use Rattle.frame.proofs.Owner.{owner-framed}
+use Rattle.frame.proofs.Framing.{entry-kept}
 use Rattle.owners.proofs.Places.{place-none}
 use Rattle.owners.proofs.Owner.{owner-free}
 use Rattle.directory.specs.Delet.{deletRows, delet}
 use Rattle.directory.proofs.Chosen.{Chosen, chosen-untouched}
 use Rattle.directory.proofs.Cleared.{cleared-kept, cleared-empty}
-use Rattle.directory.proofs.Settling.{success-clear, success-image, refusal-keeps, image-by}
+use Rattle.asking.proofs.Outcome.{code-is, success-image, refusal-keeps, image-by}
+use Rattle.asking.specs.Outcome.{Unchanged}
+use Rattle.asking.specs.Keys.{found}
+use Rattle.asking.proofs.Keys.{absent-iff, one-entry, not-empty}
 use Rattle.directory.proofs.Deleting.{delet-chosen}
 
 -- the image with the entry cleared
@@ -49,10 +54,10 @@ module _ {img : List ℕ} {key : Key} {g : Geometry} {e : ℕ} (c : Chosen img k
   cleared-consistent = consistent-emptied (c .measures) (c .right) framed (c .inside) empty
 
   cleared-owner : (b : ℕ) → count b (blocksAt img g e) ≡ 0 → ownerOf (clearEntry img g e) b ≡ ownerOf img b
-  cleared-owner b none =
+  cleared-owner b other =
       owner-framed (c .measures) (c .right) framed (λ i. ℕ-discrete i e) b
       (λ i within is. subst (λ (j : ℕ). placeFrom b 0 (blocksAt (clearEntry img g e) g j) ≡ placeFrom b 0 (blocksAt img g j)) (sym is)
-      (place-none b 0 _ .1 (no-blocks b) ∙ sym (place-none b 0 _ .1 none)))
+      (place-none b 0 _ .1 (no-blocks b) ∙ sym (place-none b 0 _ .1 other)))
 
   cleared-free : (b : ℕ) → 0 < count b (blocksAt img g e) → ownerOf (clearEntry img g e) b ≡ Free
   cleared-free b some =
@@ -62,8 +67,27 @@ module _ {img : List ℕ} {key : Key} {g : Geometry} {e : ℕ} (c : Chosen img k
       omega (arith, some, no-blocks b, c .right .once b, held-one (c .measures) (c .right) framed (c .inside) b) in
       owner-free cleared-consistent b .1 (omega (arith, body .0, bodies), unheld)
 
+  -- no entry has the key any more
+  cleared-absent : found (clearEntry img g e) key ≡ none
+  cleared-absent =
+      absent-iff cleared-consistent key (c .legal) .1
+      (subst (λ (h : Geometry). (i : ℕ) → i < slots h → Keyed key (entryOf (clearEntry img g e) h i) → ⊥)
+      (c .measures ∙ sym (geometry-framed (c .measures) (c .right) framed)) nowhere)
+    where
+      nowhere : (i : ℕ) → i < slots g → Keyed key (entryOf (clearEntry img g e) g i) → ⊥
+      nowhere i within keyed = by (ℕ-discrete i e)
+        where
+          by : Dec (i ≡ e) → ⊥
+          by (yes is) =
+              not-empty (clearEntry img g e) g key e (c .legal) (subst (λ (j : ℕ). Keyed key (entryOf (clearEntry img g e) g j)) is keyed) empty
+          by (no other) =
+              let before : Keyed key (entryOf img g i) = subst (Keyed key) (entry-kept kept i within other) keyed in
+              other
+              (subst (λ (h : Geometry). i < slots h → Keyed key (entryOf img h i) → e < slots h → Keyed key (entryOf img h e) → i ≡ e) (sym (c .measures))
+              (λ one here two there. one-entry (c .right) key (c .legal) i e one two here there) within before (c .inside) (c .keyed))
+
 module _ (img : List ℕ) (key : Key) (caller : ℕ) where
-  pub delet-refused : (delet img key caller .code ≡ 0 → ⊥) → (delet img key caller .image ≡ img) × (delet img key caller .numbers ≡ [])
+  pub delet-refused : (delet img key caller .code ≡ 0 → ⊥) → Unchanged (delet img key caller) [] img []
   unfolding delet
   delet-refused never = refusal-keeps (deletRows img key caller) img [] _ never
 
@@ -82,15 +106,23 @@ module _ (img : List ℕ) (key : Key) (caller : ℕ) where
     -- a block that is not the file's keeps its owner
     pub delet-owner : (b : ℕ) → count b (blocksAt img (geometryOf img) (entryNo img key)) ≡ 0 → ownerOf (delet img key caller .image) b ≡ ownerOf img b
     unfolding delet
-    delet-owner b none =
+    delet-owner b other =
         image-by (deletRows img key caller) img [] _ (λ img′. ownerOf img′ b ≡ ownerOf img b) refl
-        (λ passed. cleared-owner (delet-chosen img key caller passed) b none)
+        (λ passed. cleared-owner (delet-chosen img key caller passed) b other)
 
-    -- "clears the entry, bodies untouched": the blocks of the file are free afterwards
+    -- "clears the entry, bodies untouched": it is empty and no entry has the key, and the blocks of the file are free afterwards
+    pub delet-clears : delet img key caller .code ≡ 0
+        → Empty (delet img key caller .image) (geometryOf img) (entryNo img key) × (found (delet img key caller .image) key ≡ none)
+    unfolding delet
+    delet-clears success =
+        let passed = sym (code-is (deletRows img key caller) img [] _) ∙ success in
+        let c = delet-chosen img key caller passed in
+        rw (success-image (deletRows img key caller) img [] _ passed) (empty c, cleared-absent c)
+
     pub delet-frees : delet img key caller .code ≡ 0 → (b : ℕ) → 0 < count b (blocksAt img (geometryOf img) (entryNo img key))
         → ownerOf (delet img key caller .image) b ≡ Free
     unfolding delet
     delet-frees success b some =
-        let passed = success-clear (deletRows img key caller) img [] _ success in
+        let passed = sym (code-is (deletRows img key caller) img [] _) ∙ success in
         ap (λ (img′ : List ℕ). ownerOf img′ b) (success-image (deletRows img key caller) img [] _ passed)
         ∙ cleared-free (delet-chosen img key caller passed) b some

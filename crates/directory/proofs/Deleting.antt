@@ -12,15 +12,15 @@ use Rattle.pack.specs.Geometry.{geometryOf, slots, Sized}
 use Rattle.asking.specs.declared.Right.the-variants.{Delete}
 use Rattle.asking.specs.declared.Asked.{Asked}
 use Rattle.asking.specs.declared.Asked.the-variants.{File, Refused}
-use Rattle.asking.specs.Asked.{fileRows, entryNo, askedOf}
+use Rattle.asking.specs.Asked.{fileRows, entryNo, askedOf, stageOf}
 use Rattle.asking.specs.Rights.{may}
 use Rattle.asking.specs.Opens.{isOpen}
 use Rattle.asking.specs.Written.{clearEntry}
-use Rattle.directory.specs.Decided.{decided}
+use Rattle.asking.specs.Outcome.{Outcome}
+use Rattle.asking.proofs.Stage.{stage-clear, stage-refused, stage-stopped, stage-passed, Given, stage-is-file, outcome-refused}
+use Rattle.asking.proofs.Outcome.{done-answer}
 use Rattle.directory.specs.Delet.{deletRows, delet}
 use Rattle.directory.proofs.Chosen.{Chosen, asked-chosen}
-use Rattle.directory.proofs.Deciding.{stage-passed, stage-refused, behind-refused, behind-clear, FileDecided, decided-is-file, answer-refused}
-use Rattle.directory.proofs.Settling.{answer-done}
 use Rattle.directory.proofs.Lacking.{lacking, lacking-right, lacking-open, lacking-none}
 
 pub delet-ordered : (img : List ℕ) (key : Key) (caller : ℕ) → inOrder tableOrder 0 (deletRows img key caller) ≡ true
@@ -31,39 +31,41 @@ module _ (img : List ℕ) (key : Key) (caller : ℕ) where
   -- the file, where no row refuses
   pub delet-chosen : firstOf (deletRows img key caller) ≡ 0 → Chosen img key (geometryOf img) (entryNo img key)
   unfolding deletRows
-  delet-chosen passed = asked-chosen (stage-passed img key false (lacking Delete caller) passed)
+  delet-chosen passed = asked-chosen (stage-clear img key false (lacking Delete caller) passed .file)
 
   -- the decision
   module _ (asked : Asked) (is : asked ≡ askedOf img key false) where
-    pub decide-refused : (code : ℕ) → asked ≡ Refused code → asked ≡ decided (deletRows img key caller) img key
+    pub decide-refused : (code : ℕ) → asked ≡ Refused code → asked ≡ stageOf (deletRows img key caller) img key
     unfolding deletRows
-    decide-refused code told = stage-refused img key false (lacking Delete caller) asked is code told
+    decide-refused code told = told ∙ stage-refused img key false (lacking Delete caller) asked is code told
 
     module _ (g : Geometry) (e : ℕ) (x : Entry) (told : asked ≡ File g e x) where
-      pub decide-denied : may Delete caller (x .uic) (x .protect) ≡ false → Refused 0o6 ≡ decided (deletRows img key caller) img key
+      pub decide-denied : may Delete caller (x .uic) (x .protect) ≡ false → Refused 0o6 ≡ stageOf (deletRows img key caller) img key
       unfolding deletRows
       decide-denied denied =
-          behind-refused img key false (lacking Delete caller) asked is g e x told (lacking-right Delete caller x denied) (λ is. omega (arith, is))
+          stage-stopped img key false (lacking Delete caller) asked is g e x told (lacking-right Delete caller x denied) (λ is. omega (arith, is))
 
       module _ (granted : may Delete caller (x .uic) (x .protect) ≡ true) where
-        pub decide-open : isOpen x ≡ true → Refused 0o14 ≡ decided (deletRows img key caller) img key
+        pub decide-open : isOpen x ≡ true → Refused 0o14 ≡ stageOf (deletRows img key caller) img key
         unfolding deletRows
         decide-open opened =
-            behind-refused img key false (lacking Delete caller) asked is g e x told (lacking-open Delete caller x granted opened) (λ is. omega (arith, is))
+            stage-stopped img key false (lacking Delete caller) asked is g e x told (lacking-open Delete caller x granted opened) (λ is. omega (arith, is))
 
-        pub decide-granted : isOpen x ≡ false → File g e x ≡ decided (deletRows img key caller) img key
+        pub decide-granted : isOpen x ≡ false → File g e x ≡ stageOf (deletRows img key caller) img key
         unfolding deletRows
-        decide-granted closed = behind-clear img key false (lacking Delete caller) asked is g e x told (lacking-none Delete caller x granted closed)
+        decide-granted closed = stage-passed img key false (lacking Delete caller) asked is g e x told (lacking-none Delete caller x granted closed) refl
 
   -- the answer behind it
-  module _ (decision : Asked) (is : decision ≡ decided (deletRows img key caller) img key) where
+  module _ (decision : Asked) (is : decision ≡ stageOf (deletRows img key caller) img key) where
     pub deleting-refused : (code : ℕ) → decision ≡ Refused code → (code ≡ delet img key caller .code) × (img ≡ delet img key caller .image)
     unfolding delet
-    deleting-refused code told = answer-refused (deletRows img key caller) img key decision is [] _ code told
+    deleting-refused code told =
+        let o = outcome-refused (deletRows img key caller) img key [] _ code (sym is ∙ told) in
+        (sym (ap (λ (p : Outcome). p .code) o), sym (ap (λ (p : Outcome). p .image) o))
 
     module _ (g : Geometry) (e : ℕ) (x : Entry) (told : decision ≡ File g e x) where
-      file : FileDecided (deletRows img key caller) img key g e x
-      file = decided-is-file (deletRows img key caller) img key decision is g e x told
+      file : Given (deletRows img key caller) img key g e x
+      file = stage-is-file (deletRows img key caller) img key g e x (sym is ∙ told)
 
       pub deleting-room : Sized img g × (e < slots g)
       deleting-room =
@@ -73,5 +75,6 @@ module _ (img : List ℕ) (key : Key) (caller : ℕ) where
       pub deleting-done : (img′ : List ℕ) → img′ ≡ clearEntry img g e → (0 ≡ delet img key caller .code) × (img′ ≡ delet img key caller .image)
       unfolding delet
       deleting-done img′ written =
-          answer-done (deletRows img key caller) img [] _ (file .clear) img′
-          (written ∙ sym (ap (λ (h : Geometry). clearEntry img h (entryNo img key)) (file .measures) ∙ ap (clearEntry img g) (file .number)))
+          let o = done-answer (deletRows img key caller) img [] _ (file .clear) [] img′ refl
+          (written ∙ sym (ap (λ (h : Geometry). clearEntry img h (entryNo img key)) (file .measures) ∙ ap (clearEntry img g) (file .number))) in
+          (o .0, o .2)

@@ -15,12 +15,12 @@ use Rattle.pack.specs.declared.Key.{Key}
 use Rattle.pack.specs.Geometry.{geometryOf, slots, Sized}
 use Rattle.asking.specs.declared.Asked.{Asked}
 use Rattle.asking.specs.declared.Asked.the-variants.{File, Refused}
-use Rattle.asking.specs.Asked.{fileRows, entryNo, fileOf, askedOf}
+use Rattle.asking.specs.Asked.{fileRows, entryNo, fileOf, askedOf, stageOf}
 use Rattle.asking.specs.Written.{setEntryWord}
-use Rattle.directory.specs.Decided.{decided}
+use Rattle.asking.specs.Outcome.{Outcome}
+use Rattle.asking.proofs.Stage.{stage-clear, stage-refused, stage-stopped, stage-passed, Given, stage-is-file, outcome-refused}
+use Rattle.asking.proofs.Outcome.{done-answer}
 use Rattle.directory.specs.Keep.{keepRows, keptCode, keep}
-use Rattle.directory.proofs.Settling.{answer-done}
-use Rattle.directory.proofs.Deciding.{stage-passed, stage-refused, behind-refused, behind-clear, FileDecided, decided-is-file, answer-refused}
 use Rattle.directory.proofs.Chosen.{Chosen, asked-chosen}
 
 pub keep-ordered : (img : List ℕ) (key : Key) (caller : ℕ) → inOrder tableOrder 0 (keepRows img key caller) ≡ true
@@ -66,34 +66,36 @@ module _ (img : List ℕ) (key : Key) (caller : ℕ) where
   -- the file, where no row refuses
   pub keep-chosen : firstOf (keepRows img key caller) ≡ 0 → Chosen img key (geometryOf img) (entryNo img key)
   unfolding keepRows
-  keep-chosen passed = asked-chosen (stage-passed img key false (owner-only caller) passed)
+  keep-chosen passed = asked-chosen (stage-clear img key false (owner-only caller) passed .file)
 
   -- the decision
   module _ (asked : Asked) (is : asked ≡ askedOf img key false) where
-    pub decide-refused : (code : ℕ) → asked ≡ Refused code → asked ≡ decided (keepRows img key caller) img key
+    pub decide-refused : (code : ℕ) → asked ≡ Refused code → asked ≡ stageOf (keepRows img key caller) img key
     unfolding keepRows
-    decide-refused code told = stage-refused img key false (owner-only caller) asked is code told
+    decide-refused code told = told ∙ stage-refused img key false (owner-only caller) asked is code told
 
     module _ (g : Geometry) (e : ℕ) (x : Entry) (told : asked ≡ File g e x) where
-      pub decide-denied : (caller ≡ x .uic → ⊥) → Refused 0o6 ≡ decided (keepRows img key caller) img key
+      pub decide-denied : (caller ≡ x .uic → ⊥) → Refused 0o6 ≡ stageOf (keepRows img key caller) img key
       unfolding keepRows
       decide-denied other =
-          behind-refused img key false (owner-only caller) asked is g e x told (refuse _ (ap not (ne-eqb caller (x .uic) other))) (λ is. omega (arith, is))
+          stage-stopped img key false (owner-only caller) asked is g e x told (refuse _ (ap not (ne-eqb caller (x .uic) other))) (λ is. omega (arith, is))
 
-      pub decide-granted : caller ≡ x .uic → File g e x ≡ decided (keepRows img key caller) img key
+      pub decide-granted : caller ≡ x .uic → File g e x ≡ stageOf (keepRows img key caller) img key
       unfolding keepRows
       decide-granted owner =
-          behind-clear img key false (owner-only caller) asked is g e x told (pass _ _ (ap not (eq-eqb caller (x .uic) owner)) ∙ clear)
+          stage-passed img key false (owner-only caller) asked is g e x told (pass _ _ (ap not (eq-eqb caller (x .uic) owner)) ∙ clear) refl
 
   -- the answer behind it
-  module _ (decision : Asked) (is : decision ≡ decided (keepRows img key caller) img key) where
+  module _ (decision : Asked) (is : decision ≡ stageOf (keepRows img key caller) img key) where
     pub keeping-refused : (code : ℕ) → decision ≡ Refused code → (code ≡ keep img key caller .code) × (img ≡ keep img key caller .image)
     unfolding keep
-    keeping-refused code told = answer-refused (keepRows img key caller) img key decision is [] _ code told
+    keeping-refused code told =
+        let o = outcome-refused (keepRows img key caller) img key [] _ code (sym is ∙ told) in
+        (sym (ap (λ (p : Outcome). p .code) o), sym (ap (λ (p : Outcome). p .image) o))
 
     module _ (g : Geometry) (e : ℕ) (x : Entry) (told : decision ≡ File g e x) where
-      file : FileDecided (keepRows img key caller) img key g e x
-      file = decided-is-file (keepRows img key caller) img key decision is g e x told
+      file : Given (keepRows img key caller) img key g e x
+      file = stage-is-file (keepRows img key caller) img key g e x (sym is ∙ told)
 
       pub keeping-small : x .protect ≤ 255
       unfolding fileOf
@@ -108,7 +110,8 @@ module _ (img : List ℕ) (key : Key) (caller : ℕ) where
           → (0 ≡ keep img key caller .code) × (img′ ≡ keep img key caller .image)
       unfolding keep
       keeping-done word kept img′ written =
-          answer-done (keepRows img key caller) img [] _ (file .clear) img′
+          let o = done-answer (keepRows img key caller) img [] _ (file .clear) [] img′ refl
           (written ∙ (ap (setEntryWord img g e 4) (kept ∙ ap (λ (y : Entry). keptCode (y .protect)) (sym (file .file)))
           ∙ sym (ap (λ (h : Geometry). setEntryWord img h (entryNo img key) 4 (keptCode (fileOf img key .protect))) (file .measures)
-          ∙ ap (λ (i : ℕ). setEntryWord img g i 4 (keptCode (fileOf img key .protect))) (file .number))))
+          ∙ ap (λ (i : ℕ). setEntryWord img g i 4 (keptCode (fileOf img key .protect))) (file .number)))) in
+          (o .0, o .2)

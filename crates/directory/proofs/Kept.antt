@@ -9,6 +9,7 @@ use lib.ListN.{set}
 use lib.Seq.{set-set, set-comm}
 use borrow.Author.Tests.{eq-eqb, eqb-true, not-false}
 use Rattle.answers.specs.Refusals.{firstOf}
+use Rattle.answers.proofs.Refusals.{none-given}
 use Rattle.words.specs.Word.{setWord}
 use Rattle.pack.specs.declared.Geometry.{Geometry}
 use Rattle.pack.specs.declared.Entry.{Entry}
@@ -23,14 +24,14 @@ use Rattle.consistency.proofs.Consistent.{consistent-iff}
 use Rattle.asking.specs.Keys.{found}
 use Rattle.asking.specs.Asked.{fileRows, entryNo, fileOf}
 use Rattle.asking.specs.Written.{setEntryWord}
-use Rattle.asking.proofs.Stage.{file-clear}
+use Rattle.asking.proofs.Stage.{stage-clear}
 use Rattle.frame.specs.Framed.Distinct.{known}
 use Rattle.frame.proofs.Frame.{geometry-framed}
 use Rattle.frame.proofs.Untouched.{untouched-refl}
 use Rattle.frame.proofs.Written.{kept-entry-word, entry-set-same, entry-set-other}
 use Rattle.directory.specs.Keep.{keepRows, keptCode, keep}
-use Rattle.directory.proofs.Settling.{success-clear, success-code, success-image, refusal-keeps, image-by}
-use Rattle.directory.proofs.Deciding.{first-passed, stage-passed}
+use Rattle.asking.proofs.Outcome.{code-is, success-image, refusal-keeps, image-by}
+use Rattle.asking.specs.Outcome.{Unchanged}
 use Rattle.directory.proofs.Chosen.{Chosen, number-found, file-found, chosen-untouched}
 use Rattle.directory.proofs.Relabelled.{labelled, Relabelled, relabelled-framed, relabelled-entry, relabelled-owner, relabelled-consistent, relabelled-found}
 use Rattle.directory.proofs.Keeping.{owner-only, keep-chosen, kept-small, kept-again}
@@ -71,7 +72,7 @@ module _ (img : List ℕ) (key : Key) (caller : ℕ) where
   unfolding fileOf
   code-small passed = kept-small _ (keep-chosen img key caller passed .used .protect)
 
-  pub keep-refused : (keep img key caller .code ≡ 0 → ⊥) → (keep img key caller .image ≡ img) × (keep img key caller .numbers ≡ [])
+  pub keep-refused : (keep img key caller .code ≡ 0 → ⊥) → Unchanged (keep img key caller) [] img []
   unfolding keep
   keep-refused never = refusal-keeps (keepRows img key caller) img [] _ never
 
@@ -109,9 +110,8 @@ module _ (img : List ℕ) (key : Key) (caller : ℕ) where
     owner : caller ≡ fileOf img key .uic
     unfolding keepRows
     owner =
-        let stage = stage-passed img key false (owner-only caller) passed in
-        let rest = sym (file-clear img key false (owner-only caller (fileOf img key)) stage) ∙ passed in
-        eqb-true caller (fileOf img key .uic) (not-false _ (first-passed _ 0o6 [] (λ is. omega (arith, is)) rest .0))
+        let rest = stage-clear img key false (owner-only caller) passed .behind in
+        eqb-true caller (fileOf img key .uic) (not-false _ (none-given _ 0o6 [] (λ is. omega (arith, is)) rest .0))
 
     there : found marked key ≡ some (entryNo img key)
     unfolding entryOf
@@ -141,7 +141,7 @@ module _ (img : List ℕ) (key : Key) (caller : ℕ) where
     marked-again : (keep marked key caller .code ≡ 0) × (keep marked key caller .image ≡ marked)
     unfolding keep
     marked-again =
-        (success-code (keepRows marked key caller) marked [] _ again-clear, success-image (keepRows marked key caller) marked [] _ again-clear ∙ again-image)
+        (code-is (keepRows marked key caller) marked [] _ ∙ again-clear, success-image (keepRows marked key caller) marked [] _ again-clear ∙ again-image)
 
     marked-is : keep img key caller .image ≡ marked
     unfolding keep
@@ -149,7 +149,7 @@ module _ (img : List ℕ) (key : Key) (caller : ℕ) where
 
   success-passed : keep img key caller .code ≡ 0 → firstOf (keepRows img key caller) ≡ 0
   unfolding keep
-  success-passed success = success-clear (keepRows img key caller) img [] _ success
+  success-passed success = sym (code-is (keepRows img key caller) img [] _) ∙ success
 
   -- already kept: success, no change
   pub keep-again : keep img key caller .code ≡ 0

@@ -1,9 +1,6 @@
 -- The laws of the requests that change one entry at most.
 pub mod Looking
-pub mod Settling
-pub mod Deciding
 pub mod Lacking
-pub mod Legal
 pub mod Chosen
 pub mod Cleared
 pub mod Relabelled

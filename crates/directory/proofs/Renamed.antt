@@ -18,7 +18,7 @@ use Rattle.pack.proofs.Measures.{entry-room}
 use Rattle.asking.specs.Keys.{found}
 use Rattle.asking.specs.Asked.{entryNo, fileOf}
 use Rattle.asking.specs.Written.{setEntryWord}
-use Rattle.asking.proofs.Keys.{legal-iff, one-entry, absent-iff}
+use Rattle.asking.proofs.Keys.{legal-iff, one-entry, absent-iff, key-single}
 use Rattle.asking.proofs.Writing.{sized-same}
 use Rattle.frame.specs.Framed.{Only, Never, Kept, Distinct}
 use Rattle.frame.specs.Framed.Distinct.{new as unlike-others}
@@ -27,8 +27,9 @@ use Rattle.frame.proofs.Framing.{kept-compose, entry-kept}
 use Rattle.frame.proofs.Untouched.{untouched-refl}
 use Rattle.frame.proofs.Written.{kept-entry-word, entry-set-same, entry-set-other}
 use Rattle.directory.specs.Renam.{renamRows, renamed, renam}
-use Rattle.directory.proofs.Settling.{success-clear, success-image, refusal-keeps, image-by}
-use Rattle.directory.proofs.Chosen.{Chosen, one-key, chosen-untouched}
+use Rattle.asking.proofs.Outcome.{code-is, success-image, refusal-keeps, image-by}
+use Rattle.asking.specs.Outcome.{Unchanged}
+use Rattle.directory.proofs.Chosen.{Chosen, chosen-untouched}
 use Rattle.directory.proofs.Relabelled.{labelled, Relabelled, relabelled-framed, relabelled-entry, relabelled-owner, relabelled-consistent, relabelled-found}
 use Rattle.directory.proofs.Renaming.{Passed, renam-passed, renam-chosen}
 
@@ -123,7 +124,7 @@ module _ {img : List ℕ} {old : Key} {g : Geometry} {e : ℕ} (c : Chosen img o
         nobody f inside keyed (yes is) =
             let here : Keyed old (labelled (entryOf img g e) (new .name1) (new .name2) (new .extension) protect) =
             subst (Keyed old) (relabelled-entry c relabelled) (subst (λ (i : ℕ). Keyed old (entryOf (renamed img g e new protect) g i)) is keyed) in
-            two-names (one-key (record { name1 = refl; name2 = refl; extension = refl; uic = c .keyed .uic ∙ sym same }) here)
+            two-names (key-single (record { name1 = refl; name2 = refl; extension = refl; uic = c .keyed .uic ∙ sym same }) here)
         nobody f inside keyed (no other) =
             let before : Keyed old (entryOf img g f) = subst (Keyed old) (entry-kept (relabelled .kept) f inside other) keyed in
             other (one-entry (p .right) old (p .legal) f e (at f inside) (at e (c .inside)) (keyed-at f before) (keyed-at e (c .keyed)))
@@ -135,8 +136,7 @@ module _ {img : List ℕ} {old : Key} {g : Geometry} {e : ℕ} (c : Chosen img o
             keyed-at i k = subst (λ (h : Geometry). Keyed old (entryOf img h i)) (c .measures) k
 
 module _ (img : List ℕ) (old new : Key) (protect caller : ℕ) where
-  pub renam-refused : (renam img old new protect caller .code ≡ 0 → ⊥)
-      → (renam img old new protect caller .image ≡ img) × (renam img old new protect caller .numbers ≡ [])
+  pub renam-refused : (renam img old new protect caller .code ≡ 0 → ⊥) → Unchanged (renam img old new protect caller) [] img []
   unfolding renam
   renam-refused never = refusal-keeps (renamRows img old new protect caller) img [] _ never
 
@@ -146,7 +146,7 @@ module _ (img : List ℕ) (old new : Key) (protect caller : ℕ) where
       ≡ labelled (fileOf img old) (new .name1) (new .name2) (new .extension) protect
   unfolding renam fileOf
   renam-entry success =
-      let passed = success-clear (renamRows img old new protect caller) img [] _ success in
+      let passed = sym (code-is (renamRows img old new protect caller) img [] _) ∙ success in
       let c = renam-chosen img old new protect caller passed in
       ap (λ (img′ : List ℕ). entryOf img′ (geometryOf img) (entryNo img old)) (success-image (renamRows img old new protect caller) img [] _ passed)
       ∙ relabelled-entry c (relabelled c new protect)
@@ -178,7 +178,7 @@ module _ (img : List ℕ) (old new : Key) (protect caller : ℕ) where
           → (found (renam img old new protect caller .image) new ≡ some (entryNo img old)) × (found (renam img old new protect caller .image) old ≡ none)
       unfolding renam
       renam-found success =
-          let passed = success-clear (renamRows img old new protect caller) img [] _ success in
+          let passed = sym (code-is (renamRows img old new protect caller) img [] _) ∙ success in
           let c = renam-chosen img old new protect caller passed in
           let p = renam-passed img old new protect caller passed in
           let image = success-image (renamRows img old new protect caller) img [] _ passed in (

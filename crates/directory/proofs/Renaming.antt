@@ -3,13 +3,14 @@ use Prim.Native.Nat.{ℕ, _≤_, _<_}
 use mathlib.Core.Path.{_≡_, refl, sym, ap, subst₂, _∙_}
 use mathlib.Core.Bool.{Bool, true, false, not}
 use mathlib.Core.List.{List, [], _∷_}
-use mathlib.Core.Option.{Option, none, some}
+use mathlib.Core.Option.{none, some}
 use native.Mathlib.Omega.{arith}
 use lib.Dec.{ltb}
 use borrow.Author.Tests.{lt-ltb, le-ltb, ltb-false, not-false}
 use Rattle.answers.specs.Refusals.{Row, row, firstOf, tableOrder, inOrder}
-use Rattle.answers.specs.Conversion.{missing}
-use Rattle.answers.proofs.Refusals.{refuse, pass}
+use Rattle.answers.specs.Conversion.{missing, orElse}
+use Rattle.answers.proofs.Refusals.{refuse, pass, none-given}
+use Rattle.answers.proofs.Missing.{present, absent}
 use Rattle.pack.specs.declared.Geometry.{Geometry}
 use Rattle.pack.specs.declared.Entry.{Entry}
 use Rattle.pack.specs.declared.Key.{Key}
@@ -29,18 +30,17 @@ use Rattle.asking.specs.declared.Right.the-variants.{Write}
 use Rattle.asking.specs.declared.Asked.{Asked}
 use Rattle.asking.specs.declared.Asked.the-variants.{File, Refused}
 use Rattle.asking.specs.Keys.{legalKey, findFrom, found, foundIn}
-use Rattle.asking.specs.Asked.{entryNo, fileOf}
+use Rattle.asking.specs.Asked.{entryNo, fileOf, stageOf}
 use Rattle.asking.specs.Rights.{may, granted}
 use Rattle.asking.specs.Opens.{isOpen}
 use Rattle.asking.specs.Written.{setEntryWord}
 use Rattle.asking.proofs.Keys.{found-keyed}
-use Rattle.asking.proofs.Stage.{found-at}
-use Rattle.directory.specs.Decided.{decided}
+use Rattle.asking.proofs.Stage.{found-at, stage-refuses, stage-gives, Given, stage-is-file, outcome-refused}
+use Rattle.asking.specs.Outcome.{Outcome}
+use Rattle.asking.proofs.Outcome.{done-answer}
+use Rattle.asking.proofs.Legal.{legal-words}
 use Rattle.directory.specs.Renam.{renamRows, renamed, renam}
-use Rattle.directory.proofs.Settling.{answer-done}
-use Rattle.directory.proofs.Deciding.{first-passed, decided-refused, decided-file, FileDecided, decided-is-file, answer-refused}
 use Rattle.directory.proofs.Lacking.{lacking, lacking-right, lacking-open, lacking-none}
-use Rattle.directory.proofs.Legal.{legal-words}
 use Rattle.directory.proofs.Chosen.{Chosen, chosen, number-found, file-found}
 
 pub renam-ordered : (img : List ℕ) (old new : Key) (protect caller : ℕ) → inOrder tableOrder 0 (renamRows img old new protect caller) ≡ true
@@ -57,12 +57,15 @@ entry-inside img g key at e is told = omega (arith, found-keyed img g key 0 (slo
 -- the decision, from what each stage answered
 module _ (img : List ℕ) (old new : Key) (protect caller : ℕ) where
   abbrev Refuses : ℕ → Type 0
-  Refuses code = Refused code ≡ decided (renamRows img old new protect caller) img old
+  Refuses code = Refused code ≡ stageOf (renamRows img old new protect caller) img old
+
+  refuses : {code : ℕ} → firstOf (renamRows img old new protect caller) ≡ code → (code ≡ 0 → ⊥) → Refuses code
+  refuses first never = stage-refuses (renamRows img old new protect caller) img old (record { first = first; not-zero = never })
 
   module _ (opened : Opened) (is-opened : opened ≡ openedOf img) where
     pub inconsistent : opened ≡ Bad → Refuses 0o40
     unfolding renamRows
-    inconsistent bad = decided-refused _ img old (refuse _ (ap not (opened-bad img (sym is-opened ∙ bad)))) (λ is. omega (arith, is))
+    inconsistent bad = refuses (refuse _ (ap not (opened-bad img (sym is-opened ∙ bad)))) (λ is. omega (arith, is))
 
     module _ (g : Geometry) (good : opened ≡ Good g) where
       behind-40 : (rows : List Row) → firstOf (row (not (consistent img)) 0o40 ∷ rows) ≡ firstOf rows
@@ -74,13 +77,13 @@ module _ (img : List ℕ) (old new : Key) (protect caller : ℕ) where
       module _ (first : Bool) (is-first : first ≡ legalKey old) where
         pub old-illegal : not first ≡ true → Refuses 0o15
         unfolding renamRows
-        old-illegal wrong = decided-refused _ img old (behind-40 _ ∙ refuse _ (ap not (sym is-first) ∙ wrong)) (λ is. omega (arith, is))
+        old-illegal wrong = refuses (behind-40 _ ∙ refuse _ (ap not (sym is-first) ∙ wrong)) (λ is. omega (arith, is))
 
         module _ (legal : not first ≡ false) (second : Bool) (is-second : second ≡ legalKey new) where
           pub new-illegal : not second ≡ true → Refuses 0o15
           unfolding renamRows
           new-illegal wrong =
-              decided-refused _ img old (behind-40 _ ∙ (pass _ _ (ap not (sym is-first) ∙ legal) ∙ refuse _ (ap not (sym is-second) ∙ wrong))) (λ is. omega (arith, is))
+              refuses (behind-40 _ ∙ (pass _ _ (ap not (sym is-first) ∙ legal) ∙ refuse _ (ap not (sym is-second) ∙ wrong))) (λ is. omega (arith, is))
 
           module _ (legal₂ : not second ≡ false) where
             behind-15 : (rows : List Row) → firstOf (row (not (consistent img)) 0o40 ∷ (row (not (legalKey old)) 0o15 ∷ (row (not (legalKey new)) 0o15 ∷ rows))) ≡ firstOf rows
@@ -88,7 +91,7 @@ module _ (img : List ℕ) (old new : Key) (protect caller : ℕ) where
 
             pub wrong-protect : 255 < protect → Refuses 0o41
             unfolding renamRows
-            wrong-protect large = decided-refused _ img old (behind-15 _ ∙ refuse _ (lt-ltb 255 protect large)) (λ is. omega (arith, is))
+            wrong-protect large = refuses (behind-15 _ ∙ refuse _ (lt-ltb 255 protect large)) (λ is. omega (arith, is))
 
             module _ (small : protect ≤ 255) (at-old : Found) (is-old : foundIn at-old ≡ findFrom img g old 0 (slots g)) where
               behind-41 : (rows : List Row)
@@ -98,7 +101,7 @@ module _ (img : List ℕ) (old new : Key) (protect caller : ℕ) where
               pub old-absent : at-old ≡ Nothing → Refuses 0o2
               unfolding renamRows
               old-absent nothing =
-                  decided-refused _ img old (behind-41 _ ∙ refuse _ (ap missing (found-at img old g _ measures is-old ∙ ap foundIn nothing))) (λ is. omega (arith, is))
+                  refuses (behind-41 _ ∙ refuse _ (ap missing (found-at img old g _ measures is-old ∙ ap foundIn nothing))) (λ is. omega (arith, is))
 
               module _ (e : ℕ) (at : at-old ≡ At e) where
                 there : found img old ≡ some e
@@ -108,7 +111,7 @@ module _ (img : List ℕ) (old new : Key) (protect caller : ℕ) where
                   pub new-exists : (f : ℕ) → at-new ≡ At f → Refuses 0o2
                   unfolding renamRows
                   new-exists f also =
-                      decided-refused _ img old
+                      refuses
                       (behind-41 _ ∙ (pass _ _ (ap missing there) ∙ refuse _ (ap (λ o. not (missing o)) (found-at img new g _ measures is-new ∙ ap foundIn also))))
                       (λ is. omega (arith, is))
 
@@ -126,18 +129,22 @@ module _ (img : List ℕ) (old new : Key) (protect caller : ℕ) where
 
                     pub old-denied : grant ≡ Denied → Refuses 0o6
                     old-denied denied =
-                        decided-refused _ img old (behind-2 ∙ lacking-right Write caller x (sym is-grant ∙ ap granted denied)) (λ is. omega (arith, is))
+                        refuses (behind-2 ∙ lacking-right Write caller x (sym is-grant ∙ ap granted denied)) (λ is. omega (arith, is))
 
                     module _ (given : grant ≡ Granted) (busy : Bool) (is-busy : busy ≡ isOpen x) where
                       pub old-open : busy ≡ true → Refuses 0o14
                       old-open opened₂ =
-                          decided-refused _ img old (behind-2 ∙ lacking-open Write caller x (sym is-grant ∙ ap granted given) (sym is-busy ∙ opened₂)) (λ is. omega (arith, is))
+                          refuses (behind-2 ∙ lacking-open Write caller x (sym is-grant ∙ ap granted given) (sym is-busy ∙ opened₂)) (λ is. omega (arith, is))
 
-                      pub old-granted : busy ≡ false → File g e x ≡ decided (renamRows img old new protect caller) img old
+                      pub old-granted : busy ≡ false → File g e x ≡ stageOf (renamRows img old new protect caller) img old
                       old-granted closed =
-                          let same : File (geometryOf img) (entryNo img old) (fileOf img old) ≡ File g e x =
-                          λ i. File (measures i) (number-found img old there i) (is-file i) in
-                          sym same ∙ decided-file _ img old (behind-2 ∙ lacking-none Write caller x (sym is-grant ∙ ap granted given) (sym is-busy ∙ closed))
+                          stage-gives (renamRows img old new protect caller) img old
+                          (record {
+                            clear = behind-2 ∙ lacking-none Write caller x (sym is-grant ∙ ap granted given) (sym is-busy ∙ closed);
+                            measures = measures;
+                            number = number-found img old there;
+                            file = is-file;
+                          })
 
 -- what is written, word by word
 pub name-written : (img : List ℕ) (g : Geometry) (e : ℕ) (new : Key) (protect : ℕ) (one : List ℕ) → one ≡ setEntryWord img g e 0 (new .name1)
@@ -157,33 +164,24 @@ pub record Passed (img : List ℕ) (old new : Key) (protect : ℕ) : Type 0 wher
   pub there : found img old ≡ some at
   pub nowhere : found img new ≡ none
 
-some-of : (o : Option ℕ) → missing o ≡ false → (e : ℕ) × (o ≡ some e)
-some-of none is = let z : _≡_ {A = ℕ} 0 1 = cc in absurd (omega arith)
-some-of (some e) is = (e, refl)
-
-none-of : (o : Option ℕ) → not (missing o) ≡ false → o ≡ none
-none-of none is = refl
-none-of (some e) is = let z : _≡_ {A = ℕ} 0 1 = cc in absurd (omega arith)
-
 module _ (img : List ℕ) (old new : Key) (protect caller : ℕ) where
   pub renam-passed : firstOf (renamRows img old new protect caller) ≡ 0 → Passed img old new protect
   unfolding renamRows
   renam-passed passed =
-      let a = first-passed (not (consistent img)) 0o40 _ (λ is. omega (arith, is)) passed in
-      let b = first-passed (not (legalKey old)) 0o15 _ (λ is. omega (arith, is)) (a .1) in
-      let c = first-passed (not (legalKey new)) 0o15 _ (λ is. omega (arith, is)) (b .1) in
-      let d = first-passed (ltb 255 protect) 0o41 _ (λ is. omega (arith, is)) (c .1) in
-      let h = first-passed (missing (found img old)) 0o2 _ (λ is. omega (arith, is)) (d .1) in
-      let k = first-passed (not (missing (found img new))) 0o2 _ (λ is. omega (arith, is)) (h .1) in
-      let entry = some-of (found img old) (h .0) in
+      let a = none-given (not (consistent img)) 0o40 _ (λ is. omega (arith, is)) passed in
+      let b = none-given (not (legalKey old)) 0o15 _ (λ is. omega (arith, is)) (a .1) in
+      let c = none-given (not (legalKey new)) 0o15 _ (λ is. omega (arith, is)) (b .1) in
+      let d = none-given (ltb 255 protect) 0o41 _ (λ is. omega (arith, is)) (c .1) in
+      let h = none-given (missing (found img old)) 0o2 _ (λ is. omega (arith, is)) (d .1) in
+      let k = none-given (not (missing (found img new))) 0o2 _ (λ is. omega (arith, is)) (h .1) in
       record {
         right = consistent-iff img .0 (not-false _ (a .0));
         legal = not-false _ (b .0);
         legal₂ = not-false _ (c .0);
         small = ltb-false 255 protect (d .0);
-        at = entry .0;
-        there = entry .1;
-        nowhere = none-of (found img new) (k .0);
+        at = orElse 0 (found img old);
+        there = present (found img old) (h .0);
+        nowhere = absent (found img new) (k .0);
       }
 
   -- the file, where no row refuses
@@ -191,15 +189,17 @@ module _ (img : List ℕ) (old new : Key) (protect caller : ℕ) where
   renam-chosen passed = let p = renam-passed passed in chosen img old (p .right) (p .legal) (p .at) (p .there)
 
   -- the answer behind the decision
-  module _ (decision : Asked) (is : decision ≡ decided (renamRows img old new protect caller) img old) where
+  module _ (decision : Asked) (is : decision ≡ stageOf (renamRows img old new protect caller) img old) where
     pub renaming-refused : (code : ℕ) → decision ≡ Refused code
         → (code ≡ renam img old new protect caller .code) × (img ≡ renam img old new protect caller .image)
     unfolding renam
-    renaming-refused code told = answer-refused (renamRows img old new protect caller) img old decision is [] _ code told
+    renaming-refused code told =
+        let o = outcome-refused (renamRows img old new protect caller) img old [] _ code (sym is ∙ told) in
+        (sym (ap (λ (p : Outcome). p .code) o), sym (ap (λ (p : Outcome). p .image) o))
 
     module _ (g : Geometry) (e : ℕ) (x : Entry) (told : decision ≡ File g e x) where
-      file : FileDecided (renamRows img old new protect caller) img old g e x
-      file = decided-is-file (renamRows img old new protect caller) img old decision is g e x told
+      file : Given (renamRows img old new protect caller) img old g e x
+      file = stage-is-file (renamRows img old new protect caller) img old g e x (sym is ∙ told)
 
       pub renaming-room : Sized img g × ((e < slots g) × ((new .name1 < 65536) × (new .name2 < 65536) × (new .extension < 65536) × (protect < 65536)))
       renaming-room =
@@ -212,6 +212,7 @@ module _ (img : List ℕ) (old new : Key) (protect caller : ℕ) where
           → (0 ≡ renam img old new protect caller .code) × (img′ ≡ renam img old new protect caller .image)
       unfolding renam
       renaming-done img′ written =
-          answer-done (renamRows img old new protect caller) img [] _ (file .clear) img′
+          let o = done-answer (renamRows img old new protect caller) img [] _ (file .clear) [] img′ refl
           (written ∙ sym (ap (λ (h : Geometry). renamed img h (entryNo img old) new protect) (file .measures)
-          ∙ ap (λ (i : ℕ). renamed img g i new protect) (file .number)))
+          ∙ ap (λ (i : ℕ). renamed img g i new protect) (file .number))) in
+          (o .0, o .2)

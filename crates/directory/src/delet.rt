@@ -1,6 +1,6 @@
 // DELET.
 ghost use mathlib.Core.Path.{_≡_};
-ghost use Rattle.directory.specs.Decided.{decided};
+ghost use Rattle.asking.specs.Asked.{stageOf};
 ghost use Rattle.directory.specs.Delet.{deletRows, delet};
 use asking::Asked;
 use asking::Grant;
@@ -8,7 +8,7 @@ use asking::Right;
 use pack::Key;
 
 fn decide_delete(img: &[u8], key: Key, caller: usize) -> Asked
-    ensures { λ r. ⌜ r ≡ decided (deletRows (now (img .entry)) key caller) (now (img .entry)) key ⌝ }
+    ensures { λ r. ⌜ r ≡ stageOf (deletRows (now (img .entry)) key caller) (now (img .entry)) key ⌝ }
 {
     let mut map = [0u8; pack::MOST_BLOCKS];
     let asked = asking::ask_file(img, &mut map, key, false);

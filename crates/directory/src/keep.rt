@@ -1,7 +1,7 @@
 // KEEP.
 ghost use mathlib.Core.Path.{_≡_};
 ghost use Prim.Native.Nat.{_≤_};
-ghost use Rattle.directory.specs.Decided.{decided};
+ghost use Rattle.asking.specs.Asked.{stageOf};
 ghost use Rattle.directory.specs.Keep.{keepRows, keptCode, keep};
 use asking::Asked;
 use pack::Key;
@@ -18,7 +18,7 @@ fn kept_code(protect: usize) -> usize
 }
 
 fn decide_keep(img: &[u8], key: Key, caller: usize) -> Asked
-    ensures { λ r. ⌜ r ≡ decided (keepRows (now (img .entry)) key caller) (now (img .entry)) key ⌝ }
+    ensures { λ r. ⌜ r ≡ stageOf (keepRows (now (img .entry)) key caller) (now (img .entry)) key ⌝ }
 {
     let mut map = [0u8; pack::MOST_BLOCKS];
     let asked = asking::ask_file(img, &mut map, key, false);

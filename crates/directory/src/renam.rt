@@ -2,7 +2,7 @@
 ghost use mathlib.Core.Path.{_≡_};
 ghost use Prim.Native.Nat.{_<_};
 ghost use Rattle.pack.specs.Geometry.{Sized, slots};
-ghost use Rattle.directory.specs.Decided.{decided};
+ghost use Rattle.asking.specs.Asked.{stageOf};
 ghost use Rattle.directory.specs.Renam.{renamRows, renamed, renam};
 use asking::Asked;
 use asking::Found;
@@ -14,7 +14,7 @@ use pack::Key;
 
 // Both names are judged before the protect code, and that before either is looked for.
 fn decide_rename(img: &[u8], old: Key, new: Key, protect: usize, caller: usize) -> Asked
-    ensures { λ r. ⌜ r ≡ decided (renamRows (now (img .entry)) old new protect caller) (now (img .entry)) old ⌝ }
+    ensures { λ r. ⌜ r ≡ stageOf (renamRows (now (img .entry)) old new protect caller) (now (img .entry)) old ⌝ }
 {
     let mut map = [0u8; pack::MOST_BLOCKS];
     let Opened::Good(g) = consistency::open_pack(img, &mut map) else {

@@ -2,10 +2,9 @@
 use Prim.Native.Nat.{ℕ, suc, zero, _+_, _≤_, _<_}
 use mathlib.Core.Path.{_≡_, refl, sym, ap, _∙_}
 use mathlib.Core.List.{List, [], _∷_, _++_}
-use mathlib.Core.Logic.{_↔_}
 use mathlib.Core.Bool.{cond}
 use native.Mathlib.Omega.{arith}
-use native.Mathlib.Decide.{ℕ-discrete, decLt, decLe}
+use native.Mathlib.Decide.{ℕ-discrete, decLt}
 use lib.ListN.{length, getD}
 use lib.Dec.{eqb}
 use borrow.Author.Tests.{eq-eqb, ne-eqb}
@@ -82,27 +81,12 @@ module _ (f : ℕ → ℕ) where
   first-in zero b some = absurd (omega arith)
   first-in (suc k) b some = omega (arith, count-same b b (chain f k (f b)) refl)
 
-  -- a chain cut in two
-  pub chain-append : (k j b : ℕ) → chain f (k + j) b ≡ chain f k b ++ chain f j (after f k b)
-  unfolding chain after
-  chain-append zero j b = let start : 0 + j ≡ j = omega arith in ap (λ (i : ℕ). chain f i b) start
-  chain-append (suc k) j b =
-      let start : suc k + j ≡ suc (k + j) = omega arith in
-      ap (λ (i : ℕ). chain f i b) start ∙ ap (_∷_ b) (chain-append k j (f b))
-
   pub after-append : (k j b : ℕ) → after f (k + j) b ≡ after f j (after f k b)
   unfolding after
   after-append zero j b = let start : 0 + j ≡ j = omega arith in ap (λ (i : ℕ). after f i b) start
   after-append (suc k) j b =
       let start : suc k + j ≡ suc (k + j) = omega arith in
       ap (λ (i : ℕ). after f i b) start ∙ after-append k j (f b)
-
-  pub last-append : (other k j b : ℕ) → lastOf f other (k + j) b ≡ lastOf f (lastOf f other k b) j (after f k b)
-  unfolding after lastOf
-  last-append other zero j b = let start : 0 + j ≡ j = omega arith in ap (λ (i : ℕ). lastOf f other i b) start
-  last-append other (suc k) j b =
-      let start : suc k + j ≡ suc (k + j) = omega arith in
-      ap (λ (i : ℕ). lastOf f other i b) start ∙ last-append b k j (f b)
 
 -- two ways of going on that agree on the blocks walked
 module _ (f f′ : ℕ → ℕ) where
@@ -186,12 +170,6 @@ module _ (f : ℕ → ℕ) (steps : (x : ℕ) → f x ≡ x + 1) where
   extent-after zero s = omega arith
   extent-after (suc k) s = omega (arith, extent-after k (f s), steps s)
 
-  pub extent-last : (other k s : ℕ) → 0 < k → lastOf f other k s + 1 ≡ s + k
-  unfolding lastOf
-  extent-last other zero s some = absurd (omega arith)
-  extent-last other (suc zero) s some = omega arith
-  extent-last other (suc (suc k)) s some = omega (arith, extent-last s (suc k) (f s) (omega arith), steps s)
-
   pub extent-place : (k s p : ℕ) → p < k → getD (chain f k s) p 0 ≡ s + p
   extent-place k s p within = chain-place f k s p within ∙ extent-after p s
 
@@ -227,12 +205,3 @@ module _ (f : ℕ → ℕ) (steps : (x : ℕ) → f x ≡ x + 1) where
           | no above ↦ omega (arith, extent-above b k s (omega (arith, above)))
         ]
       ]
-
-  pub extent-iff : (b k s : ℕ) → (count b (chain f k s) ≡ 1) ↔ ((s ≤ b) × (b < s + k))
-  extent-iff b k s = (λ one. (low one, high one), λ within. extent-inside b k s (within .0) (within .1))
-    where
-      low : count b (chain f k s) ≡ 1 → s ≤ b
-      low one = elim (decLe s b) [ yes is ↦ is | no not ↦ absurd (omega (arith, one, not, extent-below b k s (omega (arith, not)))) ]
-
-      high : count b (chain f k s) ≡ 1 → b < s + k
-      high one = elim (decLt b (s + k)) [ yes is ↦ is | no not ↦ absurd (omega (arith, one, not, extent-above b k s (omega (arith, not)))) ]

@@ -1,6 +1,6 @@
 -- What is known of counts in a list, and of sums over a run of numbers.
 use Prim.Native.Nat.{ℕ, suc, zero, _+_, _≤_, _<_}
-use mathlib.Core.Path.{_≡_, refl, sym, ap}
+use mathlib.Core.Path.{_≡_, refl, ap}
 use mathlib.Core.List.{List, [], _∷_, _++_}
 use native.Mathlib.Omega.{arith}
 use native.Mathlib.Decide.{ℕ-discrete}
@@ -36,29 +36,12 @@ count-place [] p within = absurd (omega arith)
 count-place (x ∷ xs) zero within = omega (arith, count-same x x xs refl)
 count-place (x ∷ xs) (suc p) within = omega (arith, count-place xs p (omega arith), count-more (getD xs p 0) x xs)
 
-pub count-found : (b : ℕ) (xs : List ℕ) → 0 < count b xs → (p : ℕ) × (p < length xs) × (getD xs p 0 ≡ b)
-count-found b [] some = absurd (omega (arith, count-nil b))
-count-found b (x ∷ xs) some = found (ℕ-discrete b x) (λ more. count-found b xs more)
-  where
-    found : Dec (b ≡ x) → (0 < count b xs → (p : ℕ) × (p < length xs) × (getD xs p 0 ≡ b)) → (p : ℕ) × (p < length (x ∷ xs)) × (getD (x ∷ xs) p 0 ≡ b)
-    found (yes same) rest = (0, omega arith, sym same)
-    found (no other) rest =
-        let later = rest (omega (arith, count-other b x xs other)) in
-        (suc (later .0), omega (arith, later .1), later .2)
-
 -- the same summands make the same sum
 pub total-same : (f f′ : ℕ → ℕ) (e k : ℕ) → ((i : ℕ) → e ≤ i → i < e + k → f′ i ≡ f i) → total f′ e k ≡ total f e k
 unfolding total
 total-same f f′ e zero same = refl
 total-same f f′ e (suc k) same =
     omega (arith, same e (omega arith) (omega arith), total-same f f′ (e + 1) k (λ i low high. same i (omega arith) (omega arith)))
-
--- no greater summands make no greater sum
-pub total-less : (f f′ : ℕ → ℕ) (e k : ℕ) → ((i : ℕ) → e ≤ i → i < e + k → f′ i ≤ f i) → total f′ e k ≤ total f e k
-unfolding total
-total-less f f′ e zero less = omega arith
-total-less f f′ e (suc k) less =
-    omega (arith, less e (omega arith) (omega arith), total-less f f′ (e + 1) k (λ i low high. less i (omega arith) (omega arith)))
 
 -- a summand is no greater than the sum
 pub total-has : (f : ℕ → ℕ) (i e k : ℕ) → e ≤ i → i < e + k → f i ≤ total f e k
@@ -82,11 +65,6 @@ total-two f i j e (suc k) apart low high low₂ high₂ =
         | no later₂ ↦ omega (arith, total-two f i j (e + 1) k apart (omega (arith, later)) (omega arith) (omega (arith, later₂)) (omega arith))
       ]
     ]
-
-pub total-zero : (f : ℕ → ℕ) (e k : ℕ) → ((i : ℕ) → e ≤ i → i < e + k → f i ≡ 0) → total f e k ≡ 0
-unfolding total
-total-zero f e zero none = refl
-total-zero f e (suc k) none = omega (arith, none e (omega arith) (omega arith), total-zero f (e + 1) k (λ i low high. none i (omega arith) (omega arith)))
 
 pub total-none : (f : ℕ → ℕ) (i e k : ℕ) → e ≤ i → i < e + k → total f e k ≡ 0 → f i ≡ 0
 total-none f i e k low high none = omega (arith, total-has f i e k low high)

@@ -8,7 +8,7 @@ use Rattle.pack.specs.declared.Geometry.{Geometry}
 use Rattle.pack.specs.Geometry.{slots}
 use Rattle.pack.specs.File.{linkOf}
 use Rattle.pack.specs.Entry.{entryOf}
-use Rattle.frame.specs.Framed.{Either, Kept, Framed}
+use Rattle.frame.specs.Framed.{Either, Kept}
 use Rattle.frame.proofs.Same.{entry-same, link-same}
 
 pub neither : {x y e : ℕ} → (e ≡ x → ⊥) → (e ≡ y → ⊥) → Either x y e → ⊥
@@ -47,11 +47,6 @@ kept-widen names writes kept =
       entries = λ e within other. kept .entries e within (λ named. other (names e named));
       bodies = λ b low high other. kept .bodies b low high (λ written. other (writes b written));
     }
-
--- the blocks written are no other file's in the first image: that is enough for both steps
-pub framed-compose : {Named Written : ℕ → Type 0} {img img′ img″ : List ℕ} {g : Geometry}
-    → Framed Named Written img img′ g → Kept Named Written img′ img″ g → Framed Named Written img img″ g
-framed-compose first second = record { kept = kept-compose (first .kept) second; apart = first .apart }
 
 -- an entry that is not named and a link that is not written are read as before
 pub entry-kept : {Named Written : ℕ → Type 0} {img img′ : List ℕ} {g : Geometry} → Kept Named Written img img′ g → (e : ℕ) → e < slots g → (Named e → ⊥)

@@ -15,9 +15,9 @@ use Rattle.frame.specs.Framed.{Only, Either, Framed}
 use Rattle.frame.specs.Framed.Distinct.{known}
 use Rattle.frame.specs.Growth.{Walked, Grown, Joined}
 use Rattle.frame.proofs.Counting.{count-nil, count-same, count-other, count-append}
-use Rattle.frame.proofs.Same.{right-bodies, empty-blocks}
+use Rattle.frame.proofs.Same.{right-bodies}
 use Rattle.frame.proofs.Frame.{entries-at, listed-framed}
-use Rattle.frame.proofs.Held.{held-once, held-none, framed-one, framed-two, held-one, held-two}
+use Rattle.frame.proofs.Held.{held-once, held-none, framed-one, framed-two}
 use Rattle.frame.proofs.Consistency.{consistent-one, consistent-two}
 use Rattle.frame.proofs.Walked.{walked-first, walked-end, walked-same, walked-one, walked-join}
 use Rattle.frame.proofs.Resized.{linked-walked, resized-alike, resized-blocks, resized-right}
@@ -71,9 +71,6 @@ module _
 
   pub grown-right : RightEntry img′ g x
   grown-right = resized-right (grown .resized) right linked walked-grown (λ uic. listed-framed stated consistent grown-framed uic .0) bodies
-
-  pub grown-held : (z : ℕ) → held img′ z ≡ held img z + count z (b ∷ [])
-  grown-held z = omega (arith, held-one stated consistent grown-framed within z, count-grown z)
 
   pub grown-consistent : Consistent img′
   grown-consistent = consistent-one stated consistent grown-framed within grown-right (known (resized-alike (grown .resized))) (λ z. single z (ℕ-discrete z b)) (λ z some. own z some (ℕ-discrete z b))
@@ -150,11 +147,6 @@ module _
 
   pub joined-right : RightEntry img′ g x
   joined-right = resized-right (joined .resized) right-first linked walked-joined (λ uic. listed-framed stated consistent joined-framed uic .0) bodies-joined
-
-  pub joined-held : (z : ℕ) → held img′ z ≡ held img z
-  joined-held z =
-      omega
-      (arith, held-two stated consistent joined-framed within within₂ other z, count-joined z, ap (count z) (empty-blocks img′ g y (joined .emptied)), count-nil z)
 
   pub joined-consistent : Consistent img′
   joined-consistent =

@@ -3,7 +3,6 @@ use Prim.Native.Nat.{ℕ, suc, zero, _+_, _≤_, _<_}
 use mathlib.Core.Path.{_≡_, refl, sym, ap, subst, _∙_}
 use mathlib.Core.List.{List, [], _∷_, _++_}
 use native.Mathlib.Omega.{arith}
-use lib.ListN.{length}
 use Rattle.pack.specs.File.{chain, after, lastOf, count}
 use Rattle.frame.specs.Growth.{Walked}
 use Rattle.frame.proofs.Chain.{
@@ -23,9 +22,6 @@ use Rattle.frame.proofs.Chain.{
 }
 
 module _ {f : ℕ → ℕ} {first size final : ℕ} {blocks : List ℕ} (walked : Walked f first size final blocks) where
-  pub walked-length : length blocks ≡ size
-  walked-length = ap length (sym (walked .blocks)) ∙ chain-length f size first
-
   -- without blocks
   pub walked-none : size ≡ 0 → blocks ≡ []
   walked-none none = sym (walked .blocks) ∙ chain-none f size first none

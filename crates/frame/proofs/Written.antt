@@ -5,8 +5,8 @@ use mathlib.Core.List.{List, _++_}
 use mathlib.Core.Logic.{_⊎_, inl, inr}
 use native.Mathlib.Omega.{arith}
 use native.Mathlib.Decide.{decLt}
-use lib.ListN.{length, getD, set, take, drop, length-append, length-drop, length-set, List·getD-append}
-use lib.Seq.{getD-take, getD-drop, getD-append-add, getD-set-other, length-take-le}
+use lib.ListN.{length, getD, take, drop, length-append, length-drop, List·getD-append}
+use lib.Seq.{getD-take, getD-drop, getD-append-add, length-take-le}
 use Rattle.words.specs.Word.{wordAt, setWord}
 use Rattle.words.proofs.Laws.{length-setWord, word-set-same, word-set-other, byte-set-other}
 use Rattle.pack.specs.declared.Geometry.{Geometry}
@@ -84,16 +84,6 @@ kept-link {Named} {Written} {g} img z word written above some =
     let place : blockAt g z + 0 ≡ blockAt g z = omega arith in
     subst (λ (w : ℕ). Kept Named Written img (setWord img w word) g) place (kept-block-word img z 0 word written above (omega arith))
 
--- a byte of a block
-pub kept-byte : {Named Written : ℕ → Type 0} {g : Geometry} (img : List ℕ) (z i value : ℕ) → Written z → g .contents < z → i < blockBytes g
-    → Kept Named Written img (set img (z * blockBytes g + i) value) g
-kept-byte {Named} {Written} {g} img z i value written above small =
-    kept-block z written above (length-set img (z * blockBytes g + i) value) same
-  where
-    same : (k : ℕ) → Outside (z * blockBytes g) (blockBytes g) k → getD (set img (z * blockBytes g + i) value) k 0 ≡ getD img k 0
-    same k (inl low) = getD-set-other img (z * blockBytes g + i) k value 0 (λ is. omega (arith, is))
-    same k (inr high) = getD-set-other img (z * blockBytes g + i) k value 0 (λ is. omega (arith, is))
-
 -- a run of bytes put in place of as many
 module _ (bytes put : List ℕ) (from : ℕ) (fits : from + length put ≤ length bytes) where
   pub replaced-length : length (take from bytes ++ (put ++ drop (from + length put) bytes)) ≡ length bytes
@@ -155,11 +145,6 @@ module _ (img : List ℕ) (g : Geometry) (x i word : ℕ) where
   pub entry-set-other : (j : ℕ) → (j ≡ i → ⊥) → entryWord (setWord img (entryAt g x + i) word) g x j ≡ entryWord img g x j
   unfolding entryWord
   entry-set-other j other = word-set-other img (entryAt g x + i) (entryAt g x + j) word (λ is. other (omega (arith, is)))
-
-  pub entry-set-link : (b : ℕ) → x < slots g → i < 16 → g .contents < b → linkOf (setWord img (entryAt g x + i) word) g b ≡ linkOf img g b
-  unfolding linkOf
-  entry-set-link b within small above =
-      word-set-other img (entryAt g x + i) (blockAt g b) word (λ is. omega (arith, is, block-room (g .segments .0) above))
 
 -- what is read behind a link
 module _ (img : List ℕ) (g : Geometry) (z word : ℕ) where

@@ -1,26 +1,26 @@
 -- A device and a file: which of the two stands at the start of a specification.
 use Prim.Native.Nat.{ℕ, suc, zero, _+_, _-_, _≤_, _<_}
-use mathlib.Core.Path.{_≡_, refl, sym, ap, _∙_, subst}
+use mathlib.Core.Path.{_≡_, refl, sym, ap, _∙_}
 use mathlib.Core.Logic.{_⊎_, inl, inr}
 use mathlib.Core.List.{List, [], _∷_, _++_, append-assoc, append-nil}
 use mathlib.Core.Option.{Option, none, some}
-use mathlib.Core.Bool.{Bool, true, false, cond, not, _&&_, _||_}
+use mathlib.Core.Bool.{Bool, true, false, cond, not, _&&_}
 use native.Mathlib.Nat.{add-suc, not-suc-le-zero, le-of-suc-le-suc}
 use native.Mathlib.Omega.{arith}
-use borrow.Author.Tests.{eqb-true, eq-eqb, not-true, leb-true, leb-false, le-leb, lt-leb}
-use lib.Dec.{leb, ltb, eqb}
+use borrow.Author.Tests.{not-true, leb-true, leb-false, le-leb, lt-leb}
+use lib.Dec.{leb}
 use lib.ListN.{length, take, drop, take-append-drop, length-append}
 use lib.Seq.{drop-append-seam}
-use Rattle.radix.specs.Names.{isLetter, isDigit, isLetterOrDigit}
-use Rattle.grammar.specs.Characters.{isOctal, is, comma, period, slash, colon, less, opening, closing}
+use Rattle.radix.specs.Names.{isLetter, isLetterOrDigit}
+use Rattle.grammar.specs.Characters.{isOctal, is, period, colon}
 use Rattle.grammar.specs.Parsed.{File, Device}
-use Rattle.grammar.specs.Grammar.{All, nil, cons, Run, Some, IsDevice, IsFile}
+use Rattle.grammar.specs.Grammar.{All, nil, cons, Run, IsDevice, IsFile}
 use Rattle.grammar.specs.Grammar as G
-use Rattle.grammar.specs.Reader.{Res, ok, no, used, later, mapped, andThen, seq, opt, many, span, spanAll, one, word, first, second, mkFile, mkDevice, device, file, Head, mkHead, headFrom, head}
+use Rattle.grammar.specs.Reader.{Res, ok, no, used, later, mapped, andThen, seq, opt, span, one, word, first, second, mkFile, mkDevice, device, file, Head, mkHead, headFrom, head}
 use Rattle.grammar.proofs.Lists.{Agree, agree-less, agree-drop}
-use Rattle.grammar.proofs.Theory.{Sound, sound-as, IsReader, reads-as, SeqR, both, seq-later, seq-reads, Stop, over, at, Begins, begins, OptR, absent, present, opt-reads}
-use Rattle.grammar.proofs.Leaves.{OneR, single, Any, Word, of, run-reads, any-reads, all-append, span-close, span-stops}
-use Rattle.grammar.proofs.Parts.{ChrR, chr, chr-reads, chr-first, elem, Next, final, next, next-stop, next-sub, holds, is-out, is-in, begun, seq-first, opt-behind, afterHead}
+use Rattle.grammar.proofs.Theory.{Sound, sound-as, IsReader, reads-as, SeqR, both, seq-later, seq-reads, Stop, at, Begins, begins, OptR, absent, present, opt-reads}
+use Rattle.grammar.proofs.Leaves.{Any, Word, of, run-reads, any-reads, all-append, span-close, span-stops}
+use Rattle.grammar.proofs.Parts.{ChrR, chr, chr-reads, chr-first, elem, Next, final, next, next-stop, next-sub, holds, is-out, begun, seq-first, opt-behind, afterHead}
 
 -- a file
 

@@ -1,17 +1,17 @@
 -- The smallest readers: one character; a run of characters.
 use Prim.Native.Nat.{ℕ, suc, zero, _+_, _-_, _≤_, _<_}
-use mathlib.Core.Path.{_≡_, refl, sym, ap, _∙_, subst}
-use mathlib.Core.List.{List, [], _∷_, _++_, append-assoc}
+use mathlib.Core.Path.{_≡_, refl, ap}
+use mathlib.Core.List.{List, [], _∷_, _++_}
 use mathlib.Core.Bool.{Bool, true, false, cond}
-use native.Mathlib.Nat.{not-suc-le-zero, le-refl}
+use native.Mathlib.Nat.{not-suc-le-zero}
 use native.Mathlib.Omega.{arith}
 use borrow.Author.Tests.{leb-true, leb-false, le-leb}
-use lib.Dec.{leb, ltb, eqb}
-use lib.ListN.{length, take, drop, replicate, length-append, length-take, length-drop, length-replicate}
+use lib.Dec.{leb}
+use lib.ListN.{length, take, replicate, length-append, length-replicate}
 use lib.Seq.{take-append-seam, length-take-le}
 use Rattle.grammar.specs.Grammar.{All, nil, cons, Run, Some}
-use Rattle.grammar.specs.Reader.{Res, ok, no, used, span, spanAll, one, word}
-use Rattle.grammar.proofs.Lists.{Agree, end, same, agree-refl, agree-less, agree-taken}
+use Rattle.grammar.specs.Reader.{ok, no, used, span, spanAll, one, word}
+use Rattle.grammar.proofs.Lists.{Agree, end, same, agree-less, agree-taken}
 use Rattle.grammar.proofs.Theory.{Sound, IsReader, Stop, over, at}
 
 -- one character

@@ -1,23 +1,22 @@
 -- Specifications, sides, commands, and the whole line.
-use Prim.Native.Nat.{ℕ, suc, zero, _+_, _-_, _≤_, _<_}
+use Prim.Native.Nat.{ℕ, suc, _+_, _-_, _≤_, _<_}
 use mathlib.Core.Path.{_≡_, refl, sym, ap, _∙_, subst}
 use mathlib.Core.Logic.{_⊎_, inl, inr}
 use mathlib.Core.List.{List, [], _∷_, _++_, append-assoc, append-nil}
-use mathlib.Core.Option.{Option, none, some}
+use mathlib.Core.Option.{none}
 use mathlib.Core.Bool.{Bool, true, false, cond}
-use native.Mathlib.Nat.{le-refl}
 use native.Mathlib.Omega.{arith}
 use borrow.Author.Tests.{eqb-true, eqb-false, eq-eqb}
 use lib.Dec.{eqb}
-use lib.ListN.{length, take, drop, length-append}
+use lib.ListN.{length, take, length-append}
 use lib.Seq.{length-take-le, take-length}
-use Rattle.grammar.specs.Characters.{is, comma, slash, less, opening}
+use Rattle.grammar.specs.Characters.{is, comma, less}
 use Rattle.grammar.specs.Parsed.{Switch, Specification, Parsed}
-use Rattle.grammar.specs.Grammar.{IsDevice, IsFile, IsUic, AreSwitches, IsSwitch, IsSpecification, IsSide, Command}
+use Rattle.grammar.specs.Grammar.{IsUic, AreSwitches, IsSwitch, IsSpecification, IsSide, Command}
 use Rattle.grammar.specs.Place.{Viable, Wrong, Place}
 use Rattle.grammar.specs.Grammar as G
-use Rattle.grammar.specs.Reader.{Res, ok, no, used, seq, opt, many, one, second, Head, Tail, mkTail, mkSpecification, mkReading, head, uic, switch, specification, side, command, wholeFrom, readLine}
-use Rattle.grammar.proofs.Lists.{Agree, agree-take}
+use Rattle.grammar.specs.Reader.{Res, ok, no, used, one, second, Tail, mkTail, mkSpecification, mkReading, uic, switch, specification, side, command, wholeFrom, readLine}
+use Rattle.grammar.proofs.Lists.{agree-take}
 use Rattle.grammar.proofs.Beginnings.{viable-shorter}
 use Rattle.grammar.proofs.Theory.{Sound, IsReader, reads-as, SeqR, both, seq-reads, Begins, begins, OptR, absent, present, opt-reads, ManyR, finish, more, many-reads}
 use Rattle.grammar.proofs.Parts.{ChrR, chr, chr-reads, chr-first, Next, final, next, next-stop, next-sub, is-in, seq-first, opt-behind, many-behind, afterSpec, afterUic, afterHead, uic-part, switches-part}

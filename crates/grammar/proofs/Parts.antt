@@ -1,21 +1,20 @@
 -- The readers of the grammar's parts read what its rules say.
-use Prim.Native.Nat.{ℕ, suc, zero, _+_, _-_, _≤_, _<_}
-use mathlib.Core.Path.{_≡_, refl, sym, ap, _∙_, subst}
+use Prim.Native.Nat.{ℕ, _+_, _-_}
+use mathlib.Core.Path.{_≡_, refl, sym, subst}
 use mathlib.Core.List.{List, [], _∷_, _++_, append-assoc}
-use mathlib.Core.Option.{Option, none, some}
-use mathlib.Core.Bool.{Bool, true, false, cond, not, _&&_, _||_}
+use mathlib.Core.Option.{Option}
+use mathlib.Core.Bool.{Bool, true, false, not, _&&_, _||_}
 use native.Mathlib.Omega.{arith}
 use borrow.Author.Tests.{eqb-true, eq-eqb, not-true}
-use lib.Dec.{leb, ltb, eqb}
-use lib.ListN.{length, take, drop}
+use lib.Dec.{eqb}
 use Rattle.radix.specs.Names.{isLetter, isLetterOrDigit}
-use Rattle.grammar.specs.Characters.{isOctal, is, comma, period, slash, colon, less, opening, closing}
-use Rattle.grammar.specs.Parsed.{Switch, Uic, File, Device}
-use Rattle.grammar.specs.Grammar.{All, Run, Some, IsFile, IsUic, AreValues, IsSwitch, AreSwitches}
+use Rattle.grammar.specs.Characters.{isOctal, is, comma, slash, colon, less, opening, closing}
+use Rattle.grammar.specs.Parsed.{Switch, Uic}
+use Rattle.grammar.specs.Grammar.{Run, Some, IsUic, AreValues, IsSwitch, AreSwitches}
 use Rattle.grammar.specs.Grammar as G
-use Rattle.grammar.specs.Reader.{Res, ok, no, used, later, mapped, andThen, seq, opt, many, span, spanAll, one, word, first, second, mkUic, mkFile, mkSwitch, mkDevice, device, file, uic, value, switch}
-use Rattle.grammar.proofs.Theory.{Sound, IsReader, reads-as, SeqR, both, seq-reads, Stop, over, at, Begins, begins, OptR, absent, present, opt-reads, ManyR, finish, more, many-reads, many-follow}
-use Rattle.grammar.proofs.Leaves.{OneR, single, Any, one-reads, Word, of, run-reads, some-reads, any-reads}
+use Rattle.grammar.specs.Reader.{opt, many, one, first, second, mkUic, mkSwitch, uic, value, switch}
+use Rattle.grammar.proofs.Theory.{IsReader, reads-as, SeqR, both, seq-reads, Stop, over, at, Begins, begins, OptR, absent, present, opt-reads, ManyR, finish, more, many-reads}
+use Rattle.grammar.proofs.Leaves.{OneR, single, Any, one-reads, Word, of, run-reads, some-reads}
 
 -- a character c
 

@@ -1,20 +1,18 @@
 -- Readers at a place of a line: what the code's proofs cite.
 use Prim.Native.Nat.{ℕ, suc, zero, _+_, _-_, _≤_, _<_}
-use mathlib.Core.Path.{_≡_, refl, sym, ap, _∙_, subst}
-use mathlib.Core.List.{List, [], _∷_, _++_}
-use mathlib.Core.Option.{Option, none, some}
+use mathlib.Core.Path.{_≡_, refl, sym, ap}
+use mathlib.Core.List.{List, [], _∷_}
+use mathlib.Core.Option.{none, some}
 use mathlib.Core.Bool.{Bool, true, false, cond}
-use native.Mathlib.Nat.{add-zero, suc-add, add-suc, le-refl, add-assoc}
-use native.Mathlib.Numerals.{add-one}
+use native.Mathlib.Nat.{add-zero, le-refl}
 use native.Mathlib.Omega.{arith}
 use borrow.Author.Tests.{le-leb, lt-leb}
-use lib.Dec.{leb, eqb}
 use Rattle.grammar.specs.Characters.{is}
-use lib.ListN.{length, take, drop, getD, length-drop, drop-of-length-le}
-use lib.Seq.{drop-drop, drop-cons}
+use lib.ListN.{length, take, drop, length-drop}
+use lib.Seq.{drop-drop}
 use Rattle.grammar.specs.Reader.{Res, ok, no, used, later, mapped, andThen, seq, opt, manyBy, many, one, word, span, spanAll, moved, from}
 use Rattle.grammar.proofs.Lists.{agree-refl}
-use Rattle.grammar.proofs.Theory.{Sound, IsReader, Begins, many-near, taken, drop-shorter}
+use Rattle.grammar.proofs.Theory.{IsReader, Begins, many-near, taken, drop-shorter}
 
 module _ {A B C : Type 0} (k : A → B → C) (f : List ℕ → Res A) (g : List ℕ → Res B) (s : List ℕ) (i : ℕ) where
   moved-later : (a : A) (n : ℕ) (r : Res B) → moved i (later n (k a) r) ≡ mapped (k a) (moved (i + n) r)
@@ -46,18 +44,6 @@ module _ {A : Type 0} (u : ℕ → Bool) (f : List ℕ → Res A) (s : List ℕ)
   moved-mapped : (r : Res A) → moved i (mapped some r) ≡ mapped some (moved i r)
   moved-mapped (ok a n) = refl
   moved-mapped (no n) = refl
-
-  pub from-opt-end : length s ≤ i → from (opt u f) s i ≡ ok none i
-  unfolding from opt
-  from-opt-end l = rw (drop-of-length-le s l, add-zero)
-
-  pub from-opt-not : i < length s → u (getD s i 0) ≡ false → from (opt u f) s i ≡ ok none i
-  unfolding from opt
-  from-opt-not l e = rw (drop-cons s i 0 l, e, add-zero)
-
-  pub from-opt : i < length s → u (getD s i 0) ≡ true → from (opt u f) s i ≡ mapped some (from f s i)
-  unfolding from opt
-  from-opt l e = rw (drop-cons s i 0 l, e) (moved-mapped (f (getD s i 0 ∷ drop (suc i) s)))
 
 pub from-word : (a : ℕ) (n : List ℕ → ℕ) (s : List ℕ) (i : ℕ) → a ≤ n (drop i s) → from (word a n) s i ≡ ok (take (n (drop i s)) (drop i s)) (i + n (drop i s))
 unfolding from word

@@ -1,18 +1,17 @@
 -- A side is its first specification, and what a comma begins: the law by which the readers of sides and specifications call each other.
-use Prim.Native.Nat.{ℕ, suc, zero, _+_, _-_, _≤_, _<_}
-use mathlib.Core.Path.{_≡_, refl, sym, ap, _∙_, subst}
-use mathlib.Core.List.{List, [], _∷_, _++_}
-use mathlib.Core.Bool.{Bool, true, false, cond}
-use native.Mathlib.Nat.{add-zero, suc-add, add-suc, le-refl}
+use Prim.Native.Nat.{ℕ, suc, _+_, _-_, _≤_}
+use mathlib.Core.Path.{_≡_, refl, ap}
+use mathlib.Core.List.{List, [], _∷_}
+use native.Mathlib.Nat.{le-refl}
 use native.Mathlib.Omega.{arith}
-use lib.ListN.{length, take, drop, length-drop, length-append, length-take}
+use lib.ListN.{length, drop, length-drop, length-append, length-take}
 use Rattle.grammar.specs.Characters.{is, comma}
 use Rattle.grammar.specs.Parsed.{Specification}
 use Rattle.grammar.specs.Grammar.{IsSide}
 use Rattle.grammar.specs.Grammar as G
 use Rattle.grammar.specs.Reader.{Res, ok, no, used, later, andThen, seq, manyBy, many, one, second, specification, side}
 use Rattle.grammar.proofs.Lists.{agree-refl}
-use Rattle.grammar.proofs.Theory.{Sound, IsReader, seq-reads, Stop, over, at, many-near}
+use Rattle.grammar.proofs.Theory.{Sound, seq-reads, Stop, over, at, many-near}
 use Rattle.grammar.proofs.Parts.{chr-reads, is-in, afterSpec}
 use Rattle.grammar.proofs.Lines.{specification-reads, next-first, side-reads}
 
@@ -24,18 +23,10 @@ unfolding many
 enough k s l = many-near (is comma) (seq-reads second (chr-reads comma) specification-reads (λ q rest b y h. tt)) next-first (is-in comma afterSpec refl)
     (length s) k s s (le-refl (length s)) l (agree-refl (suc (used (manyBy (length s) (is comma) next s))) s)
 
-pub side-no : (s : List ℕ) (n : ℕ) → specification s ≡ no n → side s ≡ no n
-unfolding side
-side-no s n e = rw e
-
 many-stop : (s : List ℕ) → Stop (is comma) s → many (is comma) next s ≡ ok [] 0
 unfolding many manyBy
 many-stop s over = refl
 many-stop s (at e) = rw e
-
-pub side-one : (s : List ℕ) (v : Specification) (n : ℕ) → specification s ≡ ok v n → Stop (is comma) (drop n s) → side s ≡ ok (v ∷ []) n
-unfolding side
-side-one s v n e h = rw (e, many-stop (drop n s) h, add-zero)
 
 later-later : (n m : ℕ) (v w : Specification) (r : Res (List Specification)) → later n (_∷_ v) (later (1 + m) (_∷_ w) r) ≡ later (suc n) (_∷_ v) (later m (_∷_ w) r)
 later-later n m v w (ok vs x) = ap (ok (v ∷ w ∷ vs)) (omega arith)

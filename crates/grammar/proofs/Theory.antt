@@ -1,16 +1,15 @@
 -- What it is to read a language, and how readers are put together.
-use Prim.Native.Nat.{ℕ, suc, zero, _+_, _-_, _≤_, _<_}
-use mathlib.Core.Path.{_≡_, refl, sym, ap, _∙_, subst}
+use Prim.Native.Nat.{ℕ, suc, zero, _+_, _-_, _≤_}
+use mathlib.Core.Path.{_≡_, refl, ap, _∙_}
 use mathlib.Core.List.{List, [], _∷_, _++_, append-assoc}
 use mathlib.Core.Option.{Option, none, some}
 use mathlib.Core.Bool.{Bool, true, false, cond}
-use native.Mathlib.Nat.{zero-add, suc-add, add-suc, not-suc-le-zero, le-refl}
+use native.Mathlib.Nat.{suc-add, add-suc, not-suc-le-zero, le-refl}
 use native.Mathlib.Omega.{arith}
-use lib.Dec.{leb, ltb, eqb}
 use lib.ListN.{length, take, drop, length-append, length-take, length-drop}
 use lib.Seq.{take-add, drop-append-seam}
 use Rattle.grammar.specs.Reader.{Res, ok, no, used, later, mapped, andThen, seq, opt, manyBy, many}
-use Rattle.grammar.proofs.Lists.{Agree, end, same, agree-refl, agree-less, agree-drop, agree-take}
+use Rattle.grammar.proofs.Lists.{Agree, end, same, agree-less, agree-drop}
 
 module _ {A : Type 0} where
   -- what was read is of the language; what was refused is so from its place on, and what stands before begins a word

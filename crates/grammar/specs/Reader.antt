@@ -1,9 +1,9 @@
 -- A reader of command lines.
-use Prim.Native.Nat.{ℕ, suc, zero, _+_, _-_, _≤_}
-use mathlib.Core.List.{List, [], _∷_, _++_}
+use Prim.Native.Nat.{ℕ, suc, zero, _+_}
+use mathlib.Core.List.{List, [], _∷_}
 use mathlib.Core.Option.{Option, none, some}
-use mathlib.Core.Bool.{Bool, true, false, cond, _&&_}
-use lib.Dec.{leb, ltb, eqb}
+use mathlib.Core.Bool.{Bool, cond}
+use lib.Dec.{leb, eqb}
 use lib.ListN.{length, take, drop}
 use Rattle.radix.specs.Names.{isLetter, isLetterOrDigit}
 use Rattle.grammar.specs.Characters.{isOctal, is, comma, period, slash, colon, less, opening, closing}

@@ -1,16 +1,17 @@
 -- APPND accepted: what is known of the image and of the two files where no row is given.
 use Prim.Native.Nat.{ℕ, _<_}
-use mathlib.Core.Path.{_≡_, refl, sym, subst, _∙_}
-use mathlib.Core.Bool.{true, false, not}
+use mathlib.Core.Path.{_≡_, sym, subst, _∙_}
+use mathlib.Core.Bool.{true, false}
 use mathlib.Core.List.{List}
 use mathlib.Core.Logic.{_⊎_, inl, inr}
-use mathlib.Core.Option.{Option, none, some}
+use mathlib.Core.Option.{some}
 use native.Mathlib.Omega.{arith}
 use lib.Dec.{eqb}
 use borrow.Author.Tests.{eq-eqb, not-false}
 use Rattle.answers.specs.Refusals.{firstOf}
-use Rattle.answers.specs.Conversion.{missing, orElse}
-use Rattle.radix.proofs.Names.{name-not-zero}
+use Rattle.answers.specs.Conversion.{missing}
+use Rattle.answers.proofs.Refusals.{none-given}
+use Rattle.answers.proofs.Missing.{present}
 use Rattle.pack.specs.declared.Geometry.{Geometry}
 use Rattle.pack.specs.declared.Entry.{Entry}
 use Rattle.pack.specs.declared.Key.{Key}
@@ -23,14 +24,8 @@ use Rattle.consistency.specs.Test.{consistent}
 use Rattle.consistency.proofs.Consistent.{consistent-iff}
 use Rattle.asking.specs.Keys.{legalKey, found}
 use Rattle.asking.specs.Asked.{entryNo, fileOf}
-use Rattle.asking.proofs.Keys.{found-iff, legal-iff}
+use Rattle.asking.proofs.Keys.{found-iff, not-empty}
 use Rattle.growth.specs.Appnd.{sameKey, appndRows}
-use Rattle.growth.proofs.Deciding.{cleared}
-
--- a key that an entry in use has
-not-empty : (img : List ℕ) (g : Geometry) (key : Key) (e : ℕ) → legalKey key ≡ true → Keyed key (entryOf img g e) → Empty img g e → ⊥
-unfolding entryOf
-not-empty img g key e legal keyed empty = name-not-zero _ _ (legal-iff key .0 legal .0) (sym (keyed .name1) ∙ empty .zero 0 (omega arith))
 
 -- an entry in use that is not contiguous is linked
 linked-kind : (img : List ℕ) (g : Geometry) (e : ℕ) → (Empty img g e → ⊥) → eqb (entryOf img g e .kind) 1 ≡ false → RightEntry img g e → entryOf img g e .kind ≡ 2
@@ -40,10 +35,6 @@ linked-kind img g e used other (inr rules) = by (rules .kind)
     by : Contiguous (entryOf img g e) ⊎ Linked img g (entryOf img g e) → entryOf img g e .kind ≡ 2
     by (inl contiguous) = absurd (true-not-false (sym (eq-eqb (entryOf img g e .kind) 1 (contiguous .kind)) ∙ other))
     by (inr linked) = linked .kind
-
-pub present : (o : Option ℕ) → missing o ≡ false → o ≡ some (orElse 0 o)
-present none is = absurd (true-not-false is)
-present (some e) is = refl
 
 -- one file of the two
 pub record Asked (img : List ℕ) (key : Key) : Type 0 where
@@ -84,16 +75,16 @@ apart a b x one two =
 pub accepted : (img : List ℕ) (first second : Key) (caller : ℕ) → firstOf (appndRows img first second caller) ≡ 0 → Accepted img first second
 unfolding appndRows
 accepted img first second caller clear =
-    let r1 = cleared _ (λ is. omega (arith, is)) clear in
-    let r2 = cleared _ (λ is. omega (arith, is)) (r1 .1) in
-    let r3 = cleared _ (λ is. omega (arith, is)) (r2 .1) in
-    let r4 = cleared _ (λ is. omega (arith, is)) (r3 .1) in
-    let r5 = cleared _ (λ is. omega (arith, is)) (r4 .1) in
-    let r6 = cleared _ (λ is. omega (arith, is)) (r5 .1) in
-    let r7 = cleared _ (λ is. omega (arith, is)) (r6 .1) in
-    let r8 = cleared _ (λ is. omega (arith, is)) (r7 .1) in
-    let r9 = cleared _ (λ is. omega (arith, is)) (r8 .1) in
-    let r10 = cleared _ (λ is. omega (arith, is)) (r9 .1) in
+    let r1 = none-given _ _ _ (λ is. omega (arith, is)) clear in
+    let r2 = none-given _ _ _ (λ is. omega (arith, is)) (r1 .1) in
+    let r3 = none-given _ _ _ (λ is. omega (arith, is)) (r2 .1) in
+    let r4 = none-given _ _ _ (λ is. omega (arith, is)) (r3 .1) in
+    let r5 = none-given _ _ _ (λ is. omega (arith, is)) (r4 .1) in
+    let r6 = none-given _ _ _ (λ is. omega (arith, is)) (r5 .1) in
+    let r7 = none-given _ _ _ (λ is. omega (arith, is)) (r6 .1) in
+    let r8 = none-given _ _ _ (λ is. omega (arith, is)) (r7 .1) in
+    let r9 = none-given _ _ _ (λ is. omega (arith, is)) (r8 .1) in
+    let r10 = none-given _ _ _ (λ is. omega (arith, is)) (r9 .1) in
     let right = consistent-iff img .0 (not-false (consistent img) (r1 .0)) in
     let one : Asked img first = asked first right (not-false (legalKey first) (r2 .0)) (r5 .0) (r9 .0) in
     let two : Asked img second = asked second right (not-false (legalKey second) (r3 .0)) (r6 .0) (r10 .0) in

@@ -16,21 +16,20 @@ use Rattle.pack.specs.Consistent.{Consistent}
 use Rattle.pack.specs.Owner.{FreeBlock}
 use Rattle.pack.specs.Untouched.{Keyed, Untouched}
 use Rattle.pack.proofs.Headers.{header-sized}
-use Rattle.asking.specs.Outcome.{Outcome}
+use Rattle.asking.specs.Outcome.{Unchanged}
 use Rattle.asking.specs.Asked.{fileRows, entryNo, fileOf}
-use Rattle.asking.proofs.Outcome.{settled-refused}
+use Rattle.asking.proofs.Outcome.{code-is, success-image, success-numbers, refusal-keeps, image-by}
+use Rattle.asking.proofs.Keys.{key-single}
 use Rattle.frame.specs.Framed.{Only, Framed}
 use Rattle.frame.proofs.Same.{right-bodies}
 use Rattle.frame.proofs.Held.{held-none}
 use Rattle.frame.proofs.Untouched.{untouched-framed, untouched-refl}
 use Rattle.frame.proofs.Grown.{grown-framed, grown-blocks, grown-consistent}
-use Rattle.creation.proofs.Settling.{code-is, image-done, numbers-done, image-by}
 use Rattle.transfer.specs.Linked.{wrongPayload}
 use Rattle.transfer.specs.Parts.{payloadOf}
 use Rattle.growth.specs.Adding.{highestFree, addedBlock, added, linkedAddRows, linkedAdd}
 use Rattle.growth.specs.Payload.{payloadsOf}
 use Rattle.growth.specs.Stages.{addingRows}
-use Rattle.growth.proofs.Appnd.{key-same}
 use Rattle.growth.proofs.Payloads.{payloads-append, payloads-same}
 use Rattle.growth.proofs.AddingStage.{Admitted, admitted, add-rows-42, add-rows-clear, none-free, free-none}
 use Rattle.growth.proofs.AddingAnswers.{payload-fits}
@@ -46,14 +45,9 @@ module _ (img : List ℕ) (key : Key) (caller : ℕ) (payload : List ℕ) where
   code-rows = code-is (linkedAddRows img key caller (wrongPayload img payload)) img payload _
 
   -- "A refusal returns its code, any other number in the answer 0 .., and nothing in the image or a lent buffer changes."
-  pub add-refused : (linkedAdd img key caller payload .code ≡ 0 → ⊥)
-      → (linkedAdd img key caller payload .image ≡ img)
-      × (linkedAdd img key caller payload .buffer ≡ payload)
-      × (linkedAdd img key caller payload .numbers ≡ 0 ∷ [])
+  pub add-refused : (linkedAdd img key caller payload .code ≡ 0 → ⊥) → Unchanged (linkedAdd img key caller payload) (0 ∷ []) img payload
   unfolding linkedAdd
-  add-refused refused =
-      let o = settled-refused (linkedAddRows img key caller (wrongPayload img payload)) img payload _ refl (λ is. refused (code-rows ∙ is)) in
-      (ap (λ (r : Outcome). r .image) o, ap (λ (r : Outcome). r .buffer) o, ap (λ (r : Outcome). r .numbers) o)
+  add-refused = refusal-keeps (linkedAddRows img key caller (wrongPayload img payload)) img payload _
 
   -- "42: no free block": with nothing else against it, exactly if no block is free
   module _ (clear : firstOf (fileRows img key (wrongPayload img payload) ++ addingRows caller (fileOf img key)) ≡ 0) where
@@ -135,8 +129,7 @@ module _ (img : List ℕ) (key : Key) (caller : ℕ) (payload : List ℕ) where
     after-untouched other apart =
         untouched-framed refl (a .right) after-framed other
         (λ e within is used keyed.
-        apart (key-same other key (entryOf img (geometryOf img) (entryNo img key))
-        (subst (λ (i : ℕ). Keyed other (entryOf img (geometryOf img) i)) is keyed) (a .file .keyed)))
+        apart (key-single (a .file .keyed) (subst (λ (i : ℕ). Keyed other (entryOf img (geometryOf img) i)) is keyed)))
 
   -- the request, on success
   module _ (success : linkedAdd img key caller payload .code ≡ 0) where
@@ -145,7 +138,7 @@ module _ (img : List ℕ) (key : Key) (caller : ℕ) (payload : List ℕ) where
 
     image-is : linkedAdd img key caller payload .image ≡ after
     unfolding linkedAdd fileOf
-    image-is = image-done (linkedAddRows img key caller (wrongPayload img payload)) img payload _ (sym code-rows ∙ success)
+    image-is = success-image (linkedAddRows img key caller (wrongPayload img payload)) img payload _ (sym code-rows ∙ success)
 
     -- "the highest free block is joined": its number is the answer's
     pub add-highest : (linkedAdd img key caller payload .numbers ≡ addedBlock img ∷ [])
@@ -153,7 +146,7 @@ module _ (img : List ℕ) (key : Key) (caller : ℕ) (payload : List ℕ) where
         × ((b : ℕ) → addedBlock img < b → FreeBlock img b → ⊥)
     unfolding linkedAdd
     add-highest = (
-      numbers-done (linkedAddRows img key caller (wrongPayload img payload)) img payload _ (sym code-rows ∙ success),
+      success-numbers (linkedAddRows img key caller (wrongPayload img payload)) img payload _ (sym code-rows ∙ success),
       add-admitted .free,
       add-admitted .highest,
     )

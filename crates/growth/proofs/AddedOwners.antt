@@ -46,7 +46,7 @@ module _ (img : List ℕ) (key : Key) (caller : ℕ) (payload : List ℕ) where
           (sym is)
           (ap (placeFrom b 0) (add-blocks img key caller payload success)
           ∙ place-before b (addedBlock img) 0 (blocksAt img (geometryOf img) (entryNo img key)) other))
-      by (no refused) = ap (λ (img′ : List ℕ). ownerOf img′ b) (add-refused img key caller payload refused .0)
+      by (no refused) = ap (λ (img′ : List ℕ). ownerOf img′ b) (add-refused img key caller payload refused .same-image)
 
   -- on success, at the place that the old length counts
   pub add-owner-added : linkedAdd img key caller payload .code ≡ 0

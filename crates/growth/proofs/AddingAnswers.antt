@@ -9,6 +9,7 @@ use lib.Dec.{eqb}
 use lib.ListN.{length}
 use borrow.Author.Tests.{eqb-true, not-false}
 use Rattle.answers.specs.Refusals.{firstOf}
+use Rattle.answers.proofs.Refusals.{success-is, refusal-is}
 use Rattle.pack.specs.declared.Geometry.{Geometry}
 use Rattle.pack.specs.declared.BlockNo.{BlockNo}
 use Rattle.pack.specs.declared.Key.{Key}
@@ -20,7 +21,7 @@ use Rattle.pack.proofs.Headers.{header-sized}
 use Rattle.owners.proofs.Counting.{total-has}
 use Rattle.owners.proofs.Sum.{sum-of-blocks}
 use Rattle.asking.specs.Asked.{entryNo, fileOf}
-use Rattle.creation.proofs.Settling.{success-is, refusal-is, done, refused}
+use Rattle.asking.proofs.Outcome.{done-answer, refused-answer}
 use Rattle.transfer.specs.Linked.{wrongPayload}
 use Rattle.growth.specs.Adding.{addedBlock, added, linkedAddRows, linkedAdd}
 use Rattle.growth.specs.Stages.{addingOf, Addable}
@@ -85,7 +86,7 @@ module _ (img : List ℕ) (key : Key) (caller : ℕ) (payload : List ℕ) (size 
       by (no never) =
           let same = told-refused never in
           let first : firstOf (linkedAddRows img key caller (wrongPayload img payload)) ≡ code = cc in
-          let r = refused (linkedAddRows img key caller (wrongPayload img payload)) img payload _ first (λ zero. never (first ∙ zero)) in
+          let r = refused-answer (linkedAddRows img key caller (wrongPayload img payload)) img payload _ first (λ zero. never (first ∙ zero)) in
           (r .0, (r .1, r .2))
 
   module _ (g : Geometry) (e : ℕ) (b : BlockNo) (told : answer ≡ At g e b) where
@@ -119,7 +120,7 @@ module _ (img : List ℕ) (key : Key) (caller : ℕ) (payload : List ℕ) (size 
     add-done img′ written =
         let c = chosen in
         let d =
-        done (linkedAddRows img key caller (wrongPayload img payload)) img payload _ (c .clear) (b .0 ∷ []) img′ (ap (λ (z : ℕ). z ∷ []) (sym (c .block)))
+        done-answer (linkedAddRows img key caller (wrongPayload img payload)) img payload _ (c .clear) (b .0 ∷ []) img′ (ap (λ (z : ℕ). z ∷ []) (sym (c .block)))
         (written
         ∙ (λ i. added img (sym (c .measures) i) (sym (c .number) i) (entryOf img (sym (c .measures) i) (sym (c .number) i)) (sym (c .block) i) payload)) in
         (d .0, (d .1, d .2))

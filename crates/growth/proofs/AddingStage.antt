@@ -10,6 +10,8 @@ use lib.ListN.{getD}
 use borrow.Author.Tests.{eq-eqb, ne-eqb, not-false}
 use Rattle.answers.specs.Refusals.{firstOf, row, tableOrder, inOrder}
 use Rattle.answers.specs.Conversion.{missing, orElse}
+use Rattle.answers.proofs.Refusals.{none-given, coded, behind-refused, behind-clear, success-is, refusal-is}
+use Rattle.answers.proofs.Missing.{present}
 use Rattle.pack.specs.declared.Geometry.{Geometry}
 use Rattle.pack.specs.declared.Entry.{Entry}
 use Rattle.pack.specs.declared.BlockNo.{BlockNo}
@@ -30,14 +32,13 @@ use Rattle.creation.specs.declared.allocation.Run.{Run}
 use Rattle.creation.specs.declared.allocation.Run.the-variants.{Start, Nowhere}
 use Rattle.creation.specs.Choice.{FreeRun}
 use Rattle.creation.specs.Run.{runOn, startIn}
-use Rattle.creation.proofs.Settling.{coded, behind-refused, behind-clear, success-is, refusal-is}
 use Rattle.creation.proofs.Highest.{run-highest, run-none}
 use Rattle.creation.proofs.Stretch.{run-is}
 use Rattle.growth.specs.Adding.{openForAdding, highestFree, addedBlock, linkedAddRows}
 use Rattle.growth.specs.Stages.{addingRows, addingOf}
 use Rattle.growth.specs.declared.adding.Adding.the-variants.{At, Refused as AddRefused}
-use Rattle.growth.proofs.Deciding.{cleared, found-number}
-use Rattle.growth.proofs.Accepted.{Asked as AskedFile, present, asked}
+use Rattle.growth.proofs.Deciding.{found-number}
+use Rattle.growth.proofs.Accepted.{Asked as AskedFile, asked}
 
 -- 40, 15, 41, 2, 6, 43, 45 and 42 stand in the order of the table
 pub add-ordered : (img : List ℕ) (key : Key) (caller : ℕ) (wrong : Bool) → inOrder tableOrder 0 (linkedAddRows img key caller wrong) ≡ true
@@ -84,7 +85,7 @@ module _ (img : List ℕ) (key : Key) (caller : ℕ) (wrong : Bool) where
   rows-forbidden : {code : ℕ} → firstOf (fileRows img key wrong ++ addingRows caller (fileOf img key)) ≡ code → (code ≡ 0 → ⊥)
       → firstOf (linkedAddRows img key caller wrong) ≡ code
   rows-forbidden first never =
-      ap firstOf by-stages ∙ behind-refused _ (fileRows img key wrong ++ addingRows caller (fileOf img key)) (λ is. never (sym first ∙ is)) ∙ first
+      ap firstOf by-stages ∙ behind-refused _ (fileRows img key wrong ++ addingRows caller (fileOf img key)) first never
 
   pub add-rows-42 : firstOf (fileRows img key wrong ++ addingRows caller (fileOf img key)) ≡ 0 → highestFree img ≡ none
       → firstOf (linkedAddRows img key caller wrong) ≡ 0o42
@@ -167,14 +168,14 @@ pub record Admitted (img : List ℕ) (key : Key) (wrong : Bool) : Type 0 where
 pub admitted : (img : List ℕ) (key : Key) (caller : ℕ) (wrong : Bool) → firstOf (linkedAddRows img key caller wrong) ≡ 0 → Admitted img key wrong
 unfolding linkedAddRows fileRows
 admitted img key caller wrong clear =
-    let r1 = cleared _ (λ is. omega (arith, is)) clear in
-    let r2 = cleared _ (λ is. omega (arith, is)) (r1 .1) in
-    let r3 = cleared _ (λ is. omega (arith, is)) (r2 .1) in
-    let r4 = cleared _ (λ is. omega (arith, is)) (r3 .1) in
-    let r5 = cleared _ (λ is. omega (arith, is)) (r4 .1) in
-    let r6 = cleared _ (λ is. omega (arith, is)) (r5 .1) in
-    let r7 = cleared _ (λ is. omega (arith, is)) (r6 .1) in
-    let r8 = cleared _ (λ is. omega (arith, is)) (r7 .1) in
+    let r1 = none-given _ _ _ (λ is. omega (arith, is)) clear in
+    let r2 = none-given _ _ _ (λ is. omega (arith, is)) (r1 .1) in
+    let r3 = none-given _ _ _ (λ is. omega (arith, is)) (r2 .1) in
+    let r4 = none-given _ _ _ (λ is. omega (arith, is)) (r3 .1) in
+    let r5 = none-given _ _ _ (λ is. omega (arith, is)) (r4 .1) in
+    let r6 = none-given _ _ _ (λ is. omega (arith, is)) (r5 .1) in
+    let r7 = none-given _ _ _ (λ is. omega (arith, is)) (r6 .1) in
+    let r8 = none-given _ _ _ (λ is. omega (arith, is)) (r7 .1) in
     let right = consistent-iff img .0 (not-false (consistent img) (r1 .0)) in
     let run = run-highest img 1 (omega arith) (addedBlock img) (present (highestFree img) (r8 .0)) in
     record {

@@ -8,7 +8,6 @@ use native.Mathlib.Decide.{ℕ-discrete}
 use lib.ListN.{getD}
 use Rattle.answers.specs.Refusals.{firstOf}
 use Rattle.words.specs.Word.{wordAt}
-use Rattle.pack.specs.declared.Entry.{Entry}
 use Rattle.pack.specs.declared.Key.{Key}
 use Rattle.pack.specs.Geometry.{geometryOf, blockWords, blockBytes}
 use Rattle.pack.specs.File.{count}
@@ -16,9 +15,11 @@ use Rattle.pack.specs.Entry.{entryOf, blocksAt}
 use Rattle.pack.specs.Consistent.{Consistent}
 use Rattle.pack.specs.Untouched.{Keyed, Untouched}
 use Rattle.pack.proofs.Headers.{header-sized}
-use Rattle.asking.specs.Outcome.{Outcome, settled}
+use Rattle.asking.specs.Outcome.{Outcome, settled, Unchanged}
 use Rattle.asking.specs.Asked.{entryNo, fileOf}
 use Rattle.asking.specs.Written.{clearEntry}
+use Rattle.asking.proofs.Outcome.{refusal-keeps}
+use Rattle.asking.proofs.Keys.{key-single}
 use Rattle.frame.specs.Framed.{Either, Framed}
 use Rattle.frame.specs.Growth.{Joined}
 use Rattle.frame.proofs.Same.{right-bodies}
@@ -27,19 +28,10 @@ use Rattle.frame.proofs.Grown.{joined-framed, joined-blocks, joined-consistent}
 use Rattle.growth.specs.Appnd.{appndRows, joined, appnd}
 use Rattle.growth.specs.Payload.{payloadsOf}
 use Rattle.growth.proofs.Accepted.{Accepted, accepted}
-use Rattle.growth.proofs.Answering.{appnd-code, appnd-success}
+use Rattle.growth.proofs.Answering.{appnd-success}
 use Rattle.growth.proofs.Middle.{Joint}
 use Rattle.growth.proofs.Joining.{joining, payload-same}
 use Rattle.growth.proofs.Payloads.{payloads-append, payloads-same}
-
-pub key-same : (a b : Key) (x : Entry) → Keyed a x → Keyed b x → a ≡ b
-key-same a b x one two =
-    λ i. record {
-      name1 = (sym (one .name1) ∙ two .name1) i;
-      name2 = (sym (one .name2) ∙ two .name2) i;
-      extension = (sym (one .extension) ∙ two .extension) i;
-      uic = (sym (one .uic) ∙ two .uic) i;
-    }
 
 module _ (img : List ℕ) (first second : Key) (caller : ℕ) where
   -- the code is that of the rows
@@ -47,11 +39,9 @@ module _ (img : List ℕ) (first second : Key) (caller : ℕ) where
   unfolding appnd settled
   rows-code = refl
 
-  pub appnd-refused : (appnd img first second caller .code ≡ 0 → ⊥)
-      → (appnd img first second caller .image ≡ img) × (appnd img first second caller .numbers ≡ [])
-  appnd-refused refused =
-      let whole = appnd-code img first second caller rows-code refused in
-      (ap (λ (r : Outcome). r .image) whole, ap (λ (r : Outcome). r .numbers) whole)
+  pub appnd-refused : (appnd img first second caller .code ≡ 0 → ⊥) → Unchanged (appnd img first second caller) [] img []
+  unfolding appnd
+  appnd-refused = refusal-keeps (appndRows img first second caller) img [] _
 
   -- the two files became one
   module _ (done : appnd img first second caller .code ≡ 0) where
@@ -118,7 +108,7 @@ module _ (img : List ℕ) (first second : Key) (caller : ℕ) where
       by (yes done) =
           let a = appnd-accepted done in
           joined-consistent refl right (a .one .within) (a .two .within) (a .other) (a .one .linked) (a .two .linked) (appnd-joined done)
-      by (no refused) = subst Consistent (sym (appnd-refused refused .0)) right
+      by (no refused) = subst Consistent (sym (appnd-refused refused .same-image)) right
 
   -- no link, nor anything else, is written into block 0
   pub appnd-block-zero : (w : ℕ) → w < blockWords (geometryOf img) → wordAt (appnd img first second caller .image) w ≡ wordAt img w
@@ -126,7 +116,7 @@ module _ (img : List ℕ) (first second : Key) (caller : ℕ) where
     where
       by : Dec (appnd img first second caller .code ≡ 0) → wordAt (appnd img first second caller .image) w ≡ wordAt img w
       by (yes done) = appnd-joined done .kept .header w within
-      by (no refused) = ap (λ (img′ : List ℕ). wordAt img′ w) (appnd-refused refused .0)
+      by (no refused) = ap (λ (img′ : List ℕ). wordAt img′ w) (appnd-refused refused .same-image)
 
   -- a file that the request does not name
   pub appnd-untouched : (key : Key) → (key ≡ first → ⊥) → (key ≡ second → ⊥) → Untouched key img (appnd img first second caller .image)
@@ -134,14 +124,12 @@ module _ (img : List ℕ) (first second : Key) (caller : ℕ) where
     where
       named : Accepted img first second → (e : ℕ) → Either (entryNo img first) (entryNo img second) e → Keyed key (entryOf img (geometryOf img) e) → ⊥
       named a e (inl is) keyed =
-          not-first (key-same key first (entryOf img (geometryOf img) (entryNo img first))
-          (subst (λ (i : ℕ). Keyed key (entryOf img (geometryOf img) i)) is keyed) (a .one .keyed))
+          not-first (key-single (a .one .keyed) (subst (λ (i : ℕ). Keyed key (entryOf img (geometryOf img) i)) is keyed))
       named a e (inr is) keyed =
-          not-second (key-same key second (entryOf img (geometryOf img) (entryNo img second))
-          (subst (λ (i : ℕ). Keyed key (entryOf img (geometryOf img) i)) is keyed) (a .two .keyed))
+          not-second (key-single (a .two .keyed) (subst (λ (i : ℕ). Keyed key (entryOf img (geometryOf img) i)) is keyed))
 
       by : Dec (appnd img first second caller .code ≡ 0) → Untouched key img (appnd img first second caller .image)
       by (yes done) =
           let a = appnd-accepted done in
           untouched-framed refl (a .right) (appnd-framed done) key (λ e within is used keyed. named a e is keyed)
-      by (no refused) = subst (Untouched key img) (sym (appnd-refused refused .0)) (untouched-refl key img)
+      by (no refused) = subst (Untouched key img) (sym (appnd-refused refused .same-image)) (untouched-refl key img)

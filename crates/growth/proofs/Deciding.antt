@@ -1,15 +1,15 @@
 -- The stages of APPND put together: what each of its answers comes to, and what is known of two files that were found.
 use Prim.Native.Nat.{ℕ}
 use mathlib.Core.Path.{_≡_, refl, sym, ap, _∙_}
-use mathlib.Core.Bool.{Bool, true, false, not}
-use mathlib.Core.List.{List, [], _∷_, _++_}
+use mathlib.Core.Bool.{true, false, not}
+use mathlib.Core.List.{List, _∷_, _++_}
 use mathlib.Core.Logic.{_⊎_, inl, inr}
 use mathlib.Core.Option.{Option, none, some}
 use native.Mathlib.Omega.{arith}
 use borrow.Author.Tests.{ne-eqb, not-false}
 use Rattle.answers.specs.Refusals.{Row, row, firstOf, onSuccess, tableOrder, inOrder}
 use Rattle.answers.specs.Conversion.{missing}
-use Rattle.answers.proofs.Refusals.{pass}
+use Rattle.answers.proofs.Refusals.{pass, none-given, behind-refused}
 use Rattle.pack.specs.declared.Geometry.{Geometry}
 use Rattle.pack.specs.declared.Entry.{Entry}
 use Rattle.pack.specs.declared.Key.{Key}
@@ -29,22 +29,6 @@ pub appnd-ordered : (img : List ℕ) (first second : Key) (caller : ℕ) → inO
 unfolding appndRows
 appnd-ordered img first second caller = refl
 
--- a row that is not given says nothing where no row is given
-pub cleared : {given : Bool} {code : ℕ} (rows : List Row) → (code ≡ 0 → ⊥) → firstOf (row given code ∷ rows) ≡ 0 → (given ≡ false) × (firstOf rows ≡ 0)
-unfolding firstOf
-cleared {given = true} rows never is = absurd (never is)
-cleared {given = false} rows never is = (refl, is)
-
--- rows that refuse do so whatever rows come behind them
-first-stop : (rows more : List Row) {code : ℕ} → firstOf rows ≡ code → (code ≡ 0 → ⊥) → firstOf (rows ++ more) ≡ code
-unfolding firstOf
-first-stop [] more is never = absurd (never (sym is))
-first-stop (r ∷ rows) more {code} is never = by (r .given) refl (λ later. first-stop rows more later never)
-  where
-    by : (b : Bool) → r .given ≡ b → (firstOf rows ≡ code → firstOf (rows ++ more) ≡ code) → firstOf (r ∷ (rows ++ more)) ≡ code
-    by true given later = rw given (rw given at is)
-    by false given later = rw given (later (rw given at is))
-
 -- what is known of two names that nothing is wrong with
 pub record Named (first second : Key) : Type 0 where
   pub legal : legalKey first ≡ true
@@ -54,9 +38,9 @@ pub record Named (first second : Key) : Type 0 where
 pub named : (first second : Key) → firstOf (nameRows first second) ≡ 0 → Named first second
 unfolding nameRows
 named first second is =
-    let one = cleared _ (λ is. omega (arith, is)) is in
-    let two = cleared _ (λ is. omega (arith, is)) (one .1) in
-    let three = cleared _ (λ is. omega (arith, is)) (two .1) in
+    let one = none-given _ _ _ (λ is. omega (arith, is)) is in
+    let two = none-given _ _ _ (λ is. omega (arith, is)) (one .1) in
+    let three = none-given _ _ _ (λ is. omega (arith, is)) (two .1) in
     record { legal = not-false _ (one .0); legal₂ = not-false _ (two .0); apart = three .0 }
 
 -- two files looked for, at the measures that the code read
@@ -145,7 +129,7 @@ module _ (img : List ℕ) (first second : Key) (caller : ℕ) where
   module _ (right : consistent img ≡ true) where
     pub decided-named : {code : ℕ} → code ≡ firstOf (nameRows first second) → (code ≡ 0 → ⊥) → Refused code ≡ decided img first second caller
     decided-named {code} is never =
-        let wrong : firstOf (nameRows first second ++ behind) ≡ code = first-stop (nameRows first second) behind (sym is) never in
+        let wrong : firstOf (nameRows first second ++ behind) ≡ code = behind-refused behind (nameRows first second) (sym is) never in
         code-decided (ap firstOf by-stages ∙ (pass 0o40 (nameRows first second ++ behind) (ap not right) ∙ wrong)) never
 
     module _ (names : Named first second) where

@@ -17,7 +17,7 @@ use Rattle.pack.specs.Owner.{FreeBlock}
 use Rattle.asking.proofs.Writing.{sized-same}
 use Rattle.frame.specs.Framed.{Only, Never, Kept}
 use Rattle.frame.specs.Growth.{Grown}
-use Rattle.frame.proofs.Framing.{kept-compose, kept-widen, entry-kept, link-kept}
+use Rattle.frame.proofs.Framing.{kept-compose, kept-widen, link-kept}
 use Rattle.frame.proofs.Frame.{entries-at}
 use Rattle.frame.proofs.Same.{right-bodies}
 use Rattle.frame.proofs.Held.{held-none}
@@ -104,9 +104,6 @@ module _ (img : List ℕ) (g : Geometry) (x b : ℕ) (payload : List ℕ) (state
   new-sized : Sized new g
   unfolding new
   new-sized = block-sized img g b payload sized body below whole
-
-  new-words : entryOf new g x ≡ entryOf img g x
-  new-words = entry-kept (new-kept {Named = Never}) x within (λ never. never)
 
   -- the block is none of the file's
   not-held : (z : ℕ) → 0 < count z (blocksAt img g x) → z ≡ b → ⊥

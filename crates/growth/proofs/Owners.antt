@@ -66,7 +66,7 @@ module _ (img : List ℕ) (first second : Key) (caller : ℕ) where
       by (yes done) =
           owner-framed refl (appnd-accepted img first second caller done .right) (appnd-framed img first second caller done)
           (either-decided (entryNo img first) (entryNo img second)) b (λ e within is. place done e is)
-      by (no refused) = ap (λ (s : List ℕ). ownerOf s b) (appnd-refused img first second caller refused .0)
+      by (no refused) = ap (λ (s : List ℕ). ownerOf s b) (appnd-refused img first second caller refused .same-image)
 
   module _ (done : appnd img first second caller .code ≡ 0) where
     stated : geometryOf img ≡ geometryOf (appnd img first second caller .image)

@@ -1,12 +1,11 @@
 -- Writing from the right: the digits due in the first places and those written behind them are the digits of the whole number.
 use Prim.Native.Nat.{ℕ, zero, suc, _+_, _/_, _%_, _≤_, _<_}
-use mathlib.Core.Path.{_≡_, refl, sym, ap, _∙_}
+use mathlib.Core.Path.{_≡_, refl, ap, _∙_}
 use mathlib.Core.List.{List, _∷_, _++_, append-nil}
 use mathlib.Core.Option.{some}
 use native.Mathlib.Omega.{arith}
 use lib.ListN.{length, drop, set, length-append, length-set}
 use lib.Seq.{drop-length, drop-cons, drop-set-lt, getD-set-same, append-snoc}
-use Rattle.answers.specs.Conversion.{Written}
 use Rattle.numerals.specs.Digits.{digits, largest, digitsOf}
 use Rattle.numerals.proofs.Limits.{digits-small}
 

@@ -13,12 +13,13 @@ use Rattle.pack.specs.Owner.{ownerOf}
 use Rattle.pack.specs.Untouched.{Untouched}
 use Rattle.asking.specs.Asked.{entryNo, fileOf}
 use Rattle.asking.specs.Written.{setEntryWord}
+use Rattle.asking.specs.Outcome.{Unchanged}
+use Rattle.asking.proofs.Outcome.{refusal-keeps, image-by}
 use Rattle.frame.proofs.Described.{used-description}
 use Rattle.frame.proofs.Untouched.{untouched-refl}
 use Rattle.opening.specs.Close.{closeRows, closeWord, closeValue, close}
 use Rattle.opening.proofs.Cleared.{Cleared}
 use Rattle.opening.proofs.Success.{close-cleared}
-use Rattle.opening.proofs.Settled.{Unchanged, refused-kept, settled-image}
 use Rattle.opening.proofs.EntryWord.{Rules, consistent-writer, consistent-readers, untouched-word, owner-word}
 
 word-least : (reader : Bool) → 9 ≤ cond reader 10 9
@@ -47,17 +48,17 @@ module _ (img : List ℕ) (key : Key) (f : Cleared img key) where
 module _ (img : List ℕ) (key : Key) (mode : ℕ) where
   pub close-refused : (close img key mode .code ≡ 0 → ⊥) → Unchanged (close img key mode) [] img []
   unfolding close
-  close-refused never = refused-kept (closeRows img key mode) img [] _ never
+  close-refused never = refusal-keeps (closeRows img key mode) img [] _ never
 
   pub close-consistent : Consistent img → Consistent (close img key mode .image)
   unfolding close
   close-consistent right =
-      settled-image (closeRows img key mode) img [] _ Consistent right (λ none. consistent-closed img key (close-cleared img key mode none .file) (eqb mode 4))
+      image-by (closeRows img key mode) img [] _ Consistent right (λ none. consistent-closed img key (close-cleared img key mode none .file) (eqb mode 4))
 
   pub close-untouched : (key′ : Key) → (key′ ≡ key → ⊥) → Untouched key′ img (close img key mode .image)
   unfolding close fileOf
   close-untouched key′ other =
-      settled-image (closeRows img key mode) img [] _ (Untouched key′ img) (untouched-refl key′ img)
+      image-by (closeRows img key mode) img [] _ (Untouched key′ img) (untouched-refl key′ img)
       (λ none.
       let f = close-cleared img key mode none .file in
       untouched-word refl (f .right) (f .inside) (closeWord mode) (closeValue mode (fileOf img key)) (word-least (eqb mode 4)) (word-most (eqb mode 4)) (f .keyed) key′ other)
@@ -65,7 +66,7 @@ module _ (img : List ℕ) (key : Key) (mode : ℕ) where
   pub close-owner : (b : ℕ) → ownerOf (close img key mode .image) b ≡ ownerOf img b
   unfolding close
   close-owner b =
-      settled-image (closeRows img key mode) img [] _ (λ (left : List ℕ). ownerOf left b ≡ ownerOf img b) refl
+      image-by (closeRows img key mode) img [] _ (λ (left : List ℕ). ownerOf left b ≡ ownerOf img b) refl
       (λ none.
       let f = close-cleared img key mode none .file in
       owner-word refl (f .right) (f .inside) (closeWord mode) (closeValue mode (fileOf img key)) (word-least (eqb mode 4)) (word-most (eqb mode 4)) b)

@@ -4,10 +4,6 @@ pub mod Cleared
 pub mod OpenRows
 pub mod CloseRows
 pub mod Success
-pub mod Settled
 pub mod EntryWord
 pub mod Opened
 pub mod Closed
-pub mod FirstCodes
-pub mod OpenCodes
-pub mod CloseCodes

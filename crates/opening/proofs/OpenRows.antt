@@ -11,7 +11,6 @@ use Rattle.answers.proofs.Refusals.{refuse, pass, clear}
 use Rattle.pack.specs.declared.Geometry.{Geometry}
 use Rattle.pack.specs.declared.Entry.{Entry}
 use Rattle.pack.specs.declared.Key.{Key}
-use Rattle.asking.specs.declared.Asked.{Asked}
 use Rattle.asking.specs.declared.Asked.the-variants.{File, Refused}
 use Rattle.asking.specs.declared.Right.{Right}
 use Rattle.asking.specs.declared.Grant.{Grant}

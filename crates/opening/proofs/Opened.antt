@@ -7,19 +7,19 @@ use native.Mathlib.Omega.{arith}
 use borrow.Author.Tests.{eqb-false}
 use Rattle.pack.specs.declared.Key.{Key}
 use Rattle.pack.specs.Geometry.{geometryOf}
-use Rattle.pack.specs.File.{one}
 use Rattle.pack.specs.Consistent.{Consistent}
 use Rattle.pack.specs.Owner.{ownerOf}
 use Rattle.pack.specs.Untouched.{Untouched}
 use Rattle.asking.specs.Asked.{entryNo, fileOf}
 use Rattle.asking.specs.Written.{setEntryWord}
+use Rattle.asking.specs.Outcome.{Unchanged}
+use Rattle.asking.proofs.Outcome.{refusal-keeps, image-by}
 use Rattle.frame.proofs.Described.{used-description}
 use Rattle.frame.proofs.Untouched.{untouched-refl}
 use Rattle.opening.specs.declared.Opening.{Opening}
 use Rattle.opening.specs.declared.Opening.the-variants.{Input, Update, Extension}
 use Rattle.opening.specs.Open.{openRows, openWord, openValue, opened}
 use Rattle.opening.proofs.Success.{OpenCleared, open-cleared}
-use Rattle.opening.proofs.Settled.{Unchanged, refused-kept, settled-image}
 use Rattle.opening.proofs.EntryWord.{Rules, consistent-writer, consistent-readers, untouched-word, owner-word}
 
 word-least : (mode : Opening) → 9 ≤ openWord mode
@@ -65,17 +65,17 @@ module _ (img : List ℕ) (key : Key) (caller : ℕ) where
 module _ (mode : Opening) (img : List ℕ) (key : Key) (caller : ℕ) where
   pub open-refused : (opened mode img key caller .code ≡ 0 → ⊥) → Unchanged (opened mode img key caller) [] img []
   unfolding opened
-  open-refused never = refused-kept (openRows mode img key caller) img [] _ never
+  open-refused never = refusal-keeps (openRows mode img key caller) img [] _ never
 
   pub open-consistent : Consistent img → Consistent (opened mode img key caller .image)
   unfolding opened
   open-consistent right =
-      settled-image (openRows mode img key caller) img [] _ Consistent right (λ none. consistent-opened img key caller mode (open-cleared mode img key caller none))
+      image-by (openRows mode img key caller) img [] _ Consistent right (λ none. consistent-opened img key caller mode (open-cleared mode img key caller none))
 
   pub open-untouched : (key′ : Key) → (key′ ≡ key → ⊥) → Untouched key′ img (opened mode img key caller .image)
   unfolding opened fileOf
   open-untouched key′ other =
-      settled-image (openRows mode img key caller) img [] _ (Untouched key′ img) (untouched-refl key′ img)
+      image-by (openRows mode img key caller) img [] _ (Untouched key′ img) (untouched-refl key′ img)
       (λ none.
       let f = open-cleared mode img key caller none .file in
       untouched-word refl (f .right) (f .inside) (openWord mode) (openValue mode (fileOf img key)) (word-least mode) (word-most mode) (f .keyed) key′ other)
@@ -83,7 +83,7 @@ module _ (mode : Opening) (img : List ℕ) (key : Key) (caller : ℕ) where
   pub open-owner : (b : ℕ) → ownerOf (opened mode img key caller .image) b ≡ ownerOf img b
   unfolding opened
   open-owner b =
-      settled-image (openRows mode img key caller) img [] _ (λ (left : List ℕ). ownerOf left b ≡ ownerOf img b) refl
+      image-by (openRows mode img key caller) img [] _ (λ (left : List ℕ). ownerOf left b ≡ ownerOf img b) refl
       (λ none.
       let f = open-cleared mode img key caller none .file in
       owner-word refl (f .right) (f .inside) (openWord mode) (openValue mode (fileOf img key)) (word-least mode) (word-most mode) b)

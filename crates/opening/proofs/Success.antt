@@ -7,6 +7,7 @@ use native.Mathlib.Omega.{arith}
 use lib.Dec.{eqb, ltb}
 use borrow.Author.Tests.{eqb-false, leb-false, not-false}
 use Rattle.answers.specs.Refusals.{firstOf}
+use Rattle.answers.proofs.Refusals.{none-given}
 use Rattle.pack.specs.declared.Entry.{Entry}
 use Rattle.pack.specs.declared.Key.{Key}
 use Rattle.pack.proofs.Headers.{header-sized}
@@ -21,7 +22,7 @@ use Rattle.opening.specs.Open.{rightFor, isUpdate, isExtension, isWritin
 use Rattle.opening.specs.Close.{wrongMode, isOpenAs, closeRows, closeWord, closeValue, close}
 use Rattle.opening.specs.Decision.{openDecided, closeDecided, Settable, codeOf, imageOf}
 use Rattle.opening.proofs.Deciding.{decided-code, decided-image, decided-settable}
-use Rattle.opening.proofs.Cleared.{Cleared, none-given, file-cleared}
+use Rattle.opening.proofs.Cleared.{Cleared, file-cleared}
 
 pub record OpenCleared (mode : Opening) (img : List ℕ) (key : Key) (caller : ℕ) : Type 0 where
   pub file : Cleared img key

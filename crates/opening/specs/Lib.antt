@@ -2,4 +2,3 @@
 pub mod Open
 pub mod Close
 pub mod Decision
-pub mod Codes

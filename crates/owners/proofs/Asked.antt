@@ -24,7 +24,7 @@ use Rattle.asking.proofs.Outcome.{settled-refused, settled-success}
 use Rattle.owners.specs.declared.OwnerAnswer.{OwnerAnswer}
 use Rattle.owners.specs.Owner.{OneOwner}
 use Rattle.owners.specs.Asked.{ownerRows, ownerNumbers, owner, ownerOutcome}
-use Rattle.owners.proofs.Owner.{one-owner, owner-system, owner-free, owner-held}
+use Rattle.owners.proofs.Owner.{owner-system, owner-free, owner-held}
 
 -- 40 and 44 stand in the order of the table
 pub owner-ordered : (img : List ℕ) (b : ℕ) → inOrder tableOrder 0 (ownerRows img b) ≡ true
@@ -126,11 +126,6 @@ pub record Answered (img : List ℕ) (b : ℕ) (given : Outcome) : Type 0 where
   pub one : OneOwner img b who
   pub code : given .code ≡ 0
   pub numbers : given .numbers ≡ ownerNumbers who
-
-pub owner-answer : {img : List ℕ} → Consistent img → (b : ℕ) → b < geometryOf img .blocks → Answered img b (owner img b)
-owner-answer {img} right b inside =
-    let is = tells img b (consistent-iff img .1 right) inside in
-    record { who = ownerOf img b; one = one-owner right b; code = ap (λ (o : Outcome). o .code) is; numbers = ap (λ (o : Outcome). o .numbers) is }
 
 -- what the numbers mean, each answer by itself
 module _ {img : List ℕ} (right : Consistent img) (b : ℕ) (inside : b < geometryOf img .blocks) where

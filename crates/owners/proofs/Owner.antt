@@ -23,19 +23,13 @@ use Rattle.owners.specs.Owner.OneOwner.{system, free, held-by}
 use Rattle.owners.proofs.Counting.{count-at, total-has, total-two}
 use Rattle.owners.proofs.Places.{Found, place-found, place-unique, Finds, holder-finds}
 use Rattle.owners.proofs.Places.Finds.{nobody, entry}
-use Rattle.owners.proofs.Blocks.{blocks-length, empty-length, reaches-bodies}
+use Rattle.owners.proofs.Blocks.{reaches-bodies}
 
 -- what is known of the entry e of a block held at its place p
 pub record InUse (img : List ℕ) (e p : ℕ) : Type 0 where
   pub used : Empty img (geometryOf img) e → ⊥
   pub place : p < entryOf img (geometryOf img) e .length
   pub blocks : length (blocksAt img (geometryOf img) e) ≡ entryOf img (geometryOf img) e .length
-
-pub held-used : {img : List ℕ} {e p b : ℕ} → HeldAt img e p b → InUse img e p
-held-used {img} {e} {p} at =
-    let blocks : length (blocksAt img (geometryOf img) e) ≡ entryOf img (geometryOf img) e .length = blocks-length img (geometryOf img) e in
-    let place : p < entryOf img (geometryOf img) e .length = omega (arith, at .place) in
-    record { used = λ empty. omega (arith, empty-length img (geometryOf img) e empty); place = place; blocks = blocks }
 
 -- an entry that has a block reaches it
 pub held-reaches : {img : List ℕ} {e p b : ℕ} → HeldAt img e p b → 0 < count b (blocksAt img (geometryOf img) e)

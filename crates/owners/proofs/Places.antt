@@ -1,6 +1,6 @@
 -- The place of a block in a list of blocks, and the entry whose file has it.
 use Prim.Native.Nat.{ℕ, suc, zero, _+_, _-_, _≤_, _<_}
-use mathlib.Core.Path.{_≡_, refl, sym, ap, _∙_}
+use mathlib.Core.Path.{_≡_, refl, sym, _∙_}
 use mathlib.Core.Logic.{_↔_}
 use mathlib.Core.Bool.{Bool, true, false, cond}
 use mathlib.Core.List.{List, [], _∷_}
@@ -17,7 +17,7 @@ use Rattle.pack.specs.File.{count}
 use Rattle.pack.specs.Entry.{blocksAt}
 use Rattle.pack.specs.Consistent.{total}
 use Rattle.pack.specs.Owner.{placeFrom, heldOr, holder}
-use Rattle.owners.proofs.Counting.{count-nil, count-same, count-other, count-at, count-two}
+use Rattle.owners.proofs.Counting.{count-nil, count-same, count-other, count-two}
 
 -- a place that is found is one of the list, and the block stands there
 pub record Found (b q p : ℕ) (xs : List ℕ) : Type 0 where
@@ -63,17 +63,6 @@ place-unique xs p q b once p-inside q-inside is also = by (decLt p q) (decLt q p
     by (yes before) w = absurd (omega (arith, count-two xs p q b before q-inside is also))
     by (no n) (yes before) = absurd (omega (arith, count-two xs q p b before p-inside also is))
     by (no n) (no m) = omega (arith, n, m)
-
--- and that place is the one found
-pub place-only : (b q p : ℕ) (xs : List ℕ) → count b xs ≤ 1 → p < length xs → getD xs p 0 ≡ b → placeFrom b q xs ≡ some (q + p)
-place-only b q p xs once inside is = by (placeFrom b q xs) refl
-  where
-    by : (o : Option ℕ) → placeFrom b q xs ≡ o → o ≡ some (q + p)
-    by none found = absurd (omega (arith, count-at xs p b inside is, place-none b q xs .0 found))
-    by (some r) found =
-        let there : Found b q r xs = place-found b q r xs found in
-        let same : r ≡ q + p = omega (arith, place-unique xs (r - q) p b once (there .inside) inside (there .is) is) in
-        ap some same
 
 -- whom `holder` finds among k entries from e on: nobody where no file reaches b, else an entry with a place of b
 pub data Finds (img : List ℕ) (g : Geometry) (b e k : ℕ) : Owner → Type 0 where

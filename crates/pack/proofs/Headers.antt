@@ -9,14 +9,12 @@ use native.Mathlib.Decide.{ℕ-discrete}
 use native.Mathlib.Nat.{mul-le-mul, mul-le-mul-right}
 use lib.Dec.{eqb, leb, ltb}
 use lib.ListN.{length}
-use borrow.Author.Tests.{eq-eqb, ne-eqb, eqb-true, eqb-false, leb-true, le-leb, lt-leb, ltb-true, lt-ltb, le-ltb, not-true, not-false}
+use borrow.Author.Tests.{eq-eqb, ne-eqb, eqb-true, eqb-false, leb-true, le-leb, lt-leb, ltb-true, lt-ltb, le-ltb, not-true}
 use Rattle.words.specs.Word.{wordAt}
-use Rattle.pack.specs.declared.Geometry.{Geometry}
-use Rattle.pack.specs.declared.Header.{Header}
 use Rattle.pack.specs.declared.Header.the-variants.{Right, Wrong}
 use Rattle.pack.specs.Form.{segmentsOf, leastBlocks, mostBlocksOf, leastContents, mostContentsOf, mostUicsOf, bodiesOf}
-use Rattle.pack.specs.Geometry.{geometryOf, blockWords, blockBytes, Sized}
-use Rattle.pack.specs.Header.{uicCount, uicAt, Listed, RightHeader}
+use Rattle.pack.specs.Geometry.{geometryOf, Sized}
+use Rattle.pack.specs.Header.{uicCount, Listed, RightHeader}
 use Rattle.pack.specs.Test.{zeros, among, distinct, listed, measured, headerTest, headerOf}
 use Rattle.pack.proofs.Tests.{and-left, and-right, and-both, go-on, stop, down, true-not-false}
 use Rattle.pack.proofs.Measures.{segments-few, blocks-most, contents-before, uics-fit}
@@ -345,9 +343,6 @@ pub header-long : (img : List ℕ) → RightHeader img → 2048 ≤ length img
 unfolding geometryOf
 header-long img h =
     omega (arith, h .size, mul-le-mul (h .blocksLeast) (h .known))
-
-cond-right : (t : Bool) (g : Geometry) → t ≡ true → cond t (Right g) Wrong ≡ Right g
-cond-right t g is = rw is
 
 module _ (img : List ℕ) where
   pub header-wrong : headerTest img ≡ false → Wrong ≡ headerOf img

@@ -8,7 +8,7 @@ use Rattle.words.specs.Word.{wordAt}
 use Rattle.radix.specs.Names.{LegalName, LegalExtension}
 use Rattle.pack.specs.declared.Geometry.{Geometry}
 use Rattle.pack.specs.declared.Entry.{Entry}
-use Rattle.pack.specs.Geometry.{entryAt, slots}
+use Rattle.pack.specs.Geometry.{entryAt}
 use Rattle.pack.specs.Header.{Listed}
 use Rattle.pack.specs.File.{nextOf, after, lastOf, blocksOf, one, count}
 

@@ -1,5 +1,4 @@
 -- Where a reader of a line ends, whatever it read there; or the place of the refusal.
-use Prim.Native.Nat.{ℕ}
 use Rattle.grammar.specs.Reader.{Res, ok, no}
 use Rattle.cursor.specs.declared.Part.{Part}
 use Rattle.cursor.specs.declared.Part.the-variants.{Read, Refused}

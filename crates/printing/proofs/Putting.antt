@@ -29,10 +29,6 @@ put-then {s} {t} {u} {i} {j} {k} {xs} {ys} first second =
 pub put-length : {s t : List ℕ} {i j : ℕ} {xs : List ℕ} → Put s t i j xs → length t ≡ length s
 put-length {s} {t} {i} {j} {xs} put = ap length (put .text) ∙ length-sets s i xs
 
--- the bytes from the i-th on are still to be put
-pub copy-all : (s p : List ℕ) (at : ℕ) → sets s at p ≡ sets s (at + 0) p
-copy-all s p at = rw add-zero
-
 pub copy-step : (s p : List ℕ) (at i : ℕ) → i < length p
     → sets s (at + i) (drop i p) ≡ sets (set s (at + i) (getD p i 0)) (at + (i + 1)) (drop (i + 1) p)
 copy-step s p at i inside =

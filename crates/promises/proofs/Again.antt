@@ -12,6 +12,7 @@ use lib.ListN.{length, getD}
 use lib.Seq.{getD-append-add}
 use borrow.Author.Tests.{eq-eqb, ne-eqb, eqb-true, lt-ltb, not-false}
 use Rattle.answers.specs.Conversion.{orElse}
+use Rattle.answers.proofs.Refusals.{none-given}
 use Rattle.pack.specs.declared.Geometry.{Geometry}
 use Rattle.pack.specs.declared.Entry.{Entry}
 use Rattle.pack.specs.declared.Key.{Key}
@@ -32,6 +33,7 @@ use Rattle.asking.specs.Written.{setEntryWord}
 use Rattle.asking.proofs.Keys.{legal-iff, found-iff}
 use Rattle.asking.proofs.Rights.{may-iff}
 use Rattle.asking.proofs.Stage.{FileAsked, asked-is-file, asked-file, file-at}
+use Rattle.asking.proofs.Outcome.{code-is, success-image}
 use Rattle.frame.specs.Framed.{Kept}
 use Rattle.frame.proofs.Counting.{count-place}
 use Rattle.frame.proofs.Frame.{stated-framed, entries-at}
@@ -39,18 +41,13 @@ use Rattle.frame.proofs.Described.{described-blocks}
 use Rattle.frame.proofs.Resized.{linked-used, resized-alike}
 use Rattle.frame.proofs.Grown.{grown-framed, grown-blocks, grown-consistent}
 use Rattle.owners.proofs.Blocks.{blocks-length}
-use Rattle.creation.proofs.Settling.{code-is, image-done}
 use Rattle.opening.specs.declared.Opening.the-variants.{Input}
 use Rattle.opening.specs.Open.{openRows, opened}
 use Rattle.opening.specs.Close.{closeRows, close}
-use Rattle.opening.specs.Codes.{HasFile}
-use Rattle.opening.specs.Codes as C
-use Rattle.opening.proofs.Cleared.{none-given, file-cleared}
+use Rattle.opening.proofs.Cleared.{file-cleared}
 use Rattle.opening.proofs.EntryWord.{framed, described, same-file, protect-same, kind-same, writer-new, readers-kept, readers-new}
 use Rattle.opening.proofs.Closed.{close-consistent}
 use Rattle.opening.proofs.Opened.{open-consistent}
-use Rattle.opening.proofs.CloseCodes.{close-code-iff}
-use Rattle.opening.proofs.OpenCodes.{open-code-iff}
 use Rattle.transfer.specs.Parts.{payloadOf}
 use Rattle.transfer.specs.Linked.{wrongPayload, linkedRead}
 use Rattle.transfer.proofs.Stage.{Placed}
@@ -59,6 +56,8 @@ use Rattle.growth.specs.Adding.{linkedAddRows, linkedAdd}
 use Rattle.growth.proofs.Payloads.{run-same}
 use Rattle.growth.proofs.Enlarged.{Enlarged}
 use Rattle.growth.proofs.Added.{add-admitted, add-enlarged}
+use Rattle.promises.specs.Codes.{behind, writing, FileCode}
+use Rattle.promises.proofs.Codes.{file-behind, openi-code-iff, close-code-iff}
 
 -- "0 delete, write, read; 1 write, read; 2, 3 read", and "the owner always reads": who has any right may read
 field-reads : (right : Right) (field : ℕ) → InField right field → InField Read field
@@ -114,16 +113,11 @@ module _ {img : List ℕ} {key : Key} {g : Geometry} {e caller place : ℕ} {pay
   here : (e < slots (geometryOf img)) × Keyed key (entryOf img (geometryOf img) e)
   here = subst (λ (h : Geometry). (e < slots h) × Keyed key (entryOf img h e)) (stored .stated) (stored .within, stored .keyed)
 
-  file : HasFile img key (entryOf img g e)
-  file =
-      record {
-        right = stored .right;
-        legal = legal-iff key .0 (stored .legal);
-        at = e;
-        inside = here .0;
-        is = ap (λ (h : Geometry). entryOf img h e) (stored .stated);
-        keyed = stored .keyed;
-      }
+  -- the first rows have nothing against it
+  first-behind : {Wrong : Type 0} {Own : ℕ → Type 0} {code : ℕ} → (Wrong → ⊥) → Own code → FileCode img key Wrong Own code
+  first-behind good own =
+      let names = legal-iff key .0 (stored .legal) in
+      file-behind (stored .right) (record { name = names .0; extension = names .1 }) good (record { entry = e; inside = here .0; keyed = here .1 }) own
 
   there : found img key ≡ some e
   there = found-iff (stored .right) key (stored .legal) e .1 here
@@ -201,13 +195,13 @@ module _ {img : List ℕ} {key : Key} {g : Geometry} {e caller place : ℕ} {pay
     close-stored : close img key mode .code ≡ 0
     close-stored =
         close-code-iff img key mode 0 .1
-        (C.CloseCode.success file (⊎-elim (λ zero. omega (arith, zero)) (λ more. omega (arith, more)))
-        (C.OpenAs.writing (λ four. omega (arith, four)) writer))
+        (first-behind (⊎-elim (λ zero. omega (arith, zero)) (λ more. omega (arith, more)))
+        (behind (λ never. never (rw own (writing {mode = mode} (λ four. omega (arith, four)) writer))) refl))
 
     close-word : close img key mode .image ≡ setEntryWord img g e 9 0
     unfolding close
     close-word =
-        image-done (closeRows img key mode) img [] _ (sym (code-is (closeRows img key mode) img [] _) ∙ close-stored)
+        success-image (closeRows img key mode) img [] _ (sym (code-is (closeRows img key mode) img [] _) ∙ close-stored)
         ∙ rw (number, sym (stored .stated), ne-eqb mode 4 (λ four. omega (arith, four))) refl
 
     stored-closed : Stored (close img key mode .image) key g e caller place payload
@@ -226,19 +220,15 @@ module _ {img : List ℕ} {key : Key} {g : Geometry} {e caller place : ℕ} {pay
     open-stored : opened Input img key caller .code ≡ 0
     open-stored =
         let nobody : one (ltb 0 (entryOf img g e .writer)) ≡ 0 = ap (λ (n : ℕ). one (ltb 0 n)) writer in
-        open-code-iff Input img key caller 0 .1
-        (C.OpenCode.success
-        (record {
-          allowed = record { file = file; whole = λ two. omega (arith, two, writer); right = stored .readable };
-          extensible = λ is one. omega (arith, one, stored .linked);
-          updatable = λ is two. let z : _≡_ {A = ℕ} 0 1 = cc in omega arith;
-        })
-        (λ writes. writer) (omega (arith, few, nobody)))
+        openi-code-iff img key caller 0 .1
+        (first-behind (λ never. never)
+        (rw own
+        (behind (λ two. omega (arith, two, writer)) (behind (λ never. never (stored .readable)) (behind (λ many. omega (arith, many, few, nobody)) refl)))))
 
     open-word : opened Input img key caller .image ≡ setEntryWord img g e 10 (entryOf img g e .readers + 1)
     unfolding opened
     open-word =
-        image-done (openRows Input img key caller) img [] _ (sym (code-is (openRows Input img key caller) img [] _) ∙ open-stored)
+        success-image (openRows Input img key caller) img [] _ (sym (code-is (openRows Input img key caller) img [] _) ∙ open-stored)
         ∙ rw (own, number, sym (stored .stated)) refl
 
     stored-opened : Stored (opened Input img key caller .image) key g e caller place payload

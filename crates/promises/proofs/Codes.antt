@@ -2,14 +2,14 @@
 use Prim.Native.Nat.{ℕ, _≤_, _<_}
 use mathlib.Core.Path.{_≡_, refl, sym, ap, subst, _∙_}
 use mathlib.Core.Logic.{_↔_, _⊎_, inl, inr, ⊎-elim}
-use mathlib.Core.Bool.{Bool, true, false, not, _&&_, _||_}
+use mathlib.Core.Bool.{Bool, true, false, not, _||_}
 use mathlib.Core.List.{List, [], _∷_, _++_, append-nil}
 use mathlib.Core.Option.{Option, none, some}
 use native.Mathlib.Omega.{arith}
-use native.Mathlib.Decide.{decLt}
+use native.Mathlib.Decide.{ℕ-discrete, decLt}
 use lib.Dec.{eqb, leb, ltb}
 use lib.ListN.{length}
-use borrow.Author.Tests.{not-true, not-false, eqb-true, eqb-false, ltb-true, lt-ltb, leb-true, le-leb, eq-eqb}
+use borrow.Author.Tests.{not-false, eqb-true, eqb-false, ltb-true, lt-ltb, leb-true, le-leb, eq-eqb, ne-eqb}
 use Rattle.answers.specs.Refusals.{Row, row, firstOf}
 use Rattle.answers.specs.Conversion.{missing}
 use Rattle.answers.proofs.Refusals.{clear}
@@ -30,7 +30,11 @@ use Rattle.asking.specs.Outcome.{settled}
 use Rattle.asking.specs.Rights.{may, May}
 use Rattle.asking.proofs.Keys.{legal-iff, found-iff, absent-iff}
 use Rattle.asking.proofs.Rights.{may-iff}
-use Rattle.asking.proofs.Opens.{open-iff}
+use Rattle.asking.proofs.Opens.{open-iff, full-iff}
+use Rattle.owners.specs.Asked.{owner, ownerRows}
+use Rattle.opening.specs.declared.Opening.the-variants.{Input, Update, Extension}
+use Rattle.opening.specs.Open.{opened, openRows}
+use Rattle.opening.specs.Close.{wrongMode, isOpenAs, close, closeRows}
 use Rattle.directory.specs.Look.{look, lookRows}
 use Rattle.directory.specs.Delet.{delet, deletRows}
 use Rattle.directory.specs.Keep.{keep, keepRows}
@@ -39,14 +43,16 @@ use Rattle.growth.specs.Appnd.{sameKey, appnd, appndRows}
 use Rattle.growth.specs.Adding.{linkedAdd, linkedAddRows}
 use Rattle.transfer.specs.Block.{blockIn, blockInRows, blockOut, blockOutRows}
 use Rattle.transfer.specs.Linked.{linkedRead, linkedReadRows}
+use Rattle.creation.specs.Format.{format, formatRows, formatTest}
 use Rattle.creation.specs.Creating.{creatingRows, lowestEmpty}
 use Rattle.creation.specs.Openo.{openo}
 use Rattle.creation.specs.Alloc.{alloc, allocRows, highestRun, lengthFor}
 use Rattle.creation.specs.Choice.{FreeRun}
+use Rattle.creation.proofs.Formatting.{format-iff}
 use Rattle.creation.proofs.Rounding.{blocks-some}
 use Rattle.creation.proofs.Lowest.{empty-none}
 use Rattle.creation.proofs.Highest.{run-none}
-use Rattle.promises.specs.Codes.{Rung, here, behind, Success, Legal, Exists, Lacking, FileCode, LookCode, DeletCode, KeepCode, RenamCode, AppndCode, Full, CreatingCode, OpenoCode, AllocCode, OtherBlock, OtherPayload, PlaceCode, BlockInCode, BlockOutCode, LinkedReadCode, LinkedAddCode}
+use Rattle.promises.specs.Codes.{Rung, here, behind, Success, Legal, Exists, FileCode, FormatCode, OwnerCode, LookCode, OpeniCode, OpenuCode, OpeneCode, NoMode, OpenAs, writing, reading, CloseCode, DeletCode, KeepCode, RenamCode, AppndCode, Full, CreatingCode, OpenoCode, AllocCode, BlockInCode, BlockOutCode, LinkedReadCode, LinkedAddCode}
 
 -- a test that fails denies what it decides
 fails : {A : Type 0} (b : Bool) → (b ≡ true ↔ A) → b ≡ false → A → ⊥
@@ -63,6 +69,12 @@ unfolding firstOf
 rung true code rows iff rest = here (iff .0 refl)
 rung false code rows iff rest = behind (fails false iff refl) (rest refl)
 
+-- a row that is never given
+passed : (code : ℕ) (rows : List Row) {Given : Type 0} {given : ℕ} {Behind : ℕ → Type 0} → Rung Given given Behind (firstOf rows)
+    → Rung Given given Behind (firstOf (row false code ∷ rows))
+unfolding firstOf
+passed code rows rung = rung
+
 -- what is given has one code
 abbrev pub One : (ℕ → Type 0) → Type 0
 One Code = (a b : ℕ) → Code a → Code b → a ≡ b
@@ -75,6 +87,9 @@ rung-one one a b (behind never x) (behind again y) = one a b x y
 
 pub success-one : One Success
 success-one a b x y = x ∙ sym y
+
+four-one : {A B C D : Type 0} {a b c d : ℕ} → One (Rung A a (Rung B b (Rung C c (Rung D d Success))))
+four-one = rung-one (rung-one (rung-one (rung-one success-one)))
 
 -- the code given is this one exactly in its case
 pub exactly : {Code : ℕ → Type 0} {given : ℕ} → One Code → Code given → (code : ℕ) → given ≡ code ↔ Code code
@@ -111,6 +126,14 @@ equal-numbers a b = (eqb-true a b, eq-eqb a b)
 
 above : (a b : ℕ) → ltb a b ≡ true ↔ a < b
 above a b = (ltb-true a b, lt-ltb a b)
+
+at-least : (a b : ℕ) → leb a b ≡ true ↔ a ≤ b
+at-least a b = (leb-true a b, le-leb a b)
+
+either : {A B : Type 0} (a b : Bool) → a ≡ true ↔ A → b ≡ true ↔ B → a || b ≡ true ↔ A ⊎ B
+either true b first second = (λ t. inl (first .0 refl), λ x. refl)
+either false true first second = (λ t. inr (second .0 refl), λ x. refl)
+either false false first second = (λ never. true-not-false (sym never), λ x. ⊎-elim (first .1) (second .1) x)
 
 granted : (right : Right) (caller uic protect : ℕ) → not (may right caller uic protect) ≡ true ↔ (May caller uic protect right → ⊥)
 granted right caller uic protect = denies (may right caller uic protect) (may-iff right caller uic protect)
@@ -149,9 +172,32 @@ module _ (img : List ℕ) (key : Key) (wrong : Bool) (Wrong : Type 0) (decides :
 file-one : {img : List ℕ} {key : Key} {Wrong : Type 0} {Own : ℕ → Type 0} → One Own → One (FileCode img key Wrong Own)
 file-one one = rung-one (rung-one (rung-one (rung-one one)))
 
+-- a file with nothing against it at the first rows
+pub file-behind : {img : List ℕ} {key : Key} {Wrong : Type 0} {Own : ℕ → Type 0} {code : ℕ} → Consistent img → Legal key → (Wrong → ⊥) → Exists img key → Own code
+    → FileCode img key Wrong Own code
+file-behind right legal good there own =
+    behind (λ never. never right) (behind (λ never. never legal) (behind good (behind (λ never. never there) own)))
+
 -- a request that has no argument of its own
 no-argument : false ≡ true ↔ ⊥
 no-argument = (λ never. true-not-false (sym never), λ never. absurd never)
+
+format-code : (image : List ℕ) (form blocks contents : ℕ) (uics : List ℕ)
+    → FormatCode image form blocks contents uics (format image form blocks contents uics .code)
+unfolding format formatRows settled
+format-code image form blocks contents uics =
+    rung _ 0o41 _ (denies (formatTest (length image) form blocks contents uics) (format-iff (length image) form blocks contents uics)) (λ f. clear)
+
+pub format-code-iff : (image : List ℕ) (form blocks contents : ℕ) (uics : List ℕ) (code : ℕ)
+    → format image form blocks contents uics .code ≡ code ↔ FormatCode image form blocks contents uics code
+format-code-iff image form blocks contents uics = exactly (rung-one success-one) (format-code image form blocks contents uics)
+
+owner-code : (img : List ℕ) (block : ℕ) → OwnerCode img block (owner img block .code)
+unfolding owner ownerRows settled
+owner-code img block = rung _ 0o40 _ (judged img) (λ c. rung _ 0o44 _ (at-least (geometryOf img .blocks) block) (λ b. clear))
+
+pub owner-code-iff : (img : List ℕ) (block code : ℕ) → owner img block .code ≡ code ↔ OwnerCode img block code
+owner-code-iff img block = exactly (rung-one (rung-one success-one)) (owner-code img block)
 
 look-code : (img : List ℕ) (key : Key) → LookCode img key (look img key .code)
 unfolding look lookRows settled
@@ -161,6 +207,66 @@ look-code img key =
 
 pub look-code-iff : (img : List ℕ) (key : Key) (code : ℕ) → look img key .code ≡ code ↔ LookCode img key code
 look-code-iff img key = exactly (file-one success-one) (look-code img key)
+
+openi-code : (img : List ℕ) (key : Key) (caller : ℕ) → OpeniCode img key caller (opened Input img key caller .code)
+unfolding opened openRows settled
+openi-code img key caller =
+    file-code img key false ⊥ no-argument _ _ (λ right.
+    rung _ 0o2 _ (equal-numbers _ 2) (λ w.
+    rung _ 0o6 _ (granted _ caller _ _) (λ r. passed 0o5 _ (passed 0o43 _ (passed 0o4 _ (rung _ 0o3 _ (full-iff _) (λ o. clear)))))))
+
+pub openi-code-iff : (img : List ℕ) (key : Key) (caller code : ℕ) → opened Input img key caller .code ≡ code ↔ OpeniCode img key caller code
+openi-code-iff img key caller = exactly (file-one (rung-one (rung-one (rung-one success-one)))) (openi-code img key caller)
+
+openu-code : (img : List ℕ) (key : Key) (caller : ℕ) → OpenuCode img key caller (opened Update img key caller .code)
+unfolding opened openRows settled
+openu-code img key caller =
+    file-code img key false ⊥ no-argument _ _ (λ right.
+    rung _ 0o2 _ (equal-numbers _ 2) (λ w.
+    rung _ 0o6 _ (granted _ caller _ _) (λ r.
+    passed 0o5 _ (rung _ 0o43 _ (equal-numbers _ 2) (λ k. rung _ 0o4 _ (above 0 _) (λ n. rung _ 0o3 _ (full-iff _) (λ o. clear)))))))
+
+pub openu-code-iff : (img : List ℕ) (key : Key) (caller code : ℕ) → opened Update img key caller .code ≡ code ↔ OpenuCode img key caller code
+openu-code-iff img key caller = exactly (file-one (rung-one four-one)) (openu-code img key caller)
+
+opene-code : (img : List ℕ) (key : Key) (caller : ℕ) → OpeneCode img key caller (opened Extension img key caller .code)
+unfolding opened openRows settled
+opene-code img key caller =
+    file-code img key false ⊥ no-argument _ _ (λ right.
+    rung _ 0o2 _ (equal-numbers _ 2) (λ w.
+    rung _ 0o6 _ (granted _ caller _ _) (λ r.
+    rung _ 0o5 _ (equal-numbers _ 1) (λ k. passed 0o43 _ (rung _ 0o4 _ (above 0 _) (λ n. rung _ 0o3 _ (full-iff _) (λ o. clear)))))))
+
+pub opene-code-iff : (img : List ℕ) (key : Key) (caller code : ℕ) → opened Extension img key caller .code ≡ code ↔ OpeneCode img key caller code
+opene-code-iff img key caller = exactly (file-one (rung-one four-one)) (opene-code img key caller)
+
+pub mode-iff : (mode : ℕ) → wrongMode mode ≡ true ↔ NoMode mode
+mode-iff mode = either (eqb mode 0) (ltb 4 mode) (equal-numbers mode 0) (above 4 mode)
+
+pub as-iff : (mode : ℕ) (x : Entry) → isOpenAs mode x ≡ true ↔ OpenAs x mode
+unfolding isOpenAs
+as-iff mode x = by (ℕ-discrete mode 4)
+  where
+    by : Dec (mode ≡ 4) → isOpenAs mode x ≡ true ↔ OpenAs x mode
+    by (yes four) = (λ t. reading four (ltb-true 0 (x .readers) (rw (eq-eqb mode 4 four) at t)), to)
+      where
+        to : OpenAs x mode → isOpenAs mode x ≡ true
+        to (writing other is) = absurd (other four)
+        to (reading is there) = rw (eq-eqb mode 4 four) (lt-ltb 0 (x .readers) there)
+    by (no other) = (λ t. writing other (eqb-true (x .writer) mode (rw (ne-eqb mode 4 other) at t)), to)
+      where
+        to : OpenAs x mode → isOpenAs mode x ≡ true
+        to (writing again is) = rw (ne-eqb mode 4 other) (eq-eqb (x .writer) mode is)
+        to (reading four there) = absurd (other four)
+
+close-code : (img : List ℕ) (key : Key) (mode : ℕ) → CloseCode img key mode (close img key mode .code)
+unfolding close closeRows settled
+close-code img key mode =
+    file-code img key (wrongMode mode) (NoMode mode) (mode-iff mode) _ _
+    (λ right. rung _ 0o45 _ (denies (isOpenAs mode (fileOf img key)) (as-iff mode (fileOf img key))) (λ o. clear))
+
+pub close-code-iff : (img : List ℕ) (key : Key) (mode code : ℕ) → close img key mode .code ≡ code ↔ CloseCode img key mode code
+close-code-iff img key mode = exactly (file-one (rung-one success-one)) (close-code img key mode)
 
 delet-code : (img : List ℕ) (key : Key) (caller : ℕ) → DeletCode img key caller (delet img key caller .code)
 unfolding delet deletRows settled
@@ -274,20 +380,9 @@ pub alloc-code-iff : (img : List ℕ) (key : Key) (caller protect segments code 
     → alloc img key caller protect segments .code ≡ code ↔ AllocCode img key caller protect segments code
 alloc-code-iff img key caller protect segments = exactly (creating-one (rung-one success-one)) (alloc-code img key caller protect segments)
 
-at-least : (a b : ℕ) → leb a b ≡ true ↔ a ≤ b
-at-least a b = (leb-true a b, le-leb a b)
-
-either : {A B : Type 0} (a b : Bool) → a ≡ true ↔ A → b ≡ true ↔ B → a || b ≡ true ↔ A ⊎ B
-either true b first second = (λ t. inl (first .0 refl), λ x. refl)
-either false true first second = (λ t. inr (second .0 refl), λ x. refl)
-either false false first second = (λ never. true-not-false (sym never), λ x. ⊎-elim (first .1) (second .1) x)
-
 -- the size of a buffer
 sized : (a b : ℕ) → not (eqb a b) ≡ true ↔ (a ≡ b → ⊥)
 sized a b = denies (eqb a b) (equal-numbers a b)
-
-four-one : {A B C D : Type 0} {a b c d : ℕ} → One (Rung A a (Rung B b (Rung C c (Rung D d Success))))
-four-one = rung-one (rung-one (rung-one (rung-one success-one)))
 
 block-in-code : (img : List ℕ) (key : Key) (caller place : ℕ) (buffer : List ℕ) → BlockInCode img key caller place buffer (blockIn img key caller place buffer .code)
 unfolding blockIn blockInRows settled

@@ -27,8 +27,8 @@ use Rattle.asking.specs.Keys.{legalKey, found}
 use Rattle.asking.specs.Rights.{may, May}
 use Rattle.asking.proofs.Keys.{found-iff, absent-iff, one-entry}
 use Rattle.asking.proofs.Rights.{may-iff}
-use Rattle.creation.specs.Format.{Formattable, format, formatted}
-use Rattle.creation.proofs.Formatting.{format-iff, format-refuses}
+use Rattle.creation.specs.Format.{Formattable, formatted}
+use Rattle.creation.proofs.Formatting.{format-iff}
 use Rattle.creation.proofs.EmptyPack.{format-consistent, format-free}
 
 -- code 40 has its condition: any image is judged, exactly as document 01 says
@@ -71,11 +71,8 @@ module _ {img : List ℕ} (right : Consistent img) (key : Key) (legal : legalKey
 pub figure : (right : Right) (caller uic protect : ℕ) → may right caller uic protect ≡ true ↔ May caller uic protect right
 figure = may-iff
 
--- Format: "41 unless the image is 512n bytes and n, c, UICs are as above", and then a consistent pack, whose bodies are all free
+-- Format makes a consistent pack, whose bodies are all free
 module _ (image : List ℕ) (form blocks contents : ℕ) (uics : List ℕ) where
-  pub format-41 : format image form blocks contents uics .code ≡ 0o41 ↔ (Formattable (length image) form blocks contents uics → ⊥)
-  format-41 = format-refuses image form blocks contents uics
-
   module _ (right : Formattable (length image) form blocks contents uics) where
     pub format-makes : Consistent (formatted image form blocks contents uics)
     format-makes = format-consistent image form blocks contents uics (format-iff (length image) form blocks contents uics .1 right)

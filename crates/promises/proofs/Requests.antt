@@ -1,8 +1,8 @@
--- What is promised of the requests on an image, side by side: consistency, codes, room.
+-- What is promised of the requests on an image, side by side: consistency, refusals, room.
 use Prim.Native.Nat.{ℕ}
 use mathlib.Core.Path.{_≡_, refl}
 use mathlib.Core.Logic.{_↔_}
-use mathlib.Core.List.{List, _++_}
+use mathlib.Core.List.{List, _++_, [], _∷_}
 use lib.Dec.{eqb}
 use Rattle.answers.specs.Refusals.{firstOf}
 use Rattle.pack.specs.declared.Key.{Key}
@@ -10,33 +10,39 @@ use Rattle.pack.specs.Consistent.{Consistent}
 use Rattle.directory.specs.Delet.{delet}
 use Rattle.directory.specs.Keep.{keep}
 use Rattle.directory.specs.Renam.{renam, newKey}
-use Rattle.directory.proofs.Deleted.{delet-consistent}
-use Rattle.directory.proofs.Kept.{keep-consistent}
-use Rattle.directory.proofs.Renamed.{renam-consistent}
+use Rattle.directory.proofs.Deleted.{delet-consistent, delet-refused}
+use Rattle.directory.proofs.Kept.{keep-consistent, keep-refused}
+use Rattle.directory.proofs.Renamed.{renam-consistent, renam-refused}
+use Rattle.directory.specs.Look.{lookRows, look}
 use Rattle.opening.specs.declared.Opening.{Opening}
 use Rattle.opening.specs.Open.{opened}
 use Rattle.opening.specs.Close.{close}
-use Rattle.opening.specs.Codes.{OpenCode, CloseCode}
-use Rattle.opening.proofs.Opened.{open-consistent}
-use Rattle.opening.proofs.Closed.{close-consistent}
-use Rattle.opening.proofs.OpenCodes.{open-code-iff}
-use Rattle.opening.proofs.CloseCodes.{close-code-iff}
-use Rattle.pack.specs.Owner.{FreeBlock}
+use Rattle.opening.proofs.Opened.{open-consistent, open-refused}
+use Rattle.opening.proofs.Closed.{close-consistent, close-refused}
+use Rattle.pack.specs.Owner.{FreeBlock, ownerOf}
 use Rattle.asking.specs.Asked.{fileRows, fileOf}
+use Rattle.asking.specs.Outcome.{zeroed, Unchanged}
+use Rattle.asking.proofs.Outcome.{refusal-keeps}
 use Rattle.growth.specs.Appnd.{appnd}
 use Rattle.growth.specs.Adding.{linkedAdd}
 use Rattle.growth.specs.Stages.{addingRows}
-use Rattle.growth.proofs.Appnd.{appnd-consistent}
-use Rattle.growth.proofs.Added.{add-consistent, add-42-iff}
-use Rattle.transfer.specs.Block.{blockOut}
-use Rattle.transfer.specs.Linked.{wrongPayload}
+use Rattle.growth.proofs.Appnd.{appnd-consistent, appnd-refused}
+use Rattle.growth.proofs.Added.{add-consistent, add-42-iff, add-refused}
+use Rattle.transfer.specs.Block.{blockOut, blockIn}
+use Rattle.transfer.specs.Linked.{wrongPayload, linkedRead}
 use Rattle.transfer.proofs.Written.{block-out-consistent}
+use Rattle.transfer.proofs.Input.{block-in-refused}
+use Rattle.transfer.proofs.Output.{block-out-refused}
+use Rattle.transfer.proofs.Reading.{linked-read-refused}
 use Rattle.creation.specs.Creating.{creatingRows}
 use Rattle.creation.specs.Alloc.{alloc, lengthFor}
 use Rattle.creation.specs.Openo.{openo}
 use Rattle.creation.specs.Choice.{FreeRun}
-use Rattle.creation.proofs.Allocated.{alloc-consistent, alloc-42-iff}
-use Rattle.creation.proofs.OpenedOutput.{openo-consistent}
+use Rattle.creation.proofs.Allocated.{alloc-consistent, alloc-42-iff, alloc-refused}
+use Rattle.creation.proofs.OpenedOutput.{openo-consistent, openo-refused}
+use Rattle.creation.specs.Format.{format}
+use Rattle.creation.proofs.Formatting.{format-unchanged}
+use Rattle.owners.specs.Asked.{ownerRows, ownerNumbers, owner}
 
 -- 2.2 "The image stays consistent"
 pub record StaysConsistent (img : List ℕ) : Type 0 where
@@ -66,12 +72,56 @@ stays-consistent {img} right =
       linkedAdd = λ key caller payload. add-consistent img key caller payload right;
     }
 
--- 1.2 for the opens and CLOSE; the others in Codes
-pub open-codes : (mode : Opening) (img : List ℕ) (key : Key) (caller code : ℕ) → opened mode img key caller .code ≡ code ↔ OpenCode mode img key caller code
-open-codes = open-code-iff
+-- 1.3 "and the image and each lent buffer then hold what they held before"; the numbers of the answer are 0
+pub record RefusedUnchanged (img : List ℕ) : Type 0 where
+  pub format : (form blocks contents : ℕ) (uics : List ℕ) → (format img form blocks contents uics .code ≡ 0 → ⊥) → Unchanged (format img form blocks contents uics) [] img uics
+  pub look : (key : Key) → (look img key .code ≡ 0 → ⊥) → Unchanged (look img key) (0 ∷ (0 ∷ (0 ∷ (0 ∷ (0 ∷ (0 ∷ [])))))) img []
+  pub owner : (block : ℕ) → (owner img block .code ≡ 0 → ⊥) → Unchanged (owner img block) (zeroed (ownerNumbers (ownerOf img block))) img []
+  pub alloc : (key : Key) (caller protect segments : ℕ) → (alloc img key caller protect segments .code ≡ 0 → ⊥)
+      → Unchanged (alloc img key caller protect segments) (0 ∷ []) img []
+  pub openo : (key : Key) (caller protect : ℕ) → (openo img key caller protect .code ≡ 0 → ⊥) → Unchanged (openo img key caller protect) [] img []
+  pub opens : (mode : Opening) (key : Key) (caller : ℕ) → (opened mode img key caller .code ≡ 0 → ⊥) → Unchanged (opened mode img key caller) [] img []
+  pub close : (key : Key) (mode : ℕ) → (close img key mode .code ≡ 0 → ⊥) → Unchanged (close img key mode) [] img []
+  pub delet : (key : Key) (caller : ℕ) → (delet img key caller .code ≡ 0 → ⊥) → Unchanged (delet img key caller) [] img []
+  pub renam : (old new : Key) (protect caller : ℕ) → (renam img old new protect caller .code ≡ 0 → ⊥) → Unchanged (renam img old new protect caller) [] img []
+  pub appnd : (first second : Key) (caller : ℕ) → (appnd img first second caller .code ≡ 0 → ⊥) → Unchanged (appnd img first second caller) [] img []
+  pub keep : (key : Key) (caller : ℕ) → (keep img key caller .code ≡ 0 → ⊥) → Unchanged (keep img key caller) [] img []
+  pub blockIn : (key : Key) (caller place : ℕ) (buffer : List ℕ) → (blockIn img key caller place buffer .code ≡ 0 → ⊥)
+      → Unchanged (blockIn img key caller place buffer) [] img buffer
+  pub blockOut : (key : Key) (caller place : ℕ) (buffer : List ℕ) → (blockOut img key caller place buffer .code ≡ 0 → ⊥)
+      → Unchanged (blockOut img key caller place buffer) [] img buffer
+  pub linkedRead : (key : Key) (caller place : ℕ) (buffer : List ℕ) → (linkedRead img key caller place buffer .code ≡ 0 → ⊥)
+      → Unchanged (linkedRead img key caller place buffer) [] img buffer
+  pub linkedAdd : (key : Key) (caller : ℕ) (payload : List ℕ) → (linkedAdd img key caller payload .code ≡ 0 → ⊥)
+      → Unchanged (linkedAdd img key caller payload) (0 ∷ []) img payload
 
-pub close-codes : (img : List ℕ) (key : Key) (mode code : ℕ) → close img key mode .code ≡ code ↔ CloseCode img key mode code
-close-codes = close-code-iff
+look-unchanged : (img : List ℕ) (key : Key) → (look img key .code ≡ 0 → ⊥) → Unchanged (look img key) (0 ∷ (0 ∷ (0 ∷ (0 ∷ (0 ∷ (0 ∷ [])))))) img []
+unfolding look
+look-unchanged img key = refusal-keeps (lookRows img key) img [] _
+
+owner-unchanged : (img : List ℕ) (block : ℕ) → (owner img block .code ≡ 0 → ⊥) → Unchanged (owner img block) (zeroed (ownerNumbers (ownerOf img block))) img []
+unfolding owner
+owner-unchanged img block = refusal-keeps (ownerRows img block) img [] _
+
+pub refused-unchanged : (img : List ℕ) → RefusedUnchanged img
+refused-unchanged img =
+    record {
+      format = format-unchanged img;
+      look = look-unchanged img;
+      owner = owner-unchanged img;
+      alloc = alloc-refused img;
+      openo = openo-refused img;
+      opens = λ mode. open-refused mode img;
+      close = close-refused img;
+      delet = delet-refused img;
+      renam = renam-refused img;
+      appnd = appnd-refused img;
+      keep = keep-refused img;
+      blockIn = block-in-refused img;
+      blockOut = block-out-refused img;
+      linkedRead = linked-read-refused img;
+      linkedAdd = add-refused img;
+    }
 
 -- 2.3 "A request for room with nothing else against it is refused exactly if no such room is free."
 pub room-refused : (img : List ℕ) (key : Key) (caller protect segments : ℕ) → firstOf (creatingRows img key caller protect (eqb segments 0)) ≡ 0

@@ -19,6 +19,7 @@ use Rattle.asking.specs.declared.Right.the-variants.{Delete, Read, Write}
 use Rattle.asking.specs.Asked.{fileOf}
 use Rattle.asking.specs.Rights.{May}
 use Rattle.asking.specs.Opens.{opens}
+use Rattle.creation.specs.Format.{Formattable}
 use Rattle.creation.specs.Alloc.{lengthFor}
 use Rattle.creation.specs.Choice.{FreeRun}
 use mathlib.Core.Option.{none, some}
@@ -56,9 +57,51 @@ abbrev pub FileCode : List ℕ → Key → Type 0 → (ℕ → Type 0) → ℕ �
 FileCode img key Wrong Own =
     Rung (Consistent img → ⊥) 0o40 (Rung (Legal key → ⊥) 0o15 (Rung Wrong 0o41 (Rung (Exists img key → ⊥) 0o2 Own)))
 
+-- Format: "41 unless the image is 512n bytes and n, c, UICs are as above"
+abbrev pub FormatCode : List ℕ → ℕ → ℕ → ℕ → List ℕ → ℕ → Type 0
+FormatCode image form blocks contents uics = Rung (Formattable (length image) form blocks contents uics → ⊥) 0o41 Success
+
+-- whose a block is: "It refuses with 40, and with 44 where the pack has no such block."
+abbrev pub OwnerCode : List ℕ → ℕ → ℕ → Type 0
+OwnerCode img block = Rung (Consistent img → ⊥) 0o40 (Rung (geometryOf img .blocks ≤ block) 0o44 Success)
+
 -- LOOK has no other code than success
 abbrev pub LookCode : List ℕ → Key → ℕ → Type 0
 LookCode img key = FileCode img key ⊥ Success
+
+-- an open: "2: .. OPENI, OPENE, OPENU also: writer is 2", "6: right lacking"
+abbrev pub OpenCode : Right → List ℕ → Key → ℕ → (ℕ → Type 0) → ℕ → Type 0
+OpenCode right img key caller Own = FileCode img key ⊥ (Rung (fileOf img key .writer ≡ 2) 0o2 (Rung (Lacking right caller (fileOf img key)) 0o6 Own))
+
+-- "3: 62 opens already", the writer counted
+abbrev pub OpensCode : Entry → ℕ → Type 0
+OpensCode x = Rung (62 ≤ opens x) 0o3 Success
+
+abbrev pub OpeniCode : List ℕ → Key → ℕ → ℕ → Type 0
+OpeniCode img key caller = OpenCode Read img key caller (OpensCode (fileOf img key))
+
+-- "43: OPENU .. of a linked file", "4: OPENE, OPENU: there is a writer"
+abbrev pub OpenuCode : List ℕ → Key → ℕ → ℕ → Type 0
+OpenuCode img key caller =
+    OpenCode Write img key caller (Rung (fileOf img key .kind ≡ 2) 0o43 (Rung (0 < fileOf img key .writer) 0o4 (OpensCode (fileOf img key))))
+
+-- "5: OPENE of a contiguous file"
+abbrev pub OpeneCode : List ℕ → Key → ℕ → ℕ → Type 0
+OpeneCode img key caller =
+    OpenCode Write img key caller (Rung (fileOf img key .kind ≡ 1) 0o5 (Rung (0 < fileOf img key .writer) 0o4 (OpensCode (fileOf img key))))
+
+-- "41: .. mode not 1 to 4"
+abbrev pub NoMode : ℕ → Type 0
+NoMode mode = (mode ≡ 0) ⊎ (4 < mode)
+
+-- "mode 1, 2, 3, or 4 (OPENI)": a writer of that mode, or with mode 4 a reader
+pub data OpenAs (x : Entry) : ℕ → Type 0 where
+  writing : {mode : ℕ} → (mode ≡ 4 → ⊥) → x .writer ≡ mode → OpenAs x mode
+  reading : {mode : ℕ} → mode ≡ 4 → 0 < x .readers → OpenAs x mode
+
+-- "45: .. CLOSE of a mode not open"
+abbrev pub CloseCode : List ℕ → Key → ℕ → ℕ → Type 0
+CloseCode img key mode = FileCode img key (NoMode mode) (Rung (OpenAs (fileOf img key) mode → ⊥) 0o45 Success)
 
 -- DELET: "14: .. a file is open"
 abbrev pub DeletCode : List ℕ → Key → ℕ → ℕ → Type 0

@@ -1,12 +1,12 @@
 -- RADPK and RADUP undo each other; and the answer of each of their cases.
 use Prim.Native.Nat.{ℕ}
 use mathlib.Core.Path.{_≡_, sym, ap, _∙_}
-use mathlib.Core.List.{List, [], _∷_}
-use mathlib.Core.Option.{Option, none, some}
+use mathlib.Core.List.{List}
+use mathlib.Core.Option.{none, some}
 use lib.ListN.{length, getD, set}
 use Rattle.answers.proofs.Conversion.{number-41, number-60, number-given, characters-41, characters-60, characters-given, number-again, in-parts}
 use Rattle.radix.specs.Characters.{codeOf, characterOf}
-use Rattle.radix.specs.Packing.{packed, packedIf, firstCode, secondCode, thirdCode, wordOf, charactersOf}
+use Rattle.radix.specs.Packing.{packed, firstCode, secondCode, thirdCode, wordOf, charactersOf}
 use Rattle.radix.specs.Conversions.{radpk, radup}
 use Rattle.radix.proofs.Packing.{word-pair, word-of-three, characters-three, three-set, unpacked-first, unpacked-second, unpacked-third}
 

@@ -7,13 +7,13 @@ use mathlib.Core.List.{List, [], _∷_, _++_}
 use mathlib.Core.Option.{Option, none, some}
 use native.Mathlib.Omega.{arith}
 use native.Mathlib.Decide.{ℕ-discrete, decLe}
-use lib.Dec.{leb, ltb, eqb}
+use lib.Dec.{leb, eqb}
 use lib.ListN.{length, take, drop, replicate, length-append, length-replicate, take-append-drop, length-take, length-drop}
 use lib.Seq.{take-at, drop-at}
 use borrow.Author.Tests.{not-true, eqb-true, le-leb, lt-leb, eq-eqb, ne-eqb}
-use Rattle.radix.specs.Characters.{codeOf, characterOf}
-use Rattle.radix.specs.Packing.{threeIf, firstCode, secondCode, thirdCode, wordOf, charactersOf}
-use Rattle.radix.specs.Names.{isLetter, isDigit, isLetterOrDigit, isLetterOrDigitIn, blank, every, blankFilled, thenBlanks, startsBlank, nameTest, extensionTest, LegalName, LegalExtension, legalName, legalExtension}
+use Rattle.radix.specs.Characters.{characterOf}
+use Rattle.radix.specs.Packing.{threeIf, firstCode, secondCode, thirdCode, charactersOf}
+use Rattle.radix.specs.Names.{isLetterOrDigit, isLetterOrDigitIn, blank, every, blankFilled, thenBlanks, startsBlank, nameTest, extensionTest, LegalName, LegalExtension, legalName, legalExtension}
 use Rattle.radix.proofs.Packing.{word-pair}
 use Rattle.radix.proofs.Characters.{Spelled, spelled, code-blank, character-blank, character-letter, character-dollar, character-period, character-digit, character-none}
 

@@ -30,10 +30,6 @@ threeIf (some x) (some y) none = none
 threeIf (some x) none z = none
 threeIf none y z = none
 
--- "A word of three blanks is 0."
-abbrev pub blankWord : ℕ
-blankWord = 0
-
 -- the first number that is no word of three codes below 40: "RADUP refuses a word with 29 or from 64000 up" (proofs/Packing.antt, `unpacking-refused`)
 abbrev pub upperEnd : ℕ
 upperEnd = 64000

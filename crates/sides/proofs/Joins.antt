@@ -8,7 +8,7 @@ use lib.ListN.{length, drop}
 use Rattle.grammar.specs.Characters.{is, comma}
 use Rattle.grammar.specs.Parsed.{Specification}
 use Rattle.grammar.specs.Reading.{specificationAt}
-use Rattle.grammar.specs.Reader.{Res, ok, no, mapped, from, one, specification, side}
+use Rattle.grammar.specs.Reader.{Res, ok, mapped, from, one, specification, side}
 use Rattle.cursor.specs.Parts.{partAt}
 use Rattle.cursor.specs.declared.Cursor.{Cursor}
 use Rattle.cursor.specs.declared.Part.{Part}

@@ -7,14 +7,8 @@ use native.Mathlib.Omega.{arith}
 use lib.ListN.{length, drop, set}
 use lib.Seq.{sets, sets-eq, set-comm}
 use Rattle.words.specs.Word.{setWord}
-use Rattle.words.proofs.Laws.{length-setWord}
 use Rattle.switches.specs.Encoded.{inBytes}
 use Rattle.switches.specs.Written.{setWords}
-
-pub length-setWords : (words bytes : List ℕ) (i : ℕ) → length (setWords bytes i words) ≡ length bytes
-unfolding setWords
-length-setWords [] bytes i = refl
-length-setWords (word ∷ words) bytes i = length-setWords words (setWord bytes i word) (i + 1) ∙ length-setWord bytes i word
 
 pub set-append : (xs ys bytes : List ℕ) (i : ℕ) → setWords bytes i (xs ++ ys) ≡ setWords (setWords bytes i xs) (i + length xs) ys
 unfolding setWords

@@ -23,11 +23,10 @@ use Rattle.asking.specs.declared.Right.{Right}
 use Rattle.asking.specs.declared.Asked.{Asked}
 use Rattle.asking.specs.declared.Asked.the-variants.{File, Refused}
 use Rattle.asking.specs.Outcome.{Outcome, zeroed, settled}
-use Rattle.asking.specs.Asked.{fileRows, fileOf}
-use Rattle.asking.proofs.Stage.{FileAsked}
+use Rattle.asking.specs.Asked.{fileRows, fileOf, stageOf}
+use Rattle.asking.proofs.Stage.{FileAsked, Staged, staged-file, outcome-refused, outcome-file}
 use Rattle.transfer.specs.Block.{wrongBlock, openForInput, blockAtPlace}
-use Rattle.transfer.specs.Stage.{stageOf}
-use Rattle.transfer.proofs.Stage.{Placed, Staged, staged-file, outcome-refused, outcome-file}
+use Rattle.transfer.proofs.Stage.{Placed}
 
 -- "a reader or writer 1"
 pub open-reader : (x : Entry) → 0 < x .readers → true ≡ openForInput x

@@ -13,14 +13,14 @@ use Rattle.pack.specs.Geometry.{geometryOf, blockBytes}
 use Rattle.asking.specs.declared.Right.the-variants.{Read}
 use Rattle.asking.specs.declared.Asked.{Asked}
 use Rattle.asking.specs.declared.Asked.the-variants.{File, Refused}
-use Rattle.asking.specs.Outcome.{Outcome}
-use Rattle.asking.specs.Asked.{fileRows, fileOf, askedOf}
-use Rattle.asking.proofs.Stage.{FileAsked}
-use Rattle.asking.proofs.Outcome.{settled-success}
+use Rattle.asking.specs.Outcome.{Outcome, Unchanged}
+use Rattle.asking.specs.Asked.{fileRows, fileOf, askedOf, stageOf}
+use Rattle.asking.proofs.Stage.{FileAsked, rows-none, stage-stopped, stage-passed}
+use Rattle.asking.proofs.Outcome.{settled-success, refusal-keeps}
 use Rattle.transfer.specs.Parts.{blockOf}
 use Rattle.transfer.specs.Block.{wrongBlock, openForInput, blockAtPlace, blockInRows, blockIn}
-use Rattle.transfer.specs.Stage.{placeRows, inputRows, stageOf}
-use Rattle.transfer.proofs.Stage.{Placed, placed-clear, clear-placed, rows-none, stage-stopped, stage-passed, settled-kept, settled-image}
+use Rattle.transfer.specs.Stage.{placeRows, inputRows}
+use Rattle.transfer.proofs.Stage.{Placed, placed-clear, clear-placed}
 use Rattle.transfer.proofs.Blocks.{BlockAsked, block-asked, blocks-refused, blocks-done, blocks-staged}
 
 -- 40, 15, 41, 2, 6, 43, 45 and 44 stand in the order of the table
@@ -37,10 +37,10 @@ module _ (img : List ℕ) (key : Key) (caller place : ℕ) (wrong : Bool) (asked
   judged-rows = judged ∙ ap (λ (t : Bool). firstOf (placeRows x caller Read 2 (not t) place)) says
 
   pub input-stopped : (code ≡ 0 → ⊥) → Refused code ≡ stageOf (fileRows img key wrong ++ inputRows caller place (fileOf img key)) img key
-  input-stopped never = stage-stopped img key wrong (inputRows caller place) asked is g e x told code judged-rows never
+  input-stopped never = stage-stopped img key wrong (inputRows caller place) asked is g e x told (sym judged-rows) never
 
   pub input-passed : code ≡ 0 → File g e x ≡ stageOf (fileRows img key wrong ++ inputRows caller place (fileOf img key)) img key
-  input-passed none = stage-passed img key wrong (inputRows caller place) asked is g e x told code judged-rows none
+  input-passed none = stage-passed img key wrong (inputRows caller place) asked is g e x told (sym judged-rows) none
 
 -- each answer of the request
 module _ (img : List ℕ) (key : Key) (caller place : ℕ) (buffer : List ℕ) (size : ℕ) (stated : size ≡ blockBytes (geometryOf img))
@@ -81,13 +81,9 @@ block-in-given img key caller place buffer {g} {e} {x} file own placed =
     settled-success (blockInRows img key caller place buffer) img buffer _
     (rows-none img key (wrongBlock img buffer) (inputRows caller place) file own (placed-clear x caller Read 2 (not (openForInput x)) place placed))
 
--- "and nothing in the image or a lent buffer changes": of a refusal; and an input leaves the image in any case
+-- "and nothing in the image or a lent buffer changes"
 module _ (img : List ℕ) (key : Key) (caller place : ℕ) (buffer : List ℕ) where
   pub block-in-refused : (blockIn img key caller place buffer .code ≡ 0 → ⊥)
-      → (blockIn img key caller place buffer .image ≡ img) × (blockIn img key caller place buffer .buffer ≡ buffer)
+      → Unchanged (blockIn img key caller place buffer) [] img buffer
   unfolding blockIn
-  block-in-refused never = settled-kept (blockInRows img key caller place buffer) img buffer _ never
-
-  pub block-in-image : blockIn img key caller place buffer .image ≡ img
-  unfolding blockIn
-  block-in-image = settled-image (blockInRows img key caller place buffer) img buffer _ refl
+  block-in-refused never = refusal-keeps (blockInRows img key caller place buffer) img buffer _ never

@@ -2,7 +2,7 @@
 use Prim.Native.Nat.{ℕ}
 use mathlib.Core.Path.{_≡_, refl, sym, ap, _∙_}
 use mathlib.Core.Bool.{Bool, true, not}
-use mathlib.Core.List.{List, _++_}
+use mathlib.Core.List.{List, _++_, []}
 use lib.Dec.{eqb}
 use lib.ListN.{length}
 use Rattle.answers.specs.Refusals.{firstOf, tableOrder, inOrder}
@@ -13,12 +13,14 @@ use Rattle.pack.specs.Geometry.{geometryOf, blockBytes}
 use Rattle.asking.specs.declared.Right.the-variants.{Write}
 use Rattle.asking.specs.declared.Asked.{Asked}
 use Rattle.asking.specs.declared.Asked.the-variants.{File, Refused}
-use Rattle.asking.specs.Outcome.{Outcome}
-use Rattle.asking.specs.Asked.{fileRows, fileOf, askedOf}
+use Rattle.asking.specs.Outcome.{Outcome, Unchanged}
+use Rattle.asking.specs.Asked.{fileRows, fileOf, askedOf, stageOf}
+use Rattle.asking.proofs.Stage.{stage-stopped, stage-passed}
+use Rattle.asking.proofs.Outcome.{refusal-keeps}
 use Rattle.transfer.specs.Parts.{withPart, blockStart}
 use Rattle.transfer.specs.Block.{wrongBlock, blockAtPlace, blockOutRows, blockOut}
-use Rattle.transfer.specs.Stage.{placeRows, outputRows, stageOf}
-use Rattle.transfer.proofs.Stage.{clear-placed, stage-stopped, stage-passed, settled-kept}
+use Rattle.transfer.specs.Stage.{placeRows, outputRows}
+use Rattle.transfer.proofs.Stage.{clear-placed}
 use Rattle.transfer.proofs.Blocks.{BlockAsked, block-asked, blocks-refused, blocks-done, blocks-staged}
 
 -- 40, 15, 41, 2, 6, 43, 45 and 44 stand in the order of the table
@@ -32,11 +34,11 @@ module _ (img : List ℕ) (key : Key) (caller place : ℕ) (wrong : Bool) (asked
     (code : ℕ) (judged : code ≡ firstOf (placeRows x caller Write 2 (not (eqb (x .writer) 1)) place)) where
   pub output-stopped : (code ≡ 0 → ⊥) → Refused code ≡ stageOf (fileRows img key wrong ++ outputRows caller place (fileOf img key)) img key
   unfolding outputRows
-  output-stopped never = stage-stopped img key wrong (outputRows caller place) asked is g e x told code judged never
+  output-stopped never = stage-stopped img key wrong (outputRows caller place) asked is g e x told (sym judged) never
 
   pub output-passed : code ≡ 0 → File g e x ≡ stageOf (fileRows img key wrong ++ outputRows caller place (fileOf img key)) img key
   unfolding outputRows
-  output-passed none = stage-passed img key wrong (outputRows caller place) asked is g e x told code judged none
+  output-passed none = stage-passed img key wrong (outputRows caller place) asked is g e x told (sym judged) none
 
 -- each answer of the request
 module _ (img : List ℕ) (key : Key) (caller place : ℕ) (buffer : List ℕ) (size : ℕ) (stated : size ≡ blockBytes (geometryOf img))
@@ -70,6 +72,6 @@ module _ (img : List ℕ) (key : Key) (caller place : ℕ) (buffer : List ℕ) (
 
 -- "and nothing in the image or a lent buffer changes"
 pub block-out-refused : (img : List ℕ) (key : Key) (caller place : ℕ) (buffer : List ℕ) → (blockOut img key caller place buffer .code ≡ 0 → ⊥)
-    → (blockOut img key caller place buffer .image ≡ img) × (blockOut img key caller place buffer .buffer ≡ buffer)
+    → Unchanged (blockOut img key caller place buffer) [] img buffer
 unfolding blockOut
-block-out-refused img key caller place buffer never = settled-kept (blockOutRows img key caller place buffer) img buffer _ never
+block-out-refused img key caller place buffer never = refusal-keeps (blockOutRows img key caller place buffer) img buffer _ never

@@ -17,14 +17,14 @@ use Rattle.owners.proofs.Search.{measured-sized, measured-blocks}
 use Rattle.asking.specs.declared.Right.the-variants.{Read}
 use Rattle.asking.specs.declared.Asked.{Asked}
 use Rattle.asking.specs.declared.Asked.the-variants.{File, Refused}
-use Rattle.asking.specs.Outcome.{Outcome}
-use Rattle.asking.specs.Asked.{fileRows, fileOf, askedOf}
-use Rattle.asking.proofs.Stage.{FileAsked}
-use Rattle.asking.proofs.Outcome.{settled-success}
+use Rattle.asking.specs.Outcome.{Outcome, Unchanged}
+use Rattle.asking.specs.Asked.{fileRows, fileOf, askedOf, stageOf}
+use Rattle.asking.proofs.Stage.{FileAsked, Staged, rows-none, stage-refused, stage-stopped, stage-passed, staged-file, outcome-refused, outcome-file}
+use Rattle.asking.proofs.Outcome.{settled-success, refusal-keeps}
 use Rattle.transfer.specs.Parts.{payloadOf}
-use Rattle.transfer.specs.Stage.{placeRows, readRows, stageOf}
+use Rattle.transfer.specs.Stage.{placeRows, readRows}
 use Rattle.transfer.specs.Linked.{wrongPayload, linkedReadRows, linkedRead}
-use Rattle.transfer.proofs.Stage.{Placed, placed-clear, clear-placed, Staged, rows-none, stage-refused, stage-stopped, stage-passed, staged-file, outcome-refused, outcome-file, settled-kept, settled-image}
+use Rattle.transfer.proofs.Stage.{Placed, placed-clear, clear-placed}
 use Rattle.transfer.proofs.Walk.{place-counted}
 
 -- 40, 15, 41, 2, 6, 43, 45 and 44 stand in the order of the table
@@ -41,11 +41,11 @@ module _ (img : List ℕ) (key : Key) (caller place : ℕ) (wrong : Bool) (asked
   module _ (g : Geometry) (e : ℕ) (x : Entry) (told : asked ≡ File g e x) (code : ℕ) (judged : code ≡ firstOf (placeRows x caller Read 1 (eqb (x .readers) 0) place)) where
     pub reading-stopped : (code ≡ 0 → ⊥) → Refused code ≡ stageOf (linkedReadRows img key caller place wrong) img key
     unfolding linkedReadRows readRows placeRows
-    reading-stopped never = stage-stopped img key wrong (readRows caller place) asked is g e x told code judged never
+    reading-stopped never = stage-stopped img key wrong (readRows caller place) asked is g e x told (sym judged) never
 
     pub reading-passed : code ≡ 0 → File g e x ≡ stageOf (linkedReadRows img key caller place wrong) img key
     unfolding linkedReadRows readRows placeRows
-    reading-passed none = stage-passed img key wrong (readRows caller place) asked is g e x told code judged none
+    reading-passed none = stage-passed img key wrong (readRows caller place) asked is g e x told (sym judged) none
 
 -- what is known of a file that the stage gives
 pub record Readable (img : List ℕ) (key : Key) (wrong : Bool) (g : Geometry) (x : Entry) (place : ℕ) : Type 0 where
@@ -115,13 +115,9 @@ linked-read-given img key caller place buffer {g} {e} {x} file own placed =
     settled-success (linkedReadRows img key caller place (wrongPayload img buffer)) img buffer _
     (rows-none img key (wrongPayload img buffer) (readRows caller place) file own (placed-clear x caller Read 1 (eqb (x .readers) 0) place placed))
 
--- "and nothing in the image or a lent buffer changes": of a refusal; and a read leaves the image in any case
+-- "and nothing in the image or a lent buffer changes"
 module _ (img : List ℕ) (key : Key) (caller place : ℕ) (buffer : List ℕ) where
   pub linked-read-refused : (linkedRead img key caller place buffer .code ≡ 0 → ⊥)
-      → (linkedRead img key caller place buffer .image ≡ img) × (linkedRead img key caller place buffer .buffer ≡ buffer)
+      → Unchanged (linkedRead img key caller place buffer) [] img buffer
   unfolding linkedRead
-  linked-read-refused never = settled-kept (linkedReadRows img key caller place (wrongPayload img buffer)) img buffer _ never
-
-  pub linked-read-image : linkedRead img key caller place buffer .image ≡ img
-  unfolding linkedRead
-  linked-read-image = settled-image (linkedReadRows img key caller place (wrongPayload img buffer)) img buffer _ refl
+  linked-read-refused never = refusal-keeps (linkedReadRows img key caller place (wrongPayload img buffer)) img buffer _ never

@@ -32,10 +32,11 @@ use Rattle.asking.specs.declared.Right.the-variants.{Write}
 use Rattle.asking.specs.Outcome.{Outcome, settled}
 use Rattle.asking.specs.Asked.{entryNo, fileOf}
 use Rattle.asking.proofs.Outcome.{settled-success}
+use Rattle.asking.proofs.Stage.{stage-clear}
 use Rattle.transfer.specs.Parts.{withPart, blockStart}
 use Rattle.transfer.specs.Block.{wrongBlock, blockAtPlace, blockOutRows, blockOut}
 use Rattle.transfer.specs.Stage.{placeRows, outputRows}
-use Rattle.transfer.proofs.Stage.{Placed, clear-placed, stage-clear}
+use Rattle.transfer.proofs.Stage.{Placed, clear-placed}
 use Rattle.transfer.proofs.Parts.{room-of}
 use Rattle.transfer.proofs.Blocks.{BlockAsked, block-asked, block-fits}
 use Rattle.transfer.proofs.Output.{block-out-refused}
@@ -173,7 +174,7 @@ module _ (img : List ℕ) (key : Key) (caller place : ℕ) (buffer : List ℕ) w
     where
       by : Dec (blockOut img key caller place buffer .code ≡ 0) → P (blockOut img key caller place buffer .image)
       by (yes success) = subst P (sym (output-image success)) (after success)
-      by (no refused) = subst P (sym (block-out-refused img key caller place buffer refused .0)) before
+      by (no refused) = subst P (sym (block-out-refused img key caller place buffer refused .same-image)) before
 
   pub block-out-consistent : Consistent img → Consistent (blockOut img key caller place buffer .image)
   block-out-consistent consistent = by-code Consistent consistent (λ success. written-consistent (output-asked success) buffer (output-fits success))
@@ -183,9 +184,6 @@ module _ (img : List ℕ) (key : Key) (caller place : ℕ) (buffer : List ℕ) w
 
   pub block-out-owner : (b : ℕ) → ownerOf (blockOut img key caller place buffer .image) b ≡ ownerOf img b
   block-out-owner b = by-code (λ (after : List ℕ). ownerOf after b ≡ ownerOf img b) refl (λ success. written-owner (output-asked success) buffer (output-fits success) b)
-
-  pub block-out-long : length (blockOut img key caller place buffer .image) ≡ length img
-  block-out-long = by-code (λ (after : List ℕ). length after ≡ length img) refl (λ success. written-kept (output-asked success) buffer (output-fits success) {Named = Never} .long)
 
   -- no other byte changes
   pub block-out-outside : (k : ℕ) → Outside (blockStart (geometryOf img) (blockAtPlace (fileOf img key) place)) (blockBytes (geometryOf img)) k

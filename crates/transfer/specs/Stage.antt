@@ -1,17 +1,12 @@
--- What the three requests judge alike once a file is found, and what their stages answer.
+-- What the three requests judge alike once a file is found.
 use Prim.Native.Nat.{ℕ}
 use mathlib.Core.Bool.{Bool, not}
 use mathlib.Core.List.{List, [], _∷_}
 use lib.Dec.{eqb, leb}
-use Rattle.answers.specs.Refusals.{Row, row, firstOf, onSuccess}
+use Rattle.answers.specs.Refusals.{Row, row}
 use Rattle.pack.specs.declared.Entry.{Entry}
-use Rattle.pack.specs.declared.Key.{Key}
-use Rattle.pack.specs.Geometry.{geometryOf}
 use Rattle.asking.specs.declared.Right.{Right}
 use Rattle.asking.specs.declared.Right.the-variants.{Read, Write}
-use Rattle.asking.specs.declared.Asked.{Asked}
-use Rattle.asking.specs.declared.Asked.the-variants.{File, Refused}
-use Rattle.asking.specs.Asked.{entryNo, fileOf}
 use Rattle.asking.specs.Rights.{may}
 use Rattle.transfer.specs.Block.{openForInput}
 
@@ -32,8 +27,3 @@ outputRows caller place x = placeRows x caller Write 2 (not (eqb (x .writer) 1))
 -- Linked read: "read right, a reader"
 unfoldable pub readRows : ℕ → ℕ → Entry → List Row
 readRows caller place x = placeRows x caller Read 1 (eqb (x .readers) 0) place
-
--- the file asked for, or the code of the first row that holds
-unfoldable pub stageOf : List Row → List ℕ → Key → Asked
-stageOf rows img key =
-    onSuccess (firstOf rows) (File (geometryOf img) (entryNo img key) (fileOf img key)) (Refused (firstOf rows))

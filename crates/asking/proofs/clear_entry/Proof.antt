@@ -1,8 +1,8 @@
-use Prim.Native.Nat.{_+_, _-_, _≤_}
+use Prim.Native.Nat.{_-_, _≤_}
 use mathlib.Core.Path.{_≡_, refl, sym, _∙_}
 use native.Mathlib.Omega.{arith}
 use lib.ListN.{length}
-use Rattle.asking.specs.Written.{clearEntryWords, clearEntry}
+use Rattle.asking.specs.Written.{clearEntryWords}
 use Rattle.asking.proofs.Writing.{clear-step, clear-end, sized-same}
 use Rattle.asking.proofs.clear_entry.Statement.{statement}
 use Rattle.asking.proofs.clear_entry.Tie as tie

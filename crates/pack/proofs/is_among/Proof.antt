@@ -1,7 +1,6 @@
-use Prim.Native.Nat.{_+_, _*_, _≤_}
+use Prim.Native.Nat.{_+_}
 use mathlib.Core.Path.{_≡_, refl, sym, _∙_}
 use native.Mathlib.Omega.{arith}
-use lib.ListN.{length}
 use Rattle.pack.specs.Test.{among}
 use Rattle.pack.proofs.Headers.{among-step, among-found, among-end}
 use Rattle.pack.proofs.is_among.Statement.{statement}

@@ -1,7 +1,6 @@
-use Prim.Native.Nat.{_+_, _*_, _≤_}
+use Prim.Native.Nat.{_+_}
 use mathlib.Core.Path.{_≡_, refl, sym, _∙_}
 use native.Mathlib.Omega.{arith}
-use lib.ListN.{length}
 use Rattle.pack.specs.Test.{distinct}
 use Rattle.pack.proofs.Headers.{distinct-zero, distinct-again, distinct-step, distinct-end}
 use Rattle.pack.proofs.is_distinct.Statement.{statement}

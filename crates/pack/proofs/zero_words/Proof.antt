@@ -1,9 +1,8 @@
-use Prim.Native.Nat.{_+_, _*_, _≤_}
+use Prim.Native.Nat.{_+_}
 use mathlib.Core.Path.{_≡_, refl, sym, _∙_}
 use mathlib.Core.Bool.{_&&_}
 use mathlib.Core.Logic.{⊎-elim}
 use native.Mathlib.Omega.{arith}
-use lib.ListN.{length}
 use Rattle.pack.specs.Test.{zeros}
 use Rattle.pack.proofs.Headers.{zeros-clear, zeros-never, zeros-done}
 use Rattle.pack.proofs.zero_words.Statement.{statement}

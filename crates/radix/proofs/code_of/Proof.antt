@@ -1,7 +1,7 @@
 use borrow.Author.Needs.{needs}
 use mathlib.Core.Path.{sym}
 use native.Mathlib.Omega.{arith}
-use Rattle.radix.proofs.Characters.{code-blank, code-letter, code-dollar, code-period, code-digit, code-none, Outside}
+use Rattle.radix.proofs.Characters.{code-blank, code-letter, code-dollar, code-period, code-digit, code-none}
 use Rattle.radix.proofs.code_of.Statement.{statement}
 use Rattle.radix.proofs.code_of.Tie as tie
 

@@ -1,5 +1,5 @@
 use borrow.Author.Needs.{needs}
-use mathlib.Core.Path.{ap₂, _∙_}
+use mathlib.Core.Path.{_∙_}
 use Rattle.radix.proofs.Names.{extension-test}
 use Rattle.radix.proofs.Radix50.is_legal_extension.Statement.{statement}
 use Rattle.radix.proofs.Radix50.is_legal_extension.Tie as tie

@@ -1,6 +1,6 @@
 use borrow.Author.Needs.{needs}
 use Rattle.transfer.specs.Stage.{inputRows}
-use Rattle.transfer.proofs.Stage.{stage-refused}
+use Rattle.asking.proofs.Stage.{stage-refused}
 use Rattle.transfer.proofs.Input.{input-stopped, input-passed}
 use Rattle.transfer.proofs.block.ask_input.Statement.{statement}
 use Rattle.transfer.proofs.block.ask_input.Tie as tie

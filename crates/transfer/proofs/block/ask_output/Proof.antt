@@ -1,6 +1,6 @@
 use borrow.Author.Needs.{needs}
 use Rattle.transfer.specs.Stage.{outputRows}
-use Rattle.transfer.proofs.Stage.{stage-refused}
+use Rattle.asking.proofs.Stage.{stage-refused}
 use Rattle.transfer.proofs.Output.{output-stopped, output-passed}
 use Rattle.transfer.proofs.block.ask_output.Statement.{statement}
 use Rattle.transfer.proofs.block.ask_output.Tie as tie
