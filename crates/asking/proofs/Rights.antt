@@ -1,9 +1,10 @@
 -- The test of a right says exactly what Figure 2-7 says; and what each step of it comes to.
-use Prim.Native.Nat.{ℕ, _/_, _%_}
+use Prim.Native.Nat.{ℕ, _/_, _%_, _≤_}
 use mathlib.Core.Path.{_≡_, refl, sym, ap, subst, _∙_}
 use mathlib.Core.Logic.{_↔_}
 use mathlib.Core.Bool.{true}
 use native.Mathlib.Decide.{ℕ-discrete}
+use native.Mathlib.Omega.{arith}
 use lib.Dec.{eqb, leb}
 use borrow.Author.Tests.{eq-eqb, ne-eqb, eqb-true, leb-true, le-leb}
 use Rattle.asking.specs.declared.Right.{Right}
@@ -84,3 +85,16 @@ may-iff right caller uic protect = (to (ℕ-discrete caller uic) (ℕ-discrete (
     to (yes is) g t = owned caller uic protect right is (may-owner right caller uic protect is ∙ t)
     to (no apart) (yes same) t = group apart same (field-to right (groupField protect) (may-group right caller uic protect apart same ∙ t))
     to (no apart) (no other) t = others other (field-to right (othersField protect) (may-others right caller uic protect apart other ∙ t))
+
+-- "0 delete, write, read; 1 write, read; 2, 3 read", and "the owner always reads": who has any right may read
+field-reads : (right : Right) (field : ℕ) → InField right field → InField Read field
+field-reads right field delete = let least : 0 ≤ 3 = omega arith in read least
+field-reads right field (write small) = let few : field ≤ 3 = omega (arith, small) in read few
+field-reads right field (read small) = read small
+
+pub may-reads : (caller uic protect : ℕ) (right : Right) → May caller uic protect right → May caller uic protect Read
+may-reads caller uic protect right (owner-reads is) = owner-reads is
+may-reads caller uic protect right (owner-writes is clear) = owner-reads is
+may-reads caller uic protect right (owner-deletes is clear) = owner-reads is
+may-reads caller uic protect right (group {right = k} apart same field) = group apart same (field-reads k _ field)
+may-reads caller uic protect right (others {right = k} other field) = others other (field-reads k _ field)

@@ -88,7 +88,7 @@ pub fn find(img: &[u8], g: Geometry, key: Key) -> Found
     requires { ⌜ Sized (now img) g ⌝ }
     ensures { λ r. ⌜ foundIn r ≡ findFrom (now (img .entry)) g key 0 (slots g) ⌝ }
 {
-    let total = g.contents * (4 * g.segments.0);
+    let total = pack::slot_count(g);
     let mut e = 0;
     while e < total {
         let x = pack::read_entry(img, g, e);

@@ -17,6 +17,7 @@ use Rattle.grammar.specs.Parsed.{Device, File, Uic, Switch, Specification, Pars
 use Rattle.grammar.specs.Grammar.{All, nil, cons, Run, IsDevice, IsFile, AreValues, IsSwitch, AreSwitches, IsSpecification, IsSide, Command}
 use Rattle.grammar.specs.Grammar as G
 use Rattle.grammar.specs.Reading.{Reading, Reads, reads, kept, keptDevice, keptUic, keptSpecification, keptSide, sideOf}
+use Rattle.grammar.proofs.Heads.{letter-alnum}
 use Rattle.parts.specs.Numbers.{numbersOf, deviceWord, unitOf, nameFirst, nameSecond, extensionWord, groupOf, userOf, isPresent, isExtended, bit, presentBits}
 use Rattle.command.specs.Csi2.{askingAnswer}
 use Rattle.command.specs.Asked.{Pair, pairOf, DecodedSwitch, valueNumbers, switchNumbers, Known, knownOf}
@@ -104,11 +105,8 @@ values-same s t vs us (G.AreValues.more {v} {s = s₁} {vs = vs₁} run rest) (G
 decodedOf : Switch → DecodedSwitch
 decodedOf w = record { name = pairOf (w .name); values = valueNumbers (w .values) }
 
-letter-named : (c : ℕ) → isLetter c ≡ true → isLetterOrDigit c ≡ true
-letter-named c is = rw is
-
 switch-name : {c : ℕ} {n : List ℕ} → isLetter c ≡ true → Run 0 5 isLetterOrDigit n → Run 1 6 isLetterOrDigit (c ∷ n)
-switch-name {c} letter run = record { all = cons (letter-named c letter) (run .all); least = omega arith; most = omega (arith, run .most) }
+switch-name {c} letter run = record { all = cons (letter-alnum c letter) (run .all); least = omega arith; most = omega (arith, run .most) }
 
 switch-same : (s t : List ℕ) (w u : Switch) → IsSwitch s w → IsSwitch t u → decodedOf w ≡ decodedOf u → w ≡ u
 unfolding decodedOf

@@ -6,13 +6,11 @@ use mathlib.Core.List.{List, []}
 use mathlib.Core.Logic.{inl, inr, _↔_}
 use native.Mathlib.Omega.{arith}
 use native.Mathlib.Decide.{ℕ-discrete}
-use native.Mathlib.Nat.{mul-le-mul, mul-le-mul-left}
 use lib.ListN.{length}
 use borrow.Author.Tests.{eq-eqb, ne-eqb}
 use Rattle.words.specs.Word.{wordAt}
 use Rattle.pack.specs.declared.Geometry.{Geometry}
 use Rattle.pack.specs.declared.Entry.{Entry}
-use Rattle.pack.specs.Form.{mostBlocks, mostSegments}
 use Rattle.pack.specs.Geometry.{entryAt, slots, Sized}
 use Rattle.pack.specs.Test.{zeros}
 use Rattle.pack.specs.File.{nextOf, chain, blocksOf}
@@ -24,10 +22,6 @@ use Rattle.consistency.specs.Walk.{takes}
 use Rattle.consistency.specs.Entry.{fieldsTest, bodyTest, restTest, entryTest}
 use Rattle.consistency.proofs.Taking.{takes-range}
 use Rattle.consistency.proofs.Fields.{legal-named, fields-iff, kind-iff}
-
--- the entries are few enough to count
-pub slots-few : (g : Geometry) → g .contents ≤ mostBlocks → g .segments .0 ≤ mostSegments → slots g ≤ mostBlocks * (4 * mostSegments)
-slots-few g contents segments = mul-le-mul contents (mul-le-mul-left 4 segments)
 
 -- an entry stands in the image whole
 pub entry-whole : {img : List ℕ} {g : Geometry} → Sized img g → (e : ℕ) → e < slots g → 2 * (entryAt g e + 16) ≤ length img

@@ -1,5 +1,4 @@
 -- The laws of the check.
-pub mod Count
 pub mod Taking
 pub mod Walking
 pub mod Fields

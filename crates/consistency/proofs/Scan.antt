@@ -12,10 +12,10 @@ use Rattle.pack.specs.File.{count}
 use Rattle.pack.specs.Entry.{blocksAt, RightEntry}
 use Rattle.pack.specs.Consistent.{total}
 use Rattle.pack.proofs.Tests.{and-left, and-right, and-both}
+use Rattle.pack.proofs.Counting.{count-nil}
 use Rattle.consistency.specs.Walk.{mark}
 use Rattle.consistency.specs.Entry.{entryTest}
 use Rattle.consistency.specs.Test.{scanTest, markAll}
-use Rattle.consistency.proofs.Count.{count-none}
 use Rattle.consistency.proofs.Taking.{mark-length, mark-count, takes-once, takes-all}
 use Rattle.consistency.proofs.Entries.{empty-blocks, entry-right, right-entry}
 use Rattle.consistency.proofs.Differ.{left-of}
@@ -27,7 +27,7 @@ module _ (img : List ℕ) (g : Geometry) where
 
   -- the blocks of a right entry are bodies
   pub right-range : (e : ℕ) → RightEntry img g e → (b : ℕ) → 0 < count b (blocksAt img g e) → (g .bodies .0 ≤ b) × (b < g .blocks)
-  right-range e (inl empty) b some = absurd (omega (arith, some, count-none b, ap (count b) (empty-blocks img g e empty)))
+  right-range e (inl empty) b some = absurd (omega (arith, some, count-nil b, ap (count b) (empty-blocks img g e empty)))
   right-range e (inr u) b some = u .bodies b some
 
   -- what the scan of the `k` entries from e on decides, on a map

@@ -11,8 +11,8 @@ use lib.Seq.{getD-set-same, getD-set-other}
 use borrow.Author.Tests.{eq-eqb, eqb-true, le-leb, leb-true, lt-ltb, ltb-true}
 use Rattle.pack.specs.File.{count}
 use Rattle.pack.proofs.Tests.{and-left, and-right, and-both}
+use Rattle.pack.proofs.Counting.{count-nil, count-same, count-other, count-more}
 use Rattle.consistency.specs.Walk.{takes, mark}
-use Rattle.consistency.proofs.Count.{count-none, count-same, count-other, count-more}
 
 pub mark-length : (map bs : List ℕ) → length (mark map bs) ≡ length map
 unfolding mark
@@ -49,7 +49,7 @@ at-same map same = ap (λ (k : ℕ). getD map k 0) same
 -- the map counts: it then has at each block what it had, and one for each time that the block was taken
 pub mark-count : (low end : ℕ) (map bs : List ℕ) → end ≤ length map → takes low end map bs ≡ true → (b : ℕ) → getD (mark map bs) b 0 ≡ getD map b 0 + count b bs
 unfolding mark
-mark-count low end map [] long test b = omega (arith, count-none b)
+mark-count low end map [] long test b = omega (arith, count-nil b)
 mark-count low end map (x ∷ xs) long test b =
     let f = takes-first low end map x xs test in
     let later = mark-count low end (set map x 1) xs (simp length-set long) (f .rest) b in
@@ -60,7 +60,7 @@ mark-count low end map (x ∷ xs) long test b =
 
 -- what is taken is in range
 pub takes-range : (low end : ℕ) (map bs : List ℕ) → takes low end map bs ≡ true → (b : ℕ) → 0 < count b bs → (low ≤ b) × (b < end)
-takes-range low end map [] test b some = absurd (omega (arith, count-none b))
+takes-range low end map [] test b some = absurd (omega (arith, count-nil b))
 takes-range low end map (x ∷ xs) test b some =
     let f = takes-first low end map x xs test in
     elim (ℕ-discrete b x) [
@@ -78,7 +78,7 @@ set-flag map x inside flags b =
 
 -- on a map of 0 and 1 no block is taken twice, nor one that was taken before
 pub takes-once : (low end : ℕ) (map bs : List ℕ) → end ≤ length map → ((b : ℕ) → getD map b 0 ≤ 1) → takes low end map bs ≡ true → (b : ℕ) → getD map b 0 + count b bs ≤ 1
-takes-once low end map [] long flags test b = omega (arith, count-none b, flags b)
+takes-once low end map [] long flags test b = omega (arith, count-nil b, flags b)
 takes-once low end map (x ∷ xs) long flags test b =
     let f = takes-first low end map x xs test in
     let inside : x < length map = omega (arith, f .below) in

@@ -3,7 +3,7 @@ ghost use mathlib.Core.Path.{_≡_};
 ghost use mathlib.Core.Bool.{true};
 ghost use Prim.Native.Nat.{ℕ, _+_, _*_, _-_, _<_, _≤_};
 ghost use lib.ListN.{length, getD, replicate};
-ghost use Rattle.pack.specs.Form.{mostBlocks, mostSegments};
+ghost use Rattle.pack.specs.Form.{mostBlocks};
 ghost use Rattle.pack.specs.Geometry.{Sized, slots};
 ghost use Rattle.pack.specs.Header.{RightHeader};
 ghost use Rattle.pack.specs.File.{blocksOf};
@@ -67,14 +67,6 @@ fn walk(
         left -= 1;
     }
     Walked::End(last, b)
-}
-
-fn slot_count(g: Geometry) -> usize
-    requires { ⌜ (g .contents ≤ mostBlocks) × (g .segments .0 ≤ mostSegments) ⌝ }
-    ensures { λ r. ⌜ r ≡ slots g ⌝ }
-    ensures { λ r. ⌜ r ≤ mostBlocks * (4 * mostSegments) ⌝ }
-{
-    g.contents * (4 * g.segments.0)
 }
 
 fn is_key_right(img: &[u8], x: Entry) -> bool
@@ -191,7 +183,7 @@ fn are_entries_right(img: &[u8], map: &mut [u8], g: Geometry) -> bool
     ensures { λ r. ⌜ r ≡ scanTest (now (img .entry)) g (now (map .entry)) 0 (slots g) ⌝ }
     ensures { λ r. ⌜ (r ≡ true → now (map .exit) ≡ markAll (now (img .entry)) g (now (map .entry)) 0 (slots g)) ⌝ }
 {
-    let end = slot_count(g);
+    let end = pack::slot_count(g);
     let mut e = 0;
     while e < end {
         if !is_entry_right(img, map, g, e) {
@@ -228,7 +220,7 @@ fn is_unique(img: &[u8], g: Geometry, e: usize) -> bool
     if pack::entry_word(img, g, e, 0) == 0 {
         return true;
     }
-    let end = slot_count(g);
+    let end = pack::slot_count(g);
     let mut f = e + 1;
     while f < end {
         if is_same_file(img, g, e, f) {
@@ -260,7 +252,7 @@ fn do_files_differ(img: &[u8], g: Geometry) -> bool
     ensures { λ r. ⌜ r ≡ differTest (now (img .entry)) g 0 (slots g) ⌝ }
 {
     let mut marks = [0u8; REMAINDERS];
-    let mut e = slot_count(g);
+    let mut e = pack::slot_count(g);
     while 0 < e {
         e -= 1;
         let at = key_remainder(img, g, e);

@@ -20,7 +20,7 @@ use Rattle.pack.specs.Owner.{ownerOf, FreeBlock}
 use Rattle.pack.proofs.Tests.{and-both}
 use Rattle.pack.proofs.Measures.{contents-before, block-room}
 use Rattle.pack.proofs.Headers.{header-is, is-distinct, zeros-all}
-use Rattle.owners.proofs.Counting.{total-same, total-each}
+use Rattle.pack.proofs.Counting.{total-same, total-each}
 use Rattle.owners.proofs.Blocks.{empty-reaches}
 use Rattle.owners.proofs.Owner.{owner-free, owner-system}
 use Rattle.creation.specs.Format.{uicsIn, Formattable, formatTest, systemBytes, formatted}

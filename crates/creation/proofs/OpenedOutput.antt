@@ -13,7 +13,7 @@ use Rattle.pack.specs.Entry.{entryOf, Linked}
 use Rattle.pack.specs.Consistent.{Consistent}
 use Rattle.pack.specs.Owner.{ownerOf}
 use Rattle.pack.specs.Untouched.{Untouched}
-use Rattle.frame.proofs.Counting.{count-nil}
+use Rattle.pack.proofs.Counting.{count-nil}
 use Rattle.frame.proofs.Untouched.{untouched-refl}
 use Rattle.asking.proofs.Outcome.{code-is, success-image, refusal-keeps, image-by}
 use Rattle.asking.specs.Outcome.{Unchanged}

@@ -1,24 +1,12 @@
 -- What the measures of a formattable image leave room for: the system's bytes in the image, the header in them, and each number in a word.
 use Prim.Native.Nat.{ℕ, _+_, _*_, _≤_, _<_}
-use mathlib.Core.Path.{_≡_, refl, sym, subst}
-use mathlib.Core.Bool.{Bool, true, false, cond}
+use mathlib.Core.Path.{_≡_, sym, subst}
 use mathlib.Core.List.{List}
 use native.Mathlib.Omega.{arith}
-use lib.Dec.{eqb}
 use lib.ListN.{length}
-use borrow.Author.Tests.{eqb-true}
 use Rattle.pack.specs.Form.{segmentsOf, bodiesOf}
 use Rattle.pack.proofs.Measures.{segments-few, blocks-most, contents-before, uics-fit, block-room}
 use Rattle.creation.specs.Format.{uicsIn, Formattable, systemBytes}
-
--- a form that is known is a word
-pub form-small : (form : ℕ) → 0 < segmentsOf form → form < 65536
-unfolding segmentsOf
-form-small form known = small (eqb form 1) refl known
-  where
-    small : (one : Bool) → eqb form 1 ≡ one → 0 < cond one 4 0 → form < 65536
-    small true is h = omega (arith, eqb-true form 1 is)
-    small false is h = absurd (omega arith)
 
 pub system-is : (bodies segments form contents : ℕ) → bodies ≡ bodiesOf form contents → segments ≡ segmentsOf form
     → bodies * (128 * segments) ≡ systemBytes form contents

@@ -71,7 +71,7 @@ fn lowest_empty(img: &[u8], g: Geometry) -> Found
     requires { ⌜ ((e : ℕ) → e < slots g → RightEntry (now img) g e) ⌝ }
     ensures { λ r. ⌜ foundIn r ≡ emptyFrom (now (img .entry)) g 0 (slots g) ⌝ }
 {
-    let total = g.contents * (4 * g.segments.0);
+    let total = pack::slot_count(g);
     let mut e = 0;
     while e < total {
         if pack::entry_word(img, g, e, 0) == 0 {

@@ -14,10 +14,10 @@ use Rattle.pack.specs.Entry.{blocksAt, Empty, entryOf}
 use Rattle.pack.specs.Consistent.{held, Consistent}
 use Rattle.pack.specs.Owner.{placeFrom, ownerOf}
 use Rattle.pack.specs.Untouched.{Untouched, Keyed}
+use Rattle.pack.proofs.Counting.{count-nil}
 use Rattle.asking.specs.Asked.{entryNo}
 use Rattle.asking.specs.Written.{clearEntry}
 use Rattle.frame.specs.Framed.{Only, Never, Kept, Framed}
-use Rattle.frame.proofs.Counting.{count-nil}
 use Rattle.frame.proofs.Same.{empty-blocks, right-bodies}
 use Rattle.frame.proofs.Frame.{geometry-framed, entries-at}
 use Rattle.frame.proofs.Held.{framed-never, held-one}
@@ -25,11 +25,11 @@ use Rattle.frame.proofs.Described.{consistent-emptied}
 use Rattle.frame.proofs.Untouched.{untouched-refl}
 use Rattle.frame.proofs.Owner.{owner-framed}
 use Rattle.frame.proofs.Framing.{entry-kept}
+use Rattle.frame.proofs.Cleared.{clear-kept, clear-empty}
 use Rattle.owners.proofs.Places.{place-none}
 use Rattle.owners.proofs.Owner.{owner-free}
 use Rattle.directory.specs.Delet.{deletRows, delet}
 use Rattle.directory.proofs.Chosen.{Chosen, chosen-untouched}
-use Rattle.directory.proofs.Cleared.{cleared-kept, cleared-empty}
 use Rattle.asking.proofs.Outcome.{code-is, success-image, refusal-keeps, image-by}
 use Rattle.asking.specs.Outcome.{Unchanged}
 use Rattle.asking.specs.Keys.{found}
@@ -39,10 +39,10 @@ use Rattle.directory.proofs.Deleting.{delet-chosen}
 -- the image with the entry cleared
 module _ {img : List ℕ} {key : Key} {g : Geometry} {e : ℕ} (c : Chosen img key g e) where
   kept : Kept (Only e) Never img (clearEntry img g e) g
-  kept = cleared-kept g e (c .inside) img (c .sized)
+  kept = clear-kept img e refl (c .sized .contents) (c .inside)
 
   empty : Empty (clearEntry img g e) g e
-  empty = cleared-empty g e (c .inside) img (c .sized)
+  empty = clear-empty g e img (c .sized) (c .inside)
 
   framed : Framed (Only e) Never img (clearEntry img g e) g
   framed = framed-never kept

@@ -2,7 +2,6 @@
 pub mod Looking
 pub mod Lacking
 pub mod Chosen
-pub mod Cleared
 pub mod Relabelled
 pub mod Deleting
 pub mod Deleted

@@ -10,7 +10,7 @@ use lib.Dec.{eqb}
 use borrow.Author.Tests.{eq-eqb, ne-eqb}
 use Rattle.pack.specs.declared.Geometry.{Geometry}
 use Rattle.pack.specs.File.{linkOf, nextOf, chain, after, lastOf, count}
-use Rattle.frame.proofs.Counting.{count-nil, count-same, count-other, count-more}
+use Rattle.pack.proofs.Counting.{count-nil, count-same, count-other, count-more}
 
 -- the block behind another one, by the kind of the file
 pub next-contiguous : (img : List ℕ) (g : Geometry) (kind b : ℕ) → kind ≡ 1 → nextOf img g kind b ≡ b + 1

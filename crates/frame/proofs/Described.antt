@@ -10,10 +10,10 @@ use Rattle.pack.specs.Geometry.{geometryOf, slots}
 use Rattle.pack.specs.File.{nextOf, chain, after, lastOf, blocksOf, count}
 use Rattle.pack.specs.Entry.{entryOf, blocksAt, Empty, Contiguous, Linked, Used, RightEntry}
 use Rattle.pack.specs.Consistent.{Consistent}
+use Rattle.pack.proofs.Counting.{count-nil}
 use Rattle.frame.specs.Framed.{Only, Never, Framed, Distinct}
 use Rattle.frame.specs.Framed.Distinct.{emptied}
 use Rattle.frame.specs.Described.{Described, Description}
-use Rattle.frame.proofs.Counting.{count-nil}
 use Rattle.frame.proofs.Chain.{next-contiguous, next-same, chain-same, after-same, last-same}
 use Rattle.frame.proofs.Same.{empty-blocks, right-bodies}
 use Rattle.frame.proofs.Framing.{link-kept}

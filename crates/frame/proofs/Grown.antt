@@ -11,10 +11,10 @@ use Rattle.pack.specs.File.{linkOf, count}
 use Rattle.pack.specs.Entry.{entryOf, blocksAt, RightEntry}
 use Rattle.pack.specs.Consistent.{held, Consistent}
 use Rattle.pack.specs.Owner.{FreeBlock}
+use Rattle.pack.proofs.Counting.{count-nil, count-same, count-other, count-append}
 use Rattle.frame.specs.Framed.{Only, Either, Framed}
 use Rattle.frame.specs.Framed.Distinct.{known}
 use Rattle.frame.specs.Growth.{Walked, Grown, Joined}
-use Rattle.frame.proofs.Counting.{count-nil, count-same, count-other, count-append}
 use Rattle.frame.proofs.Same.{right-bodies}
 use Rattle.frame.proofs.Frame.{entries-at, listed-framed}
 use Rattle.frame.proofs.Held.{held-once, held-none, framed-one, framed-two}

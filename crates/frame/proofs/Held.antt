@@ -10,8 +10,8 @@ use Rattle.pack.specs.Geometry.{geometryOf, slots}
 use Rattle.pack.specs.File.{count}
 use Rattle.pack.specs.Entry.{blocksAt}
 use Rattle.pack.specs.Consistent.{held, Consistent}
+use Rattle.pack.proofs.Counting.{total-has, total-two, total-swap, total-swap-two}
 use Rattle.frame.specs.Framed.{Only, Either, Never, Kept, Framed}
-use Rattle.frame.proofs.Counting.{total-has, total-two, total-swap, total-swap-two}
 use Rattle.frame.proofs.Framing.{neither}
 use Rattle.frame.proofs.Frame.{held-at, stated-framed, blocks-framed}
 

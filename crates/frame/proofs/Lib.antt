@@ -1,5 +1,4 @@
 -- The laws of what stays.
-pub mod Counting
 pub mod Chain
 pub mod Same
 pub mod Framing
@@ -11,6 +10,7 @@ pub mod Described
 pub mod Untouched
 pub mod Owner
 pub mod Written
+pub mod Cleared
 pub mod Walked
 pub mod Resized
 pub mod Grown

@@ -11,7 +11,7 @@ use Rattle.pack.specs.Geometry.{blockAt, blockBytes}
 use Rattle.pack.specs.Header.{Listed}
 use Rattle.pack.specs.File.{linkOf, nextOf, chain, blocksOf, count}
 use Rattle.pack.specs.Entry.{entryWord, entryOf, blocksAt, Empty, Contiguous, Linked, Used, RightEntry}
-use Rattle.frame.proofs.Counting.{count-nil}
+use Rattle.pack.proofs.Counting.{count-nil}
 use Rattle.frame.proofs.Chain.{chain-none, chain-same, after-same, last-same, next-same}
 
 -- a word is its two bytes

@@ -220,7 +220,7 @@ within-name (suc k) x y nil final l h = l
 within-name (suc k) x y nil (next {x = c} e) l (cons d h) = absurd (out c e d)
 within-name (suc k) x y (cons {s = x′} d a) n l (cons d′ h) = omega (arith, within-name k x′ y a n (le-of-suc-le-suc l) h)
 
-letter-alnum : (x : ℕ) → isLetter x ≡ true → isLetterOrDigit x ≡ true
+pub letter-alnum : (x : ℕ) → isLetter x ≡ true → isLetterOrDigit x ≡ true
 letter-alnum x e = rw e
 
 octal-alnum : (x : ℕ) → isOctal x ≡ true → isLetterOrDigit x ≡ true

@@ -18,7 +18,7 @@ use Rattle.pack.specs.Entry.{entryOf}
 use Rattle.pack.specs.Consistent.{Consistent}
 use Rattle.pack.specs.Owner.{FreeBlock}
 use Rattle.pack.proofs.Headers.{header-sized}
-use Rattle.owners.proofs.Counting.{total-has}
+use Rattle.pack.proofs.Counting.{total-has}
 use Rattle.owners.proofs.Sum.{sum-of-blocks}
 use Rattle.asking.specs.Asked.{entryNo, fileOf}
 use Rattle.asking.proofs.Outcome.{done-answer, refused-answer}

@@ -21,7 +21,7 @@ use Rattle.frame.proofs.Held.{held-apart}
 use Rattle.frame.proofs.Walked.{walked-last}
 use Rattle.frame.proofs.Resized.{linked-walked}
 use Rattle.growth.specs.Appnd.{joined}
-use Rattle.growth.proofs.Clearing.{clear-kept, clear-empty}
+use Rattle.frame.proofs.Cleared.{clear-kept, clear-empty}
 use Rattle.growth.proofs.Middle.{Joint, Middle, middle}
 
 module _ (img : List ℕ) (g : Geometry) (x y : ℕ) (stated : g ≡ geometryOf img) (consistent : Consistent img) (sized : Sized img g)

@@ -5,7 +5,6 @@ pub mod Writing
 pub mod Accepted
 pub mod Numbers
 pub mod Answering
-pub mod Clearing
 pub mod Middle
 pub mod Joining
 pub mod Payloads

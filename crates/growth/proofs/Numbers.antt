@@ -3,7 +3,7 @@ use Prim.Native.Nat.{ℕ, _+_, _≤_, _<_}
 use mathlib.Core.Path.{_≡_, refl, ap}
 use mathlib.Core.List.{List}
 use native.Mathlib.Omega.{arith}
-use native.Mathlib.Decide.{ℕ-discrete, decLt}
+use native.Mathlib.Decide.{ℕ-discrete}
 use Rattle.pack.specs.declared.Geometry.{Geometry}
 use Rattle.pack.specs.declared.Key.{Key}
 use Rattle.pack.specs.Geometry.{geometryOf, slots, Sized}
@@ -11,8 +11,8 @@ use Rattle.pack.specs.File.{linkOf, count}
 use Rattle.pack.specs.Entry.{entryOf, blocksAt}
 use Rattle.pack.specs.Consistent.{total, Consistent}
 use Rattle.pack.proofs.Headers.{header-sized}
+use Rattle.pack.proofs.Counting.{total-two}
 use Rattle.asking.specs.Asked.{entryNo, fileOf}
-use Rattle.owners.proofs.Counting.{total-two}
 use Rattle.owners.proofs.Sum.{sum-of-blocks}
 use Rattle.frame.specs.Growth.{Walked}
 use Rattle.frame.proofs.Frame.{entries-at}
@@ -61,22 +61,15 @@ joinable {img} {first} {second} a =
     record {
       sized = sized;
       entry = a .one .within;
-      fits = omega (arith, lengths (decLt (entryNo img first) (entryNo img second)), sum-of-blocks (a .right), sized .most);
+      fits = omega (arith, lengths, sum-of-blocks (a .right), sized .most);
       first = first-small (geometryOf img) refl (a .right) sized (entryNo img first) (a .one .within) (a .one .linked);
       begin = first-small (geometryOf img) refl (a .right) sized (entryNo img second) (a .two .within) (a .two .linked);
       end = last-small (geometryOf img) refl (a .right) sized (entryNo img second) (a .two .within) (a .two .linked);
       last = last-body (geometryOf img) refl (a .right) sized (entryNo img first) (a .one .within) (a .one .linked);
     }
   where
-    lengths : Dec (entryNo img first < entryNo img second)
-        → entryOf img (geometryOf img) (entryNo img first) .length + entryOf img (geometryOf img) (entryNo img second) .length
+    lengths : entryOf img (geometryOf img) (entryNo img first) .length + entryOf img (geometryOf img) (entryNo img second) .length
         ≤ total (λ e. entryOf img (geometryOf img) e .length) 0 (slots (geometryOf img))
-    lengths (yes less) =
-        total-two (λ e. entryOf img (geometryOf img) e .length) (entryNo img first) (entryNo img second) 0 (slots (geometryOf img)) less (omega arith)
-        (omega (arith, a .two .within))
-    lengths (no not) =
-        omega (
-          arith,
-          total-two (λ e. entryOf img (geometryOf img) e .length) (entryNo img second) (entryNo img first) 0 (slots (geometryOf img)) (omega (arith, not, a .other))
-              (omega arith) (omega (arith, a .one .within)),
-        )
+    lengths =
+        total-two (λ e. entryOf img (geometryOf img) e .length) (entryNo img first) (entryNo img second) 0 (slots (geometryOf img)) (a .other) (omega arith)
+        (omega (arith, a .one .within)) (omega arith) (omega (arith, a .two .within))

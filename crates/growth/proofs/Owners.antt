@@ -14,6 +14,7 @@ use Rattle.pack.specs.Geometry.{geometryOf, slots}
 use Rattle.pack.specs.File.{count}
 use Rattle.pack.specs.Entry.{entryOf, blocksAt}
 use Rattle.pack.specs.Owner.{placeFrom, ownerOf, HeldAt}
+use Rattle.pack.proofs.Counting.{count-nil, count-append}
 use Rattle.asking.specs.Asked.{entryNo, fileOf}
 use Rattle.owners.proofs.Places.{place-none}
 use Rattle.owners.proofs.Blocks.{blocks-length}
@@ -22,7 +23,6 @@ use Rattle.frame.specs.Framed.{Either}
 use Rattle.frame.proofs.Framing.{either-decided}
 use Rattle.frame.proofs.Frame.{geometry-framed}
 use Rattle.frame.proofs.Same.{empty-blocks}
-use Rattle.frame.proofs.Counting.{count-nil, count-append}
 use Rattle.frame.proofs.Owner.{owner-framed}
 use Rattle.growth.specs.Appnd.{appnd}
 use Rattle.growth.proofs.Appnd.{appnd-refused, appnd-accepted, appnd-joined, appnd-framed, appnd-blocks, appnd-consistent}

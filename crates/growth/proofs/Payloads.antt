@@ -9,7 +9,7 @@ use lib.Seq.{ext-getD, getD-take, getD-drop}
 use Rattle.pack.specs.declared.Geometry.{Geometry}
 use Rattle.pack.specs.Geometry.{blockBytes, payloadBytes}
 use Rattle.pack.specs.File.{count}
-use Rattle.frame.proofs.Counting.{count-same, count-more}
+use Rattle.pack.proofs.Counting.{count-same, count-more}
 use Rattle.growth.specs.Payload.{payloadsOf}
 
 pub payloads-append : (img : List ℕ) (g : Geometry) (xs ys : List ℕ) → payloadsOf img g (xs ++ ys) ≡ payloadsOf img g xs ++ payloadsOf img g ys

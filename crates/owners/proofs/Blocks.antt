@@ -13,7 +13,7 @@ use Rattle.pack.specs.Entry.{entryOf, blocksAt, Empty, RightEntry}
 use Rattle.pack.specs.Header.{RightHeader}
 use Rattle.pack.specs.Consistent.{Consistent}
 use Rattle.pack.proofs.Measures.{bodies-inside}
-use Rattle.owners.proofs.Counting.{count-nil}
+use Rattle.pack.proofs.Counting.{count-nil}
 
 pub chain-length : (next : ℕ → ℕ) (k b : ℕ) → length (chain next k b) ≡ k
 unfolding chain

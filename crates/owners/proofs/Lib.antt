@@ -1,5 +1,4 @@
 -- The laws of owners: whose a block is, and that system, held and free blocks make up the pack.
-pub mod Counting
 pub mod Places
 pub mod Blocks
 pub mod Owner

@@ -18,9 +18,9 @@ use Rattle.pack.specs.File.{count}
 use Rattle.pack.specs.Entry.{entryOf, blocksAt, Empty}
 use Rattle.pack.specs.Consistent.{held, Consistent}
 use Rattle.pack.specs.Owner.{placeFrom, holder, ownerOf, HeldAt}
+use Rattle.pack.proofs.Counting.{count-at, total-has, total-two}
 use Rattle.owners.specs.Owner.{Unheld, HeldByOne, OneOwner}
 use Rattle.owners.specs.Owner.OneOwner.{system, free, held-by}
-use Rattle.owners.proofs.Counting.{count-at, total-has, total-two}
 use Rattle.owners.proofs.Places.{Found, place-found, place-unique, Finds, holder-finds}
 use Rattle.owners.proofs.Places.Finds.{nobody, entry}
 use Rattle.owners.proofs.Blocks.{reaches-bodies}
@@ -43,7 +43,7 @@ reaches-two : (img : List ℕ) (e f b : ℕ) → e < f → f < slots (geometryOf
     → count b (blocksAt img (geometryOf img) e) + count b (blocksAt img (geometryOf img) f) ≤ held img b
 unfolding held
 reaches-two img e f b order inside =
-    total-two (λ i. count b (blocksAt img (geometryOf img) i)) e f 0 (slots (geometryOf img)) order (omega arith) (omega arith)
+    total-two (λ i. count b (blocksAt img (geometryOf img) i)) e f 0 (slots (geometryOf img)) (λ is. omega (arith, is)) (omega arith) (omega arith) (omega arith) (omega arith)
 
 pub held-some : {img : List ℕ} {e p b : ℕ} → HeldAt img e p b → 0 < held img b
 held-some {img} {e} {p} {b} at = omega (arith, held-reaches at, reaches-held img e b (at .entry))

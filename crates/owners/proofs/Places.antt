@@ -17,7 +17,7 @@ use Rattle.pack.specs.File.{count}
 use Rattle.pack.specs.Entry.{blocksAt}
 use Rattle.pack.specs.Consistent.{total}
 use Rattle.pack.specs.Owner.{placeFrom, heldOr, holder}
-use Rattle.owners.proofs.Counting.{count-nil, count-same, count-other, count-two}
+use Rattle.pack.proofs.Counting.{count-nil, count-same, count-other, count-two}
 
 -- a place that is found is one of the list, and the block stands there
 pub record Found (b q p : ℕ) (xs : List ℕ) : Type 0 where

@@ -1,5 +1,5 @@
 -- The search for a block's owner, step by step: over the blocks of a file that are left, over the entries that are left, and where it begins.
-use Prim.Native.Nat.{ℕ, suc, _+_, _*_, _-_, _≤_, _<_}
+use Prim.Native.Nat.{ℕ, suc, _+_, _-_, _≤_, _<_}
 use mathlib.Core.Path.{_≡_, refl, sym, ap, subst, _∙_}
 use mathlib.Core.List.{List}
 use mathlib.Core.Option.{none, some}
@@ -10,18 +10,16 @@ use Rattle.pack.specs.declared.Place.{Place}
 use Rattle.pack.specs.declared.Entry.{Entry}
 use Rattle.pack.specs.declared.Owner.{Owner}
 use Rattle.pack.specs.declared.Owner.the-variants.{System, Free, Held}
-use Rattle.pack.specs.Form.{mostBlocks, mostSegments}
 use Rattle.pack.specs.Geometry.{geometryOf, Sized, slots}
 use Rattle.pack.specs.File.{nextOf, chain, blocksOf, count}
 use Rattle.pack.specs.Entry.{entryOf, blocksAt}
 use Rattle.pack.specs.Consistent.{Consistent}
 use Rattle.pack.specs.Owner.{placeFrom, heldOr, holder, ownerOf}
 use Rattle.pack.proofs.Headers.{header-sized}
-use Rattle.consistency.proofs.Entries.{slots-few}
+use Rattle.pack.proofs.Counting.{count-same, count-split}
 use Rattle.owners.specs.declared.Seen.{Seen}
 use Rattle.owners.specs.declared.Seen.the-variants.{At, Nothing}
 use Rattle.owners.specs.Seen.{seenIn}
-use Rattle.owners.proofs.Counting.{count-same, count-split}
 use Rattle.owners.proofs.Blocks.{reaches-bodies}
 
 -- The blocks of a file from place p, block `at`, on: they decide where block b is seen, and all are blocks of the pack.
@@ -69,9 +67,6 @@ module _ {img : List ℕ} {g : Geometry} {kind end first b p at : ℕ} (left : L
 module _ {img : List ℕ} {g : Geometry} (right : Consistent img) (measures : geometryOf img ≡ g) where
   pub measured-sized : Sized img g
   measured-sized = subst (Sized img) measures (header-sized img (right .header))
-
-  pub measured-slots : slots g ≤ mostBlocks * (4 * mostSegments)
-  measured-slots = slots-few g (omega (arith, measured-sized .contents, measured-sized .bodies, measured-sized .most)) (measured-sized .few)
 
   -- the blocks of an entry's file are blocks of the pack
   pub measured-blocks : (e : ℕ) → e < slots g → (x : Entry) → x ≡ entryOf img g e → (z : ℕ) → 0 < count z (blocksOf img g x) → z < g .blocks

@@ -14,10 +14,10 @@ use Rattle.pack.specs.File.{one, count}
 use Rattle.pack.specs.Entry.{entryOf, blocksAt}
 use Rattle.pack.specs.Consistent.{total, held, Consistent}
 use Rattle.pack.specs.Owner.{ownerOf, isFree, freeBelow, freeCount}
+use Rattle.pack.proofs.Counting.{total-none, total-same, total-add, total-each, total-split, total-last, total-exchange, count-all, total-below}
 use Rattle.owners.specs.Owner.{OneOwner}
 use Rattle.owners.specs.Owner.OneOwner.{system, free, held-by}
 use Rattle.owners.specs.Free.{freeOn}
-use Rattle.owners.proofs.Counting.{total-none, total-same, total-add, total-each, total-split, total-last, total-exchange, count-all, total-below}
 use Rattle.owners.proofs.Blocks.{blocks-length, reaches-bodies, bodies-fit}
 use Rattle.owners.proofs.Owner.{one-owner}
 use Rattle.owners.proofs.Free.{free-on-total}

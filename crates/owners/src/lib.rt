@@ -56,7 +56,7 @@ fn holder_of(img: &[u8], g: Geometry, b: BlockNo) -> Owner
     requires { ⌜ geometryOf (now img) ≡ g ⌝ }
     ensures { λ r. ⌜ r ≡ holder (now (img .entry)) g (b .0) 0 (slots g) ⌝ }
 {
-    let end = g.contents * (4 * g.segments.0);
+    let end = pack::slot_count(g);
     let mut e = 0;
     while e < end {
         let x = pack::read_entry(img, g, e);

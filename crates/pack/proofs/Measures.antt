@@ -2,10 +2,12 @@
 use Prim.Native.Nat.{ℕ, _+_, _*_, _≤_, _<_}
 use mathlib.Core.Bool.{Bool, true, false, cond}
 use native.Mathlib.Omega.{arith}
-use native.Mathlib.Nat.{mul-le-mul-right, mul-le-mul}
+use native.Mathlib.Nat.{mul-le-mul-right, mul-le-mul-left, mul-le-mul}
 use mathlib.Core.List.{List}
+use mathlib.Core.Path.{_≡_, refl}
 use lib.Dec.{eqb}
 use lib.ListN.{length}
+use borrow.Author.Tests.{eqb-true}
 use Rattle.pack.specs.declared.Geometry.{Geometry}
 use Rattle.pack.specs.Geometry.{Sized, slots, entryAt, blockAt}
 use Rattle.pack.specs.Form.{segmentsOf, mostBlocksOf, mostContentsOf, mostUicsOf, bodiesOf, mostBlocks, mostSegments, leastBlocks}
@@ -17,6 +19,15 @@ segments-few form = few (eqb form 1)
     few : (a : Bool) → cond a 4 0 ≤ 4
     few true = omega arith
     few false = omega arith
+
+-- a form that is known is a word
+pub form-small : (form : ℕ) → 0 < segmentsOf form → form < 65536
+unfolding segmentsOf
+form-small form known = small (eqb form 1) refl known
+  where
+    small : (one : Bool) → eqb form 1 ≡ one → 0 < cond one 4 0 → form < 65536
+    small true is h = omega (arith, eqb-true form 1 is)
+    small false is h = absurd (omega arith)
 
 pub blocks-most : (form : ℕ) → mostBlocksOf form ≤ mostBlocks
 unfolding mostBlocksOf
@@ -48,8 +59,22 @@ block-room p {b} {n} h = omega (arith, mul-le-mul-right p h)
 pub few-words : {n p : ℕ} → n ≤ mostBlocks → p ≤ mostSegments → n * p ≤ 4096
 few-words a b = mul-le-mul a b
 
+-- the entries are few enough to count
+pub slots-few : (g : Geometry) → g .contents ≤ mostBlocks → g .segments .0 ≤ mostSegments → slots g ≤ mostBlocks * (4 * mostSegments)
+slots-few g contents segments = mul-le-mul contents (mul-le-mul-left 4 segments)
+
+-- a number of entries that was counted
+pub below-count : {e total count : ℕ} → total ≡ count → e < total → e < count
+below-count is below = omega arith
+
+pub past-count : {e total count : ℕ} → total ≡ count → total ≤ e → count ≤ e
+past-count is past = omega arith
+
 -- each word of an entry, and the link of each block, stand in the image
 module _ {img : List ℕ} {g : Geometry} (s : Sized img g) where
+  pub sized-few : (g .contents ≤ mostBlocks) × (g .segments .0 ≤ mostSegments)
+  sized-few = (omega (arith, s .contents, s .bodies, s .most), s .few)
+
   pub entry-room : (e i : ℕ) → e < slots g → i < 16 → 2 * (entryAt g e + i) + 1 < length img
   entry-room e i inside small =
       let below : g .contents < g .blocks = omega (arith, s .contents, s .bodies) in

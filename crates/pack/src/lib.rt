@@ -3,7 +3,7 @@ ghost use mathlib.Core.Path.{_≡_};
 ghost use Prim.Native.Nat.{_+_, _*_, _<_, _≤_};
 ghost use lib.ListN.{length};
 ghost use Rattle.words.specs.Word.{wordAt};
-ghost use Rattle.pack.specs.Form.{segmentsOf, mostBlocksOf, mostContentsOf, mostUicsOf, bodiesOf};
+ghost use Rattle.pack.specs.Form.{segmentsOf, mostBlocksOf, mostContentsOf, mostUicsOf, bodiesOf, mostBlocks, mostSegments};
 ghost use Rattle.pack.specs.Geometry.{Sized, slots};
 ghost use Rattle.pack.specs.Header.{RightHeader};
 ghost use Rattle.pack.specs.Test.{zeros, among, distinct, listed, measured, headerOf};
@@ -228,6 +228,15 @@ pub fn next_block(img: &[u8], g: Geometry, kind: usize, b: BlockNo) -> BlockNo
         return BlockNo(b.0 + 1);
     }
     BlockNo(words::word_at(img, b.0 * (64 * g.segments.0)))
+}
+
+// The number of entries, used or empty.
+pub fn slot_count(g: Geometry) -> usize
+    requires { ⌜ (g .contents ≤ mostBlocks) × (g .segments .0 ≤ mostSegments) ⌝ }
+    ensures { λ r. ⌜ r ≡ slots g ⌝ }
+    ensures { λ r. ⌜ r ≤ mostBlocks * (4 * mostSegments) ⌝ }
+{
+    g.contents * (4 * g.segments.0)
 }
 
 pub fn entry_word(img: &[u8], g: Geometry, e: usize, i: usize) -> usize

@@ -16,8 +16,8 @@ use Rattle.pack.specs.Geometry.{geometryOf, slots}
 use Rattle.pack.specs.Entry.{entryOf, Empty}
 use Rattle.pack.specs.Consistent.{total, Consistent}
 use Rattle.pack.specs.Owner.{freeCount}
+use Rattle.pack.proofs.Counting.{total-same, total-each}
 use Rattle.consistency.proofs.Consistent.{consistent-iff}
-use Rattle.owners.proofs.Counting.{total-same, total-each}
 use Rattle.owners.proofs.Sum.{sum-of-words}
 use Rattle.printing.specs.Listing.{newline, headLine, entryLine, linesFrom, listing, longest}
 use Rattle.printing.proofs.Whole.{listed-text}

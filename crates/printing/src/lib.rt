@@ -139,7 +139,7 @@ fn put_lines(out: &mut [u8], at: usize, img: &[u8], g: Geometry) -> usize
     ensures { λ r. ⌜ Put (now (out .entry)) (now (out .exit)) at r (linesFrom (now (img .entry)) g 0 (slots g)) ⌝ }
     ensures { λ r. ⌜ r ≤ at + mostLine * slots g ⌝ }
 {
-    let total = g.contents * (4 * g.segments.0);
+    let total = pack::slot_count(g);
     let mut next = at;
     let mut e = 0;
     while e < total {

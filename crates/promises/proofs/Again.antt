@@ -22,20 +22,19 @@ use Rattle.pack.specs.Entry.{entryWord, entryOf, blocksAt, Used, SameFile}
 use Rattle.pack.specs.Consistent.{Consistent}
 use Rattle.pack.specs.Owner.{FreeBlock}
 use Rattle.pack.specs.Untouched.{Keyed}
+use Rattle.pack.proofs.Counting.{count-at}
 use Rattle.consistency.proofs.Consistent.{consistent-iff}
-use Rattle.asking.specs.declared.Right.{Right}
 use Rattle.asking.specs.declared.Right.the-variants.{Read, Write}
 use Rattle.asking.specs.Keys.{legalKey, found}
 use Rattle.asking.specs.Asked.{entryNo, fileOf}
 use Rattle.asking.specs.Outcome.{settled}
-use Rattle.asking.specs.Rights.{InField, May, delete, write, read, owner-reads, owner-writes, owner-deletes, group, others}
+use Rattle.asking.specs.Rights.{May}
 use Rattle.asking.specs.Written.{setEntryWord}
 use Rattle.asking.proofs.Keys.{legal-iff, found-iff}
-use Rattle.asking.proofs.Rights.{may-iff}
+use Rattle.asking.proofs.Rights.{may-iff, may-reads}
 use Rattle.asking.proofs.Stage.{FileAsked, asked-is-file, asked-file, file-at}
 use Rattle.asking.proofs.Outcome.{code-is, success-image}
 use Rattle.frame.specs.Framed.{Kept}
-use Rattle.frame.proofs.Counting.{count-place}
 use Rattle.frame.proofs.Frame.{stated-framed, entries-at}
 use Rattle.frame.proofs.Described.{described-blocks}
 use Rattle.frame.proofs.Resized.{linked-used, resized-alike}
@@ -58,19 +57,6 @@ use Rattle.growth.proofs.Enlarged.{Enlarged}
 use Rattle.growth.proofs.Added.{add-admitted, add-enlarged}
 use Rattle.promises.specs.Codes.{behind, writing, FileCode}
 use Rattle.promises.proofs.Codes.{file-behind, openi-code-iff, close-code-iff}
-
--- "0 delete, write, read; 1 write, read; 2, 3 read", and "the owner always reads": who has any right may read
-field-reads : (right : Right) (field : ℕ) → InField right field → InField Read field
-field-reads right field delete = let least : 0 ≤ 3 = omega arith in read least
-field-reads right field (write small) = let few : field ≤ 3 = omega (arith, small) in read few
-field-reads right field (read small) = read small
-
-may-reads : (caller uic protect : ℕ) (right : Right) → May caller uic protect right → May caller uic protect Read
-may-reads caller uic protect right (owner-reads is) = owner-reads is
-may-reads caller uic protect right (owner-writes is clear) = owner-reads is
-may-reads caller uic protect right (owner-deletes is clear) = owner-reads is
-may-reads caller uic protect right (group {right = k} apart same field) = group apart same (field-reads k _ field)
-may-reads caller uic protect right (others {right = k} other field) = others other (field-reads k _ field)
 
 -- an entry of the same name, extension and UIC has the same key
 keyed-alike : {key : Key} {x y : Entry} → SameFile x y → Keyed key y → Keyed key x
@@ -174,7 +160,7 @@ module _ {img : List ℕ} {key : Key} {g : Geometry} {e caller place : ℕ} {pay
         let kept = framed (stored .stated) (stored .right) (stored .within) i word low high in
         let alike = same-file (stored .stated) (stored .right) (stored .within) i word low high in
         let block : ℕ = getD (blocksAt img g e) place 0 in
-        let range = used .bodies block (count-place (blocksAt img g e) place (omega (arith, stored .inside, blocks-length img g e))) in
+        let range = used .bodies block (count-at (blocksAt img g e) place block (omega (arith, stored .inside, blocks-length img g e)) refl) in
         record {
           stated = stated-framed (stored .stated) (stored .right) kept;
           right = right;

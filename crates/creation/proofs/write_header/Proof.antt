@@ -1,6 +1,7 @@
 use native.Mathlib.Omega.{arith}
 use borrow.Author.Needs.{needs}
-use Rattle.creation.proofs.Room.{form-small, header-long, blocks-small, contents-small, uics-small}
+use Rattle.pack.proofs.Measures.{form-small}
+use Rattle.creation.proofs.Room.{header-long, blocks-small, contents-small, uics-small}
 use Rattle.creation.proofs.Writing.{headed-is}
 use Rattle.creation.proofs.write_header.Statement.{statement}
 use Rattle.creation.proofs.write_header.Tie as tie

@@ -5,6 +5,7 @@ use native.Mathlib.Omega.{arith}
 use lib.ListN.{length}
 use borrow.Author.Needs.{needs}
 use Rattle.pack.specs.Geometry.{slots}
+use Rattle.pack.proofs.Measures.{sized-few, below-count, past-count}
 use Rattle.printing.specs.Listing.{linesFrom}
 use Rattle.printing.specs.Parts.{mostLine}
 use Rattle.printing.specs.Put.{Put}
@@ -14,43 +15,42 @@ use Rattle.printing.proofs.put_lines.Statement.{statement}
 use Rattle.printing.proofs.put_lines.Tie as tie
 
 abbrev Inv-loop : tie.InvT-loop
-Inv-loop out₀ at img g total next₀ e₀ out next e = (length out ≡ length out₀)
+Inv-loop out₀ at img g total next₀ e₀ out next e = (total ≡ slots g)
+    × (length out ≡ length out₀)
     × (next + mostLine * (slots g - e) ≤ at + mostLine * slots g)
     × ((u : List ℕ) (k : ℕ) → Put out u next k (linesFrom img g e (slots g - e)) → Put out₀ u at k (linesFrom img g 0 (slots g)))
 
 abbrev μ-loop : tie.MeasureT-loop
 μ-loop out₀ at img g total next₀ e₀ out next e = slots g - e
 
-mul-total : tie.Need-mul-total Inv-loop μ-loop
-mul-total c = omega (arith, c .before .before .before .pre .0 .few)
-
-mul-total-2 : tie.Need-mul-total-2 Inv-loop μ-loop
-mul-total-2 c = omega (arith, c .before .before .before .before .pre .1)
+slot-count-requires : tie.Need-slot-count-requires Inv-loop μ-loop
+slot-count-requires c κs = sized-few (c .before .before .pre .0)
 
 loop-holds : tie.Need-loop-holds Inv-loop μ-loop
-loop-holds c = (refl, omega (arith, c .before .before .before .before .pre .1), λ u k put. lines-all _ _ _ put)
+loop-holds c = (c .slot-count .ensures .0, refl, omega (arith, c .before .before .before .pre .1), λ u k put. lines-all _ _ _ put)
 
 put-entry-requires : tie.Need-put-entry-requires Inv-loop μ-loop
-put-entry-requires c κs = (c .before .before .before .before .before .before .before .pre .0, (c .before .loop-test .taken, omega arith))
+put-entry-requires c κs = (c .before .before .before .before .before .before .pre .0, ((below-count (c .before .before .loop .inv .0) (c .before .loop-test .taken)), omega (arith, (below-count (c .before .before .loop .inv .0) (c .before .loop-test .taken)), c .before .before .loop .inv .2)))
 
 add-e : tie.Need-add-e Inv-loop μ-loop
-add-e c = omega (arith, c .before .before .before .before .loop-test .taken)
+add-e c = omega (arith, c .before .before .before .before .loop-test .taken, c .before .before .before .before .before .before .slot-count .ensures .1)
 
 loop-less : tie.Need-loop-less Inv-loop μ-loop
-loop-less c = omega (arith, c .before .before .before .before .loop-test .taken)
+loop-less c = omega (arith, (below-count (c .before .before .before .before .before .loop .inv .0) (c .before .before .before .before .loop-test .taken)))
 
 loop-again : tie.Need-loop-again Inv-loop μ-loop
 loop-again c = (
-  put-length (c .before .before .put-entry .ensures .0) ∙ c .before .before .before .before .before .loop .inv .0,
-  omega (arith, c .before .before .before .before .loop-test .taken, c .before .before .put-entry .ensures .1),
-  λ u k put. c .before .before .before .before .before .loop .inv .2 u k (lines-step _ _ _ _ (c .before .before .before .before .loop-test .taken) (c .before .before .put-entry .ensures .0) put),
+  c .before .before .before .before .before .loop .inv .0,
+  put-length (c .before .before .put-entry .ensures .0) ∙ c .before .before .before .before .before .loop .inv .1,
+  omega (arith, (below-count (c .before .before .before .before .before .loop .inv .0) (c .before .before .before .before .loop-test .taken)), c .before .before .put-entry .ensures .1, c .before .before .before .before .before .loop .inv .2),
+  λ u k put. c .before .before .before .before .before .loop .inv .3 u k (lines-step _ _ _ _ (below-count (c .before .before .before .before .before .loop .inv .0) (c .before .before .before .before .loop-test .taken)) (c .before .before .put-entry .ensures .0) put),
 )
 
 same-length : tie.Need-same-length Inv-loop μ-loop
 same-length c = search needs
 
 returns : tie.Need-returns Inv-loop μ-loop
-returns c = (c .before .loop .inv .2 _ _ (lines-end _ _ _ _ _ _ (c .loop-test .left)), omega arith)
+returns c = (c .before .loop .inv .3 _ _ (lines-end _ _ _ _ _ _ (past-count (c .before .loop .inv .0) (c .loop-test .left))), omega (arith, c .before .loop .inv .2))
 
 pub put-lines-spec : {M : Type 1} → statement M
 put-lines-spec =
@@ -58,8 +58,7 @@ put-lines-spec =
     (tie.spec
     Inv-loop
     μ-loop
-    mul-total
-    mul-total-2
+    slot-count-requires
     loop-holds
     put-entry-requires
     add-e

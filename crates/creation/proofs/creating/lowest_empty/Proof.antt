@@ -1,48 +1,43 @@
-use Prim.Native.Nat.{_-_, _≤_}
+use Prim.Native.Nat.{_-_}
 use mathlib.Core.Path.{_≡_, sym, ap, _∙_}
 use native.Mathlib.Omega.{arith}
 use Rattle.pack.specs.Geometry.{slots}
-use Rattle.pack.proofs.Measures.{few-words}
+use Rattle.pack.proofs.Measures.{sized-few, below-count, past-count}
 use Rattle.creation.specs.Creating.{emptyFrom}
 use Rattle.creation.proofs.Lowest.{empty-here, empty-next, empty-end}
 use Rattle.creation.proofs.creating.lowest_empty.Statement.{statement}
 use Rattle.creation.proofs.creating.lowest_empty.Tie as tie
 
 abbrev Inv-loop : tie.InvT-loop
-Inv-loop img g total e₀ e = emptyFrom img g 0 (slots g) ≡ emptyFrom img g e (slots g - e)
+Inv-loop img g total e₀ e = (total ≡ slots g) × (emptyFrom img g 0 (slots g) ≡ emptyFrom img g e (slots g - e))
 
 abbrev μ-loop : tie.MeasureT-loop
 μ-loop img g total e₀ e = slots g - e
 
-mul-total : tie.Need-mul-total Inv-loop μ-loop
-mul-total c = omega (arith, c .before .before .pre .0 .few)
-
-mul-total-2 : tie.Need-mul-total-2 Inv-loop μ-loop
-mul-total-2 c = let few : c .before .before .before .args .g .contents ≤ 1024 = omega (arith, c .before .before .before .pre .0 .contents, c .before .before .before .pre .0 .bodies, c .before .before .before .pre .0 .most) in
-    omega (arith, few-words few (c .before .before .before .pre .0 .few))
+slot-count-requires : tie.Need-slot-count-requires Inv-loop μ-loop
+slot-count-requires c κs = sized-few (c .before .pre .0)
 
 loop-holds : tie.Need-loop-holds Inv-loop μ-loop
-loop-holds c = let whole : slots (c .before .before .before .args .g) ≡ slots (c .before .before .before .args .g) - 0 = omega arith in
-    ap (emptyFrom _ _ 0) whole
+loop-holds c = let whole : slots (c .before .before .args .g) ≡ slots (c .before .before .args .g) - 0 = omega arith in
+    (c .slot-count .ensures .0, ap (emptyFrom _ _ 0) whole)
 
 entry-word-requires : tie.Need-entry-word-requires Inv-loop μ-loop
-entry-word-requires c κs = (c .before .before .before .before .before .pre .0, (c .loop-test .taken, omega arith))
+entry-word-requires c κs = (c .before .before .before .before .pre .0, ((below-count (c .before .loop .inv .0) (c .loop-test .taken)), omega arith))
 
 returns : tie.Need-returns Inv-loop μ-loop
-returns c = sym (c .before .before .before .loop .inv ∙ empty-here _ _ _ _ _ (c .before .before .loop-test .taken) (c .before .entry-word .ensures .0) (c .before .before .before .before .before .before .before .pre .1 _ (c .before .before .loop-test .taken)) (c .if1 .taken))
+returns c = sym (c .before .before .before .loop .inv .1 ∙ empty-here _ _ _ _ _ (below-count (c .before .before .before .loop .inv .0) (c .before .before .loop-test .taken)) (c .before .entry-word .ensures .0) (c .before .before .before .before .before .before .pre .1 _ (below-count (c .before .before .before .loop .inv .0) (c .before .before .loop-test .taken))) (c .if1 .taken))
 
 add-e : tie.Need-add-e Inv-loop μ-loop
-add-e c = let few : c .before .before .before .before .before .before .before .args .g .contents ≤ 1024 = omega (arith, c .before .before .before .before .before .before .before .pre .0 .contents, c .before .before .before .before .before .before .before .pre .0 .bodies, c .before .before .before .before .before .before .before .pre .0 .most) in
-    omega (arith, few-words few (c .before .before .before .before .before .before .before .pre .0 .few), c .before .before .loop-test .taken)
+add-e c = omega (arith, c .before .before .loop-test .taken, c .before .before .before .before .slot-count .ensures .1)
 
 loop-less : tie.Need-loop-less Inv-loop μ-loop
-loop-less c = omega (arith, c .before .before .loop-test .taken)
+loop-less c = omega (arith, (below-count (c .before .before .before .loop .inv .0) (c .before .before .loop-test .taken)))
 
 loop-again : tie.Need-loop-again Inv-loop μ-loop
-loop-again c = c .before .before .before .loop .inv ∙ empty-next _ _ _ _ _ (c .before .before .loop-test .taken) (c .before .entry-word .ensures .0) (c .if1 .left)
+loop-again c = (c .before .before .before .loop .inv .0, c .before .before .before .loop .inv .1 ∙ empty-next _ _ _ _ _ (below-count (c .before .before .before .loop .inv .0) (c .before .before .loop-test .taken)) (c .before .entry-word .ensures .0) (c .if1 .left))
 
 returns-2 : tie.Need-returns-2 Inv-loop μ-loop
-returns-2 c = sym (c .before .loop .inv ∙ empty-end _ _ _ _ (c .loop-test .left))
+returns-2 c = sym (c .before .loop .inv .1 ∙ empty-end _ _ _ _ (past-count (c .before .loop .inv .0) (c .loop-test .left)))
 
 pub lowest-empty-spec : {M : Type 1} → statement M
 lowest-empty-spec =
@@ -50,8 +45,7 @@ lowest-empty-spec =
     (tie.spec
     Inv-loop
     μ-loop
-    mul-total
-    mul-total-2
+    slot-count-requires
     loop-holds
     entry-word-requires
     returns

@@ -1,9 +1,9 @@
 use borrow.Author.Needs.{needs}
 use native.Mathlib.Omega.{arith}
 use mathlib.Core.Path.{refl}
-use Rattle.consistency.proofs.Entries.{slots-few}
-use Rattle.consistency.proofs.slot_count.Statement.{statement}
-use Rattle.consistency.proofs.slot_count.Tie as tie
+use Rattle.pack.proofs.Measures.{slots-few}
+use Rattle.pack.proofs.slot_count.Statement.{statement}
+use Rattle.pack.proofs.slot_count.Tie as tie
 
 mul-result : tie.Need-mul-result
 mul-result c = search needs

@@ -1,14 +1,14 @@
 -- How often a number stands in a list, and sums over numbers in a row.
 use Prim.Native.Nat.{ℕ, suc, zero, _+_, _-_, _*_, _≤_, _<_}
 use mathlib.Core.Path.{_≡_, refl, sym, ap, _∙_}
-use mathlib.Core.List.{List, [], _∷_}
+use mathlib.Core.List.{List, [], _∷_, _++_}
 use native.Mathlib.Omega.{arith}
 use native.Mathlib.Decide.{ℕ-discrete}
 use lib.Dec.{ltb}
 use lib.ListN.{length, getD}
 use borrow.Author.Tests.{eq-eqb, ne-eqb, lt-ltb, le-ltb}
 use Rattle.pack.specs.File.{one, count}
 use Rattle.pack.specs.Consistent.{total}
 
 pub count-nil : (b : ℕ) → count b [] ≡ 0
 unfolding count
@@ -21,6 +21,15 @@ count-same b x xs is = simp (eq-eqb b x is)
 pub count-other : (b x : ℕ) (xs : List ℕ) → (b ≡ x → ⊥) → count b (x ∷ xs) ≡ count b xs
 unfolding count
 count-other b x xs other = simp (ne-eqb b x other) (omega arith)
+
+pub count-append : (b : ℕ) (xs ys : List ℕ) → count b (xs ++ ys) ≡ count b xs + count b ys
+unfolding count
+count-append b [] ys = omega arith
+count-append b (x ∷ xs) ys = omega (arith, count-append b xs ys)
+
+pub count-more : (b x : ℕ) (xs : List ℕ) → count b xs ≤ count b (x ∷ xs)
+unfolding count
+count-more b x xs = omega arith
 
 pub count-split : (b x : ℕ) (xs : List ℕ) → count b (x ∷ xs) ≡ count b (x ∷ []) + count b xs
 unfolding count
@@ -77,6 +86,7 @@ total-last f from k =
     let size : k + 1 ≡ suc k = omega arith in
     omega (arith, ap (λ (n : ℕ). total f from n) size, total-split f from k 1)
 
+-- a summand is no greater than the sum
 pub total-has : (f : ℕ → ℕ) (i from k : ℕ) → from ≤ i → i < from + k → f i ≤ total f from k
 unfolding total
 total-has f i from zero low high = absurd (omega arith)
@@ -84,13 +94,66 @@ total-has f i from (suc k) low high =
     elim (ℕ-discrete from i)
     [ yes is ↦ omega (arith, ap f is) | no other ↦ omega (arith, total-has f i (from + 1) k (omega (arith, other)) (omega arith)) ]
 
-pub total-two : (f : ℕ → ℕ) (i j from k : ℕ) → i < j → from ≤ i → j < from + k → f i + f j ≤ total f from k
+-- nor are two of them greater
+pub total-two : (f : ℕ → ℕ) (i j e k : ℕ) → (i ≡ j → ⊥) → e ≤ i → i < e + k → e ≤ j → j < e + k → f i + f j ≤ total f e k
 unfolding total
-total-two f i j from zero order low high = absurd (omega arith)
-total-two f i j from (suc k) order low high =
-    elim (ℕ-discrete from i) [
-      | yes is ↦ omega (arith, ap f is, total-has f j (from + 1) k (omega arith) (omega arith))
-      | no other ↦ omega (arith, total-two f i j (from + 1) k order (omega (arith, other)) (omega arith))
+total-two f i j e zero apart low high low₂ high₂ = absurd (omega arith)
+total-two f i j e (suc k) apart low high low₂ high₂ =
+    elim (ℕ-discrete e i) [
+      | yes first ↦ omega (arith, ap f first, total-has f j (e + 1) k (omega (arith, first, apart)) (omega arith))
+      | no later ↦ elim (ℕ-discrete e j) [
+        | yes first ↦ omega (arith, ap f first, total-has f i (e + 1) k (omega (arith, later)) (omega arith))
+        | no later₂ ↦ omega (arith, total-two f i j (e + 1) k apart (omega (arith, later)) (omega arith) (omega (arith, later₂)) (omega arith))
+      ]
+    ]
+
+-- one summand exchanged, and two
+pub total-swap : (f f′ : ℕ → ℕ) (j e k : ℕ) → ((i : ℕ) → e ≤ i → i < e + k → (i ≡ j → ⊥) → f′ i ≡ f i) → e ≤ j → j < e + k → total f′ e k + f j ≡ total f e k + f′ j
+unfolding total
+total-swap f f′ j e zero same low high = absurd (omega arith)
+total-swap f f′ j e (suc k) same low high =
+    elim (ℕ-discrete e j) [
+      | yes first ↦
+          omega
+          (arith, total-same f′ f (e + 1) k (λ i above below. same i (omega arith) (omega arith) (λ is. omega (arith, is, first))), ap f first, ap f′ first)
+      | no later ↦
+          omega (
+            arith,
+            same e (omega arith) (omega arith) later,
+            total-swap f f′ j (e + 1) k (λ i above below other. same i (omega arith) (omega arith) other) (omega (arith, later)) (omega arith),
+          )
+    ]
+
+pub total-swap-two : (f f′ : ℕ → ℕ) (j l e k : ℕ) → (j ≡ l → ⊥)
+    → ((i : ℕ) → e ≤ i → i < e + k → (i ≡ j → ⊥) → (i ≡ l → ⊥) → f′ i ≡ f i) → e ≤ j → j < e + k → e ≤ l → l < e + k
+    → total f′ e k + (f j + f l) ≡ total f e k + (f′ j + f′ l)
+unfolding total
+total-swap-two f f′ j l e zero apart same low high low₂ high₂ = absurd (omega arith)
+total-swap-two f f′ j l e (suc k) apart same low high low₂ high₂ =
+    elim (ℕ-discrete e j) [
+      | yes first ↦
+          omega (
+            arith,
+            ap f first,
+            ap f′ first,
+            total-swap f f′ l (e + 1) k (λ i above below other. same i (omega arith) (omega arith) (λ is. omega (arith, is, first)) other) (omega (arith, first, apart)) (omega arith),
+          )
+      | no later ↦ elim (ℕ-discrete e l) [
+        | yes first ↦
+            omega (
+              arith,
+              ap f first,
+              ap f′ first,
+              total-swap f f′ j (e + 1) k (λ i above below other. same i (omega arith) (omega arith) other (λ is. omega (arith, is, first))) (omega (arith, later)) (omega arith),
+            )
+        | no later₂ ↦
+            omega (
+              arith,
+              same e (omega arith) (omega arith) later later₂,
+              total-swap-two f f′ j l (e + 1) k apart (λ i above below other other₂. same i (omega arith) (omega arith) other other₂)
+                  (omega (arith, later)) (omega arith) (omega (arith, later₂)) (omega arith),
+            )
+      ]
     ]
 
 -- sums of sums, in either order
