@@ -198,7 +198,7 @@ typedef struct {
 
 /*
  * Whose a block is. Asked for each block from 0 to n - 1 it gives an account of the whole pack: each file shows up
- * length times, once with each place below its length, and what is left is free.
+ * length times, once with each place below its length, and what is left is the system's or free.
  *   ABZ_INCONSISTENT
  *   ABZ_NO_BLOCK      block is n or more.
  */

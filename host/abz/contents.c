@@ -1,3 +1,4 @@
+/* What an image says of itself, read from its words. */
 #include "contents.h"
 
 enum { BLOCK_ENTRIES = 16, ENTRY_BYTES = 32 };

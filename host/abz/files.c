@@ -1,3 +1,4 @@
+/* Files of the host: read whole, and replaced whole or not at all. */
 #define _XOPEN_SOURCE 700 /* POSIX 2008, with realpath */
 #include "files.h"
 
@@ -170,8 +171,15 @@ bool replace_file(const char *name, const uint8_t *bytes, size_t length)
     char *path; /* where symbolic links lead: the file there is to be replaced, and not the link */
     bool right;
 
-    if (stat(name, &old) != 0)
-        return errno == ENOENT ? replace_there(name, name, bytes, length, NULL) : complain_of(name);
+    if (stat(name, &old) != 0) {
+        if (errno != ENOENT)
+            return complain_of(name);
+        if (lstat(name, &old) == 0) {
+            complain("%s: is a link that leads nowhere", name);
+            return false;
+        }
+        return replace_there(name, name, bytes, length, NULL);
+    }
     if (!is_regular(name, old.st_mode) || !is_writable(name))
         return false;
     path = realpath(name, NULL);

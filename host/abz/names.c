@@ -1,3 +1,4 @@
+/* How a technician writes numbers, UICs and file names. */
 #include "names.h"
 
 #include "abezolit.h"

@@ -1,3 +1,4 @@
+/* Packs in files: read, locked, and replaced as a whole. */
 #define _POSIX_C_SOURCE 200809L
 #include "packfile.h"
 
@@ -37,8 +38,13 @@ static bool open_locked(const char *path, int *descriptor)
         if (!is_regular(path, named.st_mode)) /* before it is opened: to open a device or a pipe may do something */
             return false;
         *descriptor = open(path, O_RDWR);
-        if (*descriptor < 0 || !wait_for_lock(*descriptor) || fstat(*descriptor, &opened) != 0)
+        if (*descriptor < 0)
             return complain_of(path);
+        if (!wait_for_lock(*descriptor) || fstat(*descriptor, &opened) != 0) {
+            complain_of(path);
+            close(*descriptor);
+            return false;
+        }
         if (stat(path, &named) == 0 && same_file(&opened, &named))
             return true;
         close(*descriptor);

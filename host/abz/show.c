@@ -1,3 +1,4 @@
+/* Numbers and names on standard output. */
 #include "show.h"
 
 #include "abezolit.h"

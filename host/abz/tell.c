@@ -1,4 +1,4 @@
-/* The words of the codes: the only place where abz knows what a code means. */
+/* A refusal in words: what each code means to a technician, for each command. */
 #include "tell.h"
 
 #include "abezolit.h"

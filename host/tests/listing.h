@@ -17,9 +17,9 @@ static inline void try_command(const char *command, const char *text, const char
 {
     static char got[LISTING_ROOM + 1];
     FILE *output = popen(command, "r");
-    size_t count = fread(got, 1, sizeof got, output);
+    size_t count = output ? fread(got, 1, sizeof got, output) : 0;
 
-    CHECK_NUMBER(pclose(output), 0, "%s: status", name);
+    CHECK_NUMBER(output ? pclose(output) : -1, 0, "%s: status", name);
     CHECK_NUMBER(count, strlen(text), "%s: bytes written", name);
     CHECK_BYTES((uint8_t *)got, (const uint8_t *)text, count < strlen(text) ? count : strlen(text), "%s: text", name);
 }

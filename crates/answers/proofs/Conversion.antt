@@ -9,6 +9,7 @@ use native.Mathlib.Omega.{arith}
 use native.Mathlib.Decide.{ℕ-discrete}
 use lib.ListN.{length}
 use borrow.Author.Tests.{eq-eqb, ne-eqb}
+use Rattle.answers.proofs.Refusals.{refusal-is}
 use Rattle.answers.specs.Refusals.{tableOrder, inOrder, firstOf, onSuccess, answered, lent}
 use Rattle.answers.specs.Conversion.{orElse, conversionRows, toNumber, Written, toCharacters}
 
@@ -126,24 +127,19 @@ module _ (size : ℕ) (characters : ℕ → Option (List ℕ)) (number : ℕ) (b
   unfolding toCharacters
   characters-taken success = code-0-iff size buffer (characters number) .0 success
 
--- what stands beside a code other than 0
-on-refusal : {A : Type 0} (code : ℕ) (success refusal : A) → (code ≡ 0 → ⊥) → onSuccess code success refusal ≡ refusal
-unfolding onSuccess
-on-refusal code success refusal refused = rw (ne-eqb code 0 refused)
-
 -- "A refusal returns its code, any other number in the answer 0"
 pub number-refused : (size : ℕ) (number : List ℕ → Option ℕ) (characters : List ℕ) → (toNumber size number characters .code ≡ 0 → ⊥)
     → toNumber size number characters .number ≡ 0
 unfolding toNumber answered
 number-refused size number characters refused =
-    on-refusal (firstOf (conversionRows size characters (number characters))) (orElse 0 (number characters)) 0 refused
+    refusal-is (orElse 0 (number characters)) 0 refused
 
 -- "and nothing in the image or a lent buffer changes."
 pub characters-refused : (size : ℕ) (characters : ℕ → Option (List ℕ)) (number : ℕ) (buffer : List ℕ)
     → (toCharacters size characters number buffer .code ≡ 0 → ⊥) → toCharacters size characters number buffer .buffer ≡ buffer
 unfolding toCharacters lent
 characters-refused size characters number buffer refused =
-    on-refusal (firstOf (conversionRows size buffer (characters number))) (orElse buffer (characters number)) buffer refused
+    refusal-is (orElse buffer (characters number)) buffer refused
 
 -- an answer of characters in its two parts, as a call gives them
 pub in-parts : {result : Written} {code : ℕ} {buffer : List ℕ} → result ≡ record { code = code; buffer = buffer } → (code ≡ result .code) × (buffer ≡ result .buffer)

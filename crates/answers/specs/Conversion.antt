@@ -1,4 +1,4 @@
--- A conversion, either way: characters to a number, and a number to characters in a lent buffer.
+-- What may be missing; and a conversion, either way: characters to a number, and a number to characters in a lent buffer.
 use Prim.Native.Nat.{ℕ}
 use mathlib.Core.Bool.{Bool, true, false, not}
 use mathlib.Core.List.{List, [], _∷_}

@@ -1,4 +1,4 @@
--- The laws of keys, of finding, of rights and of outcomes.
+-- The laws of keys and finding, of rights, opens, outcomes and stages, and of words written into an entry.
 pub mod Keys
 pub mod Legal
 pub mod Rights

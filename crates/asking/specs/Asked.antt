@@ -1,4 +1,4 @@
--- The first stage of every request on a file: a consistent image, a legal name, right arguments, and the file's entry.
+-- The first stage of every request on one file that is there: a consistent image, a legal name, right arguments, and the file's entry.
 use Prim.Native.Nat.{ℕ}
 use mathlib.Core.Bool.{Bool, not}
 use mathlib.Core.List.{List, [], _∷_}

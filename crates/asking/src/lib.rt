@@ -1,14 +1,14 @@
 // What all requests share: the key of a file, finding its entry, rights, opens, and the words of an entry that are written.
 ghost use mathlib.Core.Path.{_≡_};
 ghost use mathlib.Core.Bool.{true};
-ghost use Prim.Native.Nat.{ℕ, _+_, _≤_, _<_};
+ghost use Prim.Native.Nat.{ℕ, _+_, _<_};
 ghost use lib.ListN.{getD, replicate};
 ghost use Rattle.pack.specs.Form.{mostBlocks};
 ghost use Rattle.pack.specs.Consistent.{held};
 ghost use Rattle.consistency.specs.Test.{consistent};
 ghost use Rattle.pack.specs.Geometry.{Sized, slots};
 ghost use Rattle.asking.specs.Opens.{isOpen, isFull};
-ghost use Rattle.asking.specs.Written.{setEntryWord, clearEntryWords, clearEntry};
+ghost use Rattle.asking.specs.Written.{setEntryWord, clearEntry};
 ghost use Rattle.asking.specs.Keys.{keyOf, legalKey, matches, findFrom, foundIn};
 ghost use Rattle.asking.specs.Asked.{askedOf};
 ghost use Rattle.asking.specs.Rights.{inField, owners, may, granted};

@@ -13,6 +13,7 @@ use Rattle.radix.proofs.Characters.{Coded, code-blank, character-blank}
 use Rattle.radix.proofs.Packing.{word-pair}
 use Rattle.cursor.specs.Words.{filledWord, firstWord, secondWord}
 use Rattle.cursor.proofs.Classes.{named-coded, letters-named}
+use Rattle.cursor.proofs.Words.{filled-word, all-take, all-drop}
 use Rattle.grammar.specs.Parsed.{Device, File, Uic, Switch, Specification, Parsed}
 use Rattle.grammar.specs.Grammar.{All, nil, cons, Run, IsDevice, IsFile, AreValues, IsSwitch, AreSwitches, IsSpecification, IsSide, Command}
 use Rattle.grammar.specs.Grammar as G
@@ -45,40 +46,15 @@ same-front m n (cons {c} {s} e a) (cons {c = d} {s = t} f b) is =
     let behind : s ≡ t = same-front m n a b rest in
     cc
 
-blank-coded : Coded blank
-blank-coded = record { code = 0; is = code-blank blank refl; back = character-blank 0 refl; bound = omega arith }
-
-three-coded : (x y z : ℕ) → Coded x → Coded y → Coded z → wordOf (x ∷ (y ∷ (z ∷ []))) ≡ some (orElse 0 (wordOf (x ∷ (y ∷ (z ∷ [])))))
-unfolding wordOf
-three-coded x y z a b c = rw (a .is, b .is, c .is)
-
-word-there : (s : List ℕ) → length s ≤ 3 → All isLetterOrDigit s → wordOf (blankFilled 3 s) ≡ some (filledWord s)
-unfolding filledWord
-word-there s few nil = three-coded blank blank blank blank-coded blank-coded blank-coded
-word-there s few (cons {c = x} a nil) = three-coded x blank blank (named-coded x a) blank-coded blank-coded
-word-there s few (cons {c = x} a (cons {c = y} b nil)) = three-coded x y blank (named-coded x a) (named-coded y b) blank-coded
-word-there s few (cons {c = x} a (cons {c = y} b (cons {c = z} d nil))) = three-coded x y z (named-coded x a) (named-coded y b) (named-coded z d)
-word-there s few (cons a (cons b (cons d (cons e more)))) = absurd (omega arith)
-
 filled-long : (s : List ℕ) → length s ≤ 3 → length (blankFilled 3 s) ≡ 3
 filled-long s few = simp (length-append, length-replicate) (omega arith)
 
 word-same : {s t : List ℕ} → length s ≤ 3 → length t ≤ 3 → All isLetterOrDigit s → All isLetterOrDigit t → filledWord s ≡ filledWord t → s ≡ t
 word-same {s} {t} few few′ a b is =
-    let one = word-pair .forth (blankFilled 3 s) (filledWord s) (filled-long s few) (word-there s few a) in
-    let other = word-pair .forth (blankFilled 3 t) (filledWord t) (filled-long t few′) (word-there t few′ b) in
+    let one = word-pair .forth (blankFilled 3 s) (filledWord s) (filled-long s few) (filled-word s few a) in
+    let other = word-pair .forth (blankFilled 3 t) (filledWord t) (filled-long t few′) (filled-word t few′ b) in
     let filled : blankFilled 3 s ≡ blankFilled 3 t = cc in
     same-front (3 - length s) (3 - length t) a b filled
-
-all-take : {test : ℕ → Bool} (n : ℕ) {s : List ℕ} → All test s → All test (take n s)
-all-take zero a = nil
-all-take (suc n) nil = nil
-all-take (suc n) (cons e a) = cons e (all-take n a)
-
-all-drop : {test : ℕ → Bool} (n : ℕ) {s : List ℕ} → All test s → All test (drop n s)
-all-drop zero a = a
-all-drop (suc n) nil = nil
-all-drop (suc n) (cons e a) = all-drop n a
 
 name-same : {n m : List ℕ} → Run 1 6 isLetterOrDigit n → Run 1 6 isLetterOrDigit m → pairOf n ≡ pairOf m → n ≡ m
 name-same {n} {m} a b is =

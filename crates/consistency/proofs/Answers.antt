@@ -16,12 +16,13 @@ use Rattle.pack.specs.Test.{listed}
 use Rattle.pack.specs.File.{blocksOf}
 use Rattle.pack.specs.Entry.{entryWord, entryOf, blocksAt, Empty}
 use Rattle.pack.proofs.Tests.{go-on, stop}
+use Rattle.pack.proofs.Files.{empty-blocks}
 use Rattle.consistency.specs.declared.Walked.{Walked}
 use Rattle.consistency.specs.declared.Walked.the-variants.{End, Stopped}
 use Rattle.consistency.specs.Walk.{mark, blocksFrom, walkOf}
 use Rattle.consistency.specs.Entry.{keyTest, kindTest, opensTest, fieldsTest, endTest, bodyTest, restTest, entryTest}
 use Rattle.consistency.proofs.Walking.{Walks, walks, walks-not}
-use Rattle.consistency.proofs.Entries.{empty-blocks, rest-iff}
+use Rattle.consistency.proofs.Entries.{rest-iff}
 
 -- of the test of the name, the extension and the UIC
 module _ (img : List ℕ) (x : Entry) where

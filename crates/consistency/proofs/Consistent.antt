@@ -15,9 +15,9 @@ use Rattle.pack.specs.Entry.{entryWord, entryOf, Empty, RightEntry, SameFile}
 use Rattle.pack.specs.Consistent.{heldIn, held, Consistent}
 use Rattle.pack.proofs.Tests.{and-left, and-right, and-both}
 use Rattle.pack.proofs.Headers.{header-iff, header-sized}
+use Rattle.radix.proofs.Names.{name-not-zero}
 use Rattle.consistency.specs.declared.Opened.the-variants.{Good, Bad}
 use Rattle.consistency.specs.Test.{scanTest, markAll, emptyMap, entriesTest, consistent, openedOf}
-use Rattle.consistency.proofs.Fields.{legal-named}
 use Rattle.consistency.proofs.Differ.{differ-iff}
 use Rattle.consistency.proofs.Scan.{scan-fine, fine-scan, scan-counts}
 
@@ -42,7 +42,7 @@ module _ (img : List ℕ) (g : Geometry) where
   named : (e : ℕ) → RightEntry img g e → (Empty img g e → ⊥) → entryWord img g e 0 ≡ 0 → ⊥
   unfolding entryOf
   named e (inl empty) used is = used empty
-  named e (inr u) used is = legal-named _ _ (u .name) is
+  named e (inr u) used is = name-not-zero _ _ (u .name) is
 
   module _ (few : g .blocks ≤ mostBlocks) where
     long : g .blocks ≤ length emptyMap

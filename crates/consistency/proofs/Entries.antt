@@ -18,10 +18,12 @@ use Rattle.pack.specs.Entry.{entryWord, entryOf, blocksAt, Empty, Used, RightEn
 use Rattle.pack.proofs.Tests.{and-left, and-right, and-both}
 use Rattle.pack.proofs.Measures.{entry-room}
 use Rattle.pack.proofs.Headers.{zeros-at, zeros-all}
+use Rattle.pack.proofs.Files.{empty-blocks}
+use Rattle.radix.proofs.Names.{name-not-zero}
 use Rattle.consistency.specs.Walk.{takes}
 use Rattle.consistency.specs.Entry.{fieldsTest, bodyTest, restTest, entryTest}
 use Rattle.consistency.proofs.Taking.{takes-range}
-use Rattle.consistency.proofs.Fields.{legal-named, fields-iff, kind-iff}
+use Rattle.consistency.proofs.Fields.{fields-iff, kind-iff}
 
 -- an entry stands in the image whole
 pub entry-whole : {img : List ℕ} {g : Geometry} → Sized img g → (e : ℕ) → e < slots g → 2 * (entryAt g e + 16) ≤ length img
@@ -40,11 +42,6 @@ rest-iff img g e i few = (
       let place : entryAt g e + (w - entryAt g e) ≡ w = omega arith in
       sym (ap (wordAt img) place) ∙ zero (w - entryAt g e) (omega arith) (omega arith)),
 )
-
--- an empty entry holds no block
-pub empty-blocks : (img : List ℕ) (g : Geometry) (e : ℕ) → Empty img g e → blocksAt img g e ≡ []
-unfolding blocksOf chain entryOf
-empty-blocks img g e empty = ap (λ (k : ℕ). chain (nextOf img g (entryWord img g e 5)) k (entryWord img g e 6)) (empty .zero 7 (omega arith))
 
 module _ (img : List ℕ) (g : Geometry) (map : List ℕ) (e : ℕ) where
   abbrev Taken : Type 0
@@ -100,4 +97,4 @@ module _ (img : List ℕ) (g : Geometry) (map : List ℕ) (e : ℕ) where
   pub right-entry : RightEntry img g e → Taken → entryTest img g map e ≡ true
   unfolding entryTest
   right-entry (inl empty) taken = empty-of empty
-  right-entry (inr u) taken = simp (ne-eqb _ _ (legal-named _ _ (u .name))) (used-of (entryOf img g e) u taken)
+  right-entry (inr u) taken = simp (ne-eqb _ _ (name-not-zero _ _ (u .name))) (used-of (entryOf img g e) u taken)

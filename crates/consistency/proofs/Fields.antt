@@ -20,10 +20,6 @@ use Rattle.pack.proofs.Headers.{listed-iff}
 use Rattle.consistency.specs.Entry.{keyTest, kindTest, opensTest, fieldsTest, endTest}
 use Rattle.consistency.proofs.Walking.{last-run}
 
--- a legal name has a first word that is not 0
-pub legal-named : (first second : ℕ) → LegalName first second → first ≡ 0 → ⊥
-legal-named first second legal is = true-not-false (sym (name-iff first second .1 legal) ∙ sym (name-blank first second (omega arith)))
-
 pub record Fields (img : List ℕ) (x : Entry) : Type 0 where
   pub name : LegalName (x .name1) (x .name2)
   pub extension : LegalExtension (x .extension)

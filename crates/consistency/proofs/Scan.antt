@@ -13,11 +13,12 @@ use Rattle.pack.specs.Entry.{blocksAt, RightEntry}
 use Rattle.pack.specs.Consistent.{total}
 use Rattle.pack.proofs.Tests.{and-left, and-right, and-both}
 use Rattle.pack.proofs.Counting.{count-nil}
+use Rattle.pack.proofs.Files.{empty-blocks}
 use Rattle.consistency.specs.Walk.{mark}
 use Rattle.consistency.specs.Entry.{entryTest}
 use Rattle.consistency.specs.Test.{scanTest, markAll}
 use Rattle.consistency.proofs.Taking.{mark-length, mark-count, takes-once, takes-all}
-use Rattle.consistency.proofs.Entries.{empty-blocks, entry-right, right-entry}
+use Rattle.consistency.proofs.Entries.{entry-right, right-entry}
 use Rattle.consistency.proofs.Differ.{left-of}
 
 module _ (img : List ℕ) (g : Geometry) where

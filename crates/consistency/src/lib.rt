@@ -132,7 +132,7 @@ fn is_rest_zero(img: &[u8], g: Geometry, e: usize, i: usize) -> bool
     requires { ⌜ (e < slots g) × (i < 16) ⌝ }
     ensures { λ r. ⌜ r ≡ restTest (now (img .entry)) g e i ⌝ }
 {
-    pack::zero_words(img, 64 * g.segments.0 + 16 * e + i, 16 - i)
+    pack::are_words_zero(img, 64 * g.segments.0 + 16 * e + i, 16 - i)
 }
 
 // Do the blocks of a file end as its entry says? They are taken on the map.
@@ -282,14 +282,4 @@ pub fn open_pack(img: &[u8], map: &mut [u8]) -> Opened
         return Opened::Bad;
     }
     Opened::Good(g)
-}
-
-pub fn is_consistent(img: &[u8]) -> bool
-    ensures { λ r. ⌜ r ≡ consistent (now (img .entry)) ⌝ }
-{
-    let mut map = [0u8; pack::MOST_BLOCKS];
-    let Opened::Good(_) = open_pack(img, &mut map) else {
-        return false;
-    };
-    true
 }

@@ -140,6 +140,7 @@ fn characters() {
     radpk(b"K\xc2 ");
     radpk(b"kb ");
     radpk(b"A\0Z");
+    radpk(b"\x1f~\x7f");
     radpk(b"@AZ");
     radpk(b"AZ[");
     radpk(b"0/9");

@@ -19,7 +19,8 @@ use Rattle.pack.specs.Entry.{entryOf, Contiguous}
 use Rattle.pack.specs.Consistent.{Consistent}
 use Rattle.pack.specs.Owner.{FreeBlock, ownerOf}
 use Rattle.pack.specs.Untouched.{Untouched}
-use Rattle.frame.proofs.Chain.{next-contiguous, chain-length, extent-place, extent-below, extent-above, extent-most}
+use Rattle.pack.proofs.Files.{chain-length, next-contiguous}
+use Rattle.frame.proofs.Chain.{extent-place, extent-below, extent-above, extent-most}
 use Rattle.frame.specs.Framed.{Only, Never, Kept}
 use Rattle.frame.proofs.Framing.{kept-same}
 use Rattle.frame.proofs.Untouched.{untouched-refl}

@@ -20,12 +20,12 @@ use Rattle.pack.specs.Consistent.{Consistent}
 use Rattle.pack.specs.Owner.{FreeBlock, placeFrom, ownerOf, HeldAt}
 use Rattle.pack.specs.Untouched.{Untouched}
 use Rattle.pack.proofs.Headers.{listed-iff}
+use Rattle.pack.proofs.Files.{empty-blocks}
 use Rattle.asking.proofs.Keys.{legal-iff, absent-iff}
-use Rattle.owners.proofs.Owner.{owner-held}
+use Rattle.owners.proofs.Owner.{owner-held, held-of}
 use Rattle.owners.proofs.Places.{place-none}
 use Rattle.frame.specs.Framed.{Only, Never, Kept, Framed}
 use Rattle.frame.specs.Framed.Distinct.{new}
-use Rattle.frame.proofs.Same.{empty-blocks}
 use Rattle.frame.proofs.Frame.{stated-framed, listed-framed}
 use Rattle.frame.proofs.Held.{framed-never}
 use Rattle.frame.proofs.Consistency.{consistent-one}
@@ -42,14 +42,6 @@ rest-zero : (x : Entry) (i : ℕ) → 11 ≤ i → i < 16 → getD (wordsOf x) i
 rest-zero x i low high =
     let place : i ≡ 11 + (i - 11) = omega arith in
     ap (λ (k : ℕ). getD (wordsOf x) k 0) place ∙ getD-append-add (take 11 (wordsOf x)) (replicate 5 0) (i - 11) 0 ∙ getD-replicate 5 (i - 11) 0 0 (omega arith)
-
-held-by : (img : List ℕ) (g : Geometry) (e p b : ℕ) → g ≡ geometryOf img → e < slots g → p < length (blocksAt img g e) → getD (blocksAt img g e) p 0 ≡ b → HeldAt img e p b
-held-by img g e p b stated inside place is =
-    record {
-      entry = subst (λ (h : Geometry). e < slots h) stated inside;
-      place = subst (λ (h : Geometry). p < length (blocksAt img h e)) stated place;
-      is = subst (λ (h : Geometry). getD (blocksAt img h e) p 0 ≡ b) stated is;
-    }
 
 module _ {img : List ℕ} {key : Key} {caller protect : ℕ} {wrong : Bool} (ready : Creatable img key caller protect wrong)
     (shape : Shape) where
@@ -122,7 +114,7 @@ module _ {img : List ℕ} {key : Key} {caller protect : ℕ} {wrong : Bool} (rea
         → ownerOf entered b ≡ Held (entryFor img) (record { 0 = p })
     entered-owner p b place is =
         owner-held entered-consistent b (entryFor img) p .1
-        (held-by entered (geometryOf img) (entryFor img) p b (stated-framed refl (ready .right) framed) (ready .entry .inside)
+        (held-of entered (geometryOf img) (entryFor img) p b (stated-framed refl (ready .right) framed) (ready .entry .inside)
         (omega (arith, place, ap length blocks-entered)) (ap (λ (blocks : List ℕ). getD blocks p 0) blocks-entered ∙ is))
 
   -- any other block is whose it was

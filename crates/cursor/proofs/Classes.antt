@@ -8,7 +8,8 @@ use borrow.Author.Tests.{leb-true}
 use lib.Dec.{leb}
 use mathlib.Core.List.{List}
 use Rattle.radix.specs.Names.{isLetter, isLetterOrDigit}
-use Rattle.radix.proofs.Characters.{Coded, Outside, coded}
+use Rattle.radix.proofs.Characters.{Coded, coded}
+use Rattle.radix.specs.Characters.{Outside}
 use Rattle.grammar.specs.Grammar.{All, nil, cons}
 
 pub letter-or-digit : (x : ℕ) → isLetterOrDigit x ≡ true → ((65 ≤ x) × (x ≤ 90)) ⊎ ((48 ≤ x) × (x ≤ 57))

@@ -1,4 +1,6 @@
 // A cursor over a command line: a value whose methods return the advanced cursor. And what stands between two places of a line: a number, a word, a name.
+pub mod characters;
+
 ghost use mathlib.Core.Path.{_≡_};
 ghost use Prim.Native.Nat.{_+_, _-_, _<_, _≤_};
 ghost use lib.ListN.{length, take, drop};

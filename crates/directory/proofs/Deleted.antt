@@ -15,10 +15,11 @@ use Rattle.pack.specs.Consistent.{held, Consistent}
 use Rattle.pack.specs.Owner.{placeFrom, ownerOf}
 use Rattle.pack.specs.Untouched.{Untouched, Keyed}
 use Rattle.pack.proofs.Counting.{count-nil}
+use Rattle.pack.proofs.Files.{empty-blocks}
 use Rattle.asking.specs.Asked.{entryNo}
 use Rattle.asking.specs.Written.{clearEntry}
 use Rattle.frame.specs.Framed.{Only, Never, Kept, Framed}
-use Rattle.frame.proofs.Same.{empty-blocks, right-bodies}
+use Rattle.frame.proofs.Same.{right-bodies}
 use Rattle.frame.proofs.Frame.{geometry-framed, entries-at}
 use Rattle.frame.proofs.Held.{framed-never, held-one}
 use Rattle.frame.proofs.Described.{consistent-emptied}

@@ -12,11 +12,6 @@ use Rattle.pack.specs.declared.Geometry.{Geometry}
 use Rattle.pack.specs.File.{linkOf, nextOf, chain, after, lastOf, count}
 use Rattle.pack.proofs.Counting.{count-nil, count-same, count-other, count-more}
 
--- the block behind another one, by the kind of the file
-pub next-contiguous : (img : List ℕ) (g : Geometry) (kind b : ℕ) → kind ≡ 1 → nextOf img g kind b ≡ b + 1
-unfolding nextOf
-next-contiguous img g kind b is = simp (eq-eqb kind 1 is)
-
 pub next-linked : (img : List ℕ) (g : Geometry) (kind b : ℕ) → kind ≡ 2 → nextOf img g kind b ≡ linkOf img g b
 unfolding nextOf
 next-linked img g kind b is =
@@ -29,11 +24,6 @@ unfolding nextOf
 next-same img img′ g kind b same = ap (cond (eqb kind 1) (b + 1)) same
 
 module _ (f : ℕ → ℕ) where
-  pub chain-length : (k b : ℕ) → length (chain f k b) ≡ k
-  unfolding chain
-  chain-length zero b = refl
-  chain-length (suc k) b = ap suc (chain-length k (f b))
-
   -- the block at a place is where as many steps lead
   pub chain-place : (k b p : ℕ) → p < k → getD (chain f k b) p 0 ≡ after f p b
   unfolding chain after

@@ -13,9 +13,9 @@ use Rattle.pack.specs.File.{count}
 use Rattle.pack.specs.Entry.{entryOf, blocksAt, Empty, RightEntry, SameFile}
 use Rattle.pack.specs.Consistent.{held, Consistent}
 use Rattle.pack.proofs.Counting.{count-nil}
+use Rattle.pack.proofs.Files.{empty-blocks}
 use Rattle.frame.specs.Framed.{Only, Either, Framed, Distinct}
 use Rattle.frame.specs.Framed.Distinct.{emptied, known, new}
-use Rattle.frame.proofs.Same.{empty-blocks}
 use Rattle.frame.proofs.Framing.{neither, either-decided}
 use Rattle.frame.proofs.Frame.{header-framed, entry-framed, empty-framed, right-framed, consistent-framed}
 use Rattle.frame.proofs.Alike.{alike-back, alike-through, empty-uic, used-uic, alike-used, unlike}

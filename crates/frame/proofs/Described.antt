@@ -11,11 +11,12 @@ use Rattle.pack.specs.File.{nextOf, chain, after, lastOf, blocksOf, count}
 use Rattle.pack.specs.Entry.{entryOf, blocksAt, Empty, Contiguous, Linked, Used, RightEntry}
 use Rattle.pack.specs.Consistent.{Consistent}
 use Rattle.pack.proofs.Counting.{count-nil}
+use Rattle.pack.proofs.Files.{empty-blocks, next-contiguous}
 use Rattle.frame.specs.Framed.{Only, Never, Framed, Distinct}
 use Rattle.frame.specs.Framed.Distinct.{emptied}
 use Rattle.frame.specs.Described.{Described, Description}
-use Rattle.frame.proofs.Chain.{next-contiguous, next-same, chain-same, after-same, last-same}
-use Rattle.frame.proofs.Same.{empty-blocks, right-bodies}
+use Rattle.frame.proofs.Chain.{next-same, chain-same, after-same, last-same}
+use Rattle.frame.proofs.Same.{right-bodies}
 use Rattle.frame.proofs.Framing.{link-kept}
 use Rattle.frame.proofs.Frame.{header-segments, entries-at}
 use Rattle.frame.proofs.Held.{held-once}

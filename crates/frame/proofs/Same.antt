@@ -12,6 +12,7 @@ use Rattle.pack.specs.Header.{Listed}
 use Rattle.pack.specs.File.{linkOf, nextOf, chain, blocksOf, count}
 use Rattle.pack.specs.Entry.{entryWord, entryOf, blocksAt, Empty, Contiguous, Linked, Used, RightEntry}
 use Rattle.pack.proofs.Counting.{count-nil}
+use Rattle.pack.proofs.Files.{empty-blocks}
 use Rattle.frame.proofs.Chain.{chain-none, chain-same, after-same, last-same, next-same}
 
 -- a word is its two bytes
@@ -29,15 +30,6 @@ link-same img img′ g b some bytes =
     word-same img img′ (blockAt g b)
     (subst (λ (k : ℕ). getD img′ k 0 ≡ getD img k 0) low-place (bytes 0 (omega arith)))
     (subst (λ (k : ℕ). getD img′ k 0 ≡ getD img k 0) high-place (bytes 1 (omega arith)))
-
--- an empty entry has no blocks
-pub empty-length : (img : List ℕ) (g : Geometry) (e : ℕ) → Empty img g e → entryOf img g e .length ≡ 0
-unfolding entryOf
-empty-length img g e empty = empty .zero 7 (omega arith)
-
-pub empty-blocks : (img : List ℕ) (g : Geometry) (e : ℕ) → Empty img g e → blocksAt img g e ≡ []
-unfolding blocksOf
-empty-blocks img g e empty = chain-none (nextOf img g (entryOf img g e .kind)) (entryOf img g e .length) (entryOf img g e .first .0) (empty-length img g e empty)
 
 -- "bodies are numbered above c and below n"
 pub right-bodies : (img : List ℕ) (g : Geometry) (e b : ℕ) → RightEntry img g e → 0 < count b (blocksAt img g e) → (g .bodies .0 ≤ b) × (b < g .blocks)

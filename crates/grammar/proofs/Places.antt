@@ -40,11 +40,6 @@ module _ {A B C : Type 0} (k : A → B → C) (f : List ℕ → Res A) (g : List
   unfolding from
   from-seq-no p h = seq-refused p (f (drop i s)) refl h
 
-module _ {A : Type 0} (u : ℕ → Bool) (f : List ℕ → Res A) (s : List ℕ) (i : ℕ) where
-  moved-mapped : (r : Res A) → moved i (mapped some r) ≡ mapped some (moved i r)
-  moved-mapped (ok a n) = refl
-  moved-mapped (no n) = refl
-
 pub from-word : (a : ℕ) (n : List ℕ → ℕ) (s : List ℕ) (i : ℕ) → a ≤ n (drop i s) → from (word a n) s i ≡ ok (take (n (drop i s)) (drop i s)) (i + n (drop i s))
 unfolding from word
 from-word a n s i l = rw (le-leb a (n (drop i s)) l)

@@ -23,11 +23,6 @@ unfolding many
 enough k s l = many-near (is comma) (seq-reads second (chr-reads comma) specification-reads (λ q rest b y h. tt)) next-first (is-in comma afterSpec refl)
     (length s) k s s (le-refl (length s)) l (agree-refl (suc (used (manyBy (length s) (is comma) next s))) s)
 
-many-stop : (s : List ℕ) → Stop (is comma) s → many (is comma) next s ≡ ok [] 0
-unfolding many manyBy
-many-stop s over = refl
-many-stop s (at e) = rw e
-
 later-later : (n m : ℕ) (v w : Specification) (r : Res (List Specification)) → later n (_∷_ v) (later (1 + m) (_∷_ w) r) ≡ later (suc n) (_∷_ v) (later m (_∷_ w) r)
 later-later n m v w (ok vs x) = ap (ok (v ∷ w ∷ vs)) (omega arith)
 later-later n m v w (no x) = ap no (omega arith)

@@ -17,12 +17,11 @@ use Rattle.pack.specs.Entry.{entryOf, blocksAt}
 use Rattle.pack.specs.Owner.{placeFrom, ownerOf}
 use Rattle.asking.specs.Asked.{entryNo, fileOf}
 use Rattle.owners.proofs.Blocks.{blocks-length}
-use Rattle.owners.proofs.Owner.{owner-held}
+use Rattle.owners.proofs.Owner.{owner-held, held-of}
 use Rattle.frame.proofs.Frame.{geometry-framed}
 use Rattle.frame.proofs.Owner.{owner-framed}
 use Rattle.frame.proofs.Grown.{grown-framed}
 use Rattle.growth.specs.Adding.{addedBlock, linkedAdd}
-use Rattle.growth.proofs.Owners.{held-of}
 use Rattle.growth.proofs.Added.{add-refused, add-admitted, add-enlarged, add-blocks, add-consistent}
 
 -- a block behind a list is not another block's place

@@ -15,29 +15,20 @@ use Rattle.pack.specs.File.{count}
 use Rattle.pack.specs.Entry.{entryOf, blocksAt}
 use Rattle.pack.specs.Owner.{placeFrom, ownerOf, HeldAt}
 use Rattle.pack.proofs.Counting.{count-nil, count-append}
+use Rattle.pack.proofs.Files.{empty-blocks}
 use Rattle.asking.specs.Asked.{entryNo, fileOf}
 use Rattle.owners.proofs.Places.{place-none}
 use Rattle.owners.proofs.Blocks.{blocks-length}
-use Rattle.owners.proofs.Owner.{owner-held}
+use Rattle.owners.proofs.Owner.{owner-held, held-of}
 use Rattle.frame.specs.Framed.{Either}
 use Rattle.frame.proofs.Framing.{either-decided}
 use Rattle.frame.proofs.Frame.{geometry-framed}
-use Rattle.frame.proofs.Same.{empty-blocks}
 use Rattle.frame.proofs.Owner.{owner-framed}
 use Rattle.growth.specs.Appnd.{appnd}
 use Rattle.growth.proofs.Appnd.{appnd-refused, appnd-accepted, appnd-joined, appnd-framed, appnd-blocks, appnd-consistent}
 
 nowhere : (b : ℕ) (xs ys : List ℕ) → count b xs ≡ 0 → count b ys ≡ 0 → placeFrom b 0 xs ≡ placeFrom b 0 ys
 nowhere b xs ys none none₂ = place-none b 0 xs .1 none ∙ sym (place-none b 0 ys .1 none₂)
-
--- what `HeldAt` says, at measures that are those of the image
-pub held-of : (img : List ℕ) (g : Geometry) (e p b : ℕ) → g ≡ geometryOf img → e < slots g → p < length (blocksAt img g e) → getD (blocksAt img g e) p 0 ≡ b → HeldAt img e p b
-held-of img g e p b stated within inside is =
-    record {
-      entry = subst (λ (h : Geometry). e < slots h) stated within;
-      place = subst (λ (h : Geometry). p < length (blocksAt img h e)) stated inside;
-      is = subst (λ (h : Geometry). getD (blocksAt img h e) p 0 ≡ b) stated is;
-    }
 
 module _ (img : List ℕ) (first second : Key) (caller : ℕ) where
   -- a block of neither file

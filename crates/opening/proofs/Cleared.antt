@@ -1,4 +1,4 @@
--- Where no row is given: the file that was asked for is there and in use, and each row is false.
+-- Where no row is given: the file that was asked for is there and in use.
 use Prim.Native.Nat.{ℕ, _<_}
 use mathlib.Core.Path.{_≡_, sym, subst}
 use mathlib.Core.List.{List, _++_}

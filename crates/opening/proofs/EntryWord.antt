@@ -28,22 +28,13 @@ use Rattle.frame.proofs.Described.{next-unwritten, described-blocks, consistent
 use Rattle.frame.proofs.Untouched.{untouched-framed}
 use Rattle.frame.proofs.Owner.{owner-framed}
 use Rattle.asking.specs.Written.{setEntryWord}
+use Rattle.asking.proofs.Keys.{key-single}
 
 -- "a contiguous file's writer is 0 or 1, a linked one's 0, 2 or 3"; "readers, plus 1 if there is a writer, are at most 62"
 pub record Rules (kind writer readers : ℕ) : Type 0 where
   pub contiguous : kind ≡ 1 → (writer ≡ 0) ⊎ (writer ≡ 1)
   pub linked : kind ≡ 2 → (writer ≡ 0) ⊎ ((writer ≡ 2) ⊎ (writer ≡ 3))
   pub opens : readers + one (ltb 0 writer) ≤ 62
-
--- two keys of one entry are one
-same-key : {key key′ : Key} (img : List ℕ) (g : Geometry) (e : ℕ) → Keyed key (entryOf img g e) → Keyed key′ (entryOf img g e) → key′ ≡ key
-same-key img g e keyed keyed′ =
-    λ j. record {
-      name1 = (sym (keyed′ .name1) ∙ keyed .name1) j;
-      name2 = (sym (keyed′ .name2) ∙ keyed .name2) j;
-      extension = (sym (keyed′ .extension) ∙ keyed .extension) j;
-      uic = (sym (keyed′ .uic) ∙ keyed .uic) j;
-    }
 
 module _ {img : List ℕ} {g : Geometry} {e : ℕ} (stated : g ≡ geometryOf img) (consistent : Consistent img) (within : e < slots g) where
   sized : Sized img g
@@ -104,7 +95,7 @@ module _ {img : List ℕ} {g : Geometry} {e : ℕ} (stated : g ≡ geometryOf im
     pub untouched-word : {key : Key} → Keyed key (entryOf img g e) → (key′ : Key) → (key′ ≡ key → ⊥) → Untouched key′ img (setEntryWord img g e i word)
     untouched-word keyed key′ other =
         untouched-framed stated consistent framed key′
-        (λ f inside is used keyed′. other (same-key img g e keyed (subst (λ (n : ℕ). Keyed key′ (entryOf img g n)) is keyed′)))
+        (λ f inside is used keyed′. other (key-single keyed (subst (λ (n : ℕ). Keyed key′ (entryOf img g n)) is keyed′)))
 
     pub owner-word : (b : ℕ) → ownerOf (setEntryWord img g e i word) b ≡ ownerOf img b
     owner-word b =

@@ -17,7 +17,7 @@ use pack::Entry;
 use pack::Geometry;
 use pack::Key;
 
-// For input, for update, for extension.
+// The three opens of a file that is there: OPENI, OPENU, OPENE.
 pub enum Opening {
     Input,
     Update,

@@ -120,13 +120,6 @@ numbers-tell (Held e p) (Held f q) is =
     let places : p .0 ≡ q .0 = cc in
     λ i. Held (entries i) (record { 0 = places i })
 
--- an answer of code 0 that has the numbers of the block's one owner
-pub record Answered (img : List ℕ) (b : ℕ) (given : Outcome) : Type 0 where
-  pub who : Owner
-  pub one : OneOwner img b who
-  pub code : given .code ≡ 0
-  pub numbers : given .numbers ≡ ownerNumbers who
-
 -- what the numbers mean, each answer by itself
 module _ {img : List ℕ} (right : Consistent img) (b : ℕ) (inside : b < geometryOf img .blocks) where
   says : owner img b .numbers ≡ ownerNumbers (ownerOf img b)

@@ -14,19 +14,11 @@ use Rattle.pack.specs.Header.{RightHeader}
 use Rattle.pack.specs.Consistent.{Consistent}
 use Rattle.pack.proofs.Measures.{bodies-inside}
 use Rattle.pack.proofs.Counting.{count-nil}
-
-pub chain-length : (next : ℕ → ℕ) (k b : ℕ) → length (chain next k b) ≡ k
-unfolding chain
-chain-length next zero b = refl
-chain-length next (suc k) b = ap suc (chain-length next k (next b))
+use Rattle.pack.proofs.Files.{chain-length, empty-length}
 
 pub blocks-length : (img : List ℕ) (g : Geometry) (e : ℕ) → length (blocksAt img g e) ≡ entryOf img g e .length
 unfolding blocksOf
 blocks-length img g e = chain-length _ _ _
-
-pub empty-length : (img : List ℕ) (g : Geometry) (e : ℕ) → Empty img g e → entryOf img g e .length ≡ 0
-unfolding entryOf
-empty-length img g e empty = empty .zero 7 (omega arith)
 
 -- the file of an empty entry reaches no block
 pub empty-reaches : (img : List ℕ) (g : Geometry) (b e : ℕ) → Empty img g e → count b (blocksAt img g e) ≡ 0

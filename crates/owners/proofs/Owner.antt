@@ -19,17 +19,21 @@ use Rattle.pack.specs.Entry.{entryOf, blocksAt, Empty}
 use Rattle.pack.specs.Consistent.{held, Consistent}
 use Rattle.pack.specs.Owner.{placeFrom, holder, ownerOf, HeldAt}
 use Rattle.pack.proofs.Counting.{count-at, total-has, total-two}
+use Rattle.pack.specs.declared.Geometry.{Geometry}
 use Rattle.owners.specs.Owner.{Unheld, HeldByOne, OneOwner}
 use Rattle.owners.specs.Owner.OneOwner.{system, free, held-by}
 use Rattle.owners.proofs.Places.{Found, place-found, place-unique, Finds, holder-finds}
 use Rattle.owners.proofs.Places.Finds.{nobody, entry}
 use Rattle.owners.proofs.Blocks.{reaches-bodies}
 
--- what is known of the entry e of a block held at its place p
-pub record InUse (img : List ℕ) (e p : ℕ) : Type 0 where
-  pub used : Empty img (geometryOf img) e → ⊥
-  pub place : p < entryOf img (geometryOf img) e .length
-  pub blocks : length (blocksAt img (geometryOf img) e) ≡ entryOf img (geometryOf img) e .length
+-- what `HeldAt` says, at measures that are those of the image
+pub held-of : (img : List ℕ) (g : Geometry) (e p b : ℕ) → g ≡ geometryOf img → e < slots g → p < length (blocksAt img g e) → getD (blocksAt img g e) p 0 ≡ b → HeldAt img e p b
+held-of img g e p b stated within inside is =
+    record {
+      entry = subst (λ (h : Geometry). e < slots h) stated within;
+      place = subst (λ (h : Geometry). p < length (blocksAt img h e)) stated inside;
+      is = subst (λ (h : Geometry). getD (blocksAt img h e) p 0 ≡ b) stated is;
+    }
 
 -- an entry that has a block reaches it
 pub held-reaches : {img : List ℕ} {e p b : ℕ} → HeldAt img e p b → 0 < count b (blocksAt img (geometryOf img) e)

@@ -12,11 +12,11 @@ use Rattle.consistency.specs.Test.{consistent}
 use Rattle.asking.specs.Outcome.{Outcome, settled}
 use Rattle.owners.specs.declared.OwnerAnswer.{OwnerAnswer}
 
--- "It refuses with 40, and with 44 where the pack has no such block."
+-- 40, and 44 where the pack has no such block (docs/DECISIONS.md 22)
 unfoldable pub ownerRows : List ℕ → ℕ → List Row
 ownerRows img b = row (not (consistent img)) 0o40 ∷ (row (leb (geometryOf img .blocks) b) 0o44 ∷ [])
 
--- "kind: 0 system, 1 free, 2 held; then entry (stored order, from 0) and place in that file, else 0"
+-- kind: 0 system, 1 free, 2 held; then entry (stored order, from 0) and place in that file, else 0
 unfoldable pub ownerNumbers : Owner → List ℕ
 ownerNumbers System = 0 ∷ (0 ∷ (0 ∷ []))
 ownerNumbers Free = 1 ∷ (0 ∷ (0 ∷ []))

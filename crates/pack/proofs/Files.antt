@@ -1,22 +1,40 @@
--- The laws of a step from block to block, and of entries read whole.
-use Prim.Native.Nat.{ℕ, _+_}
-use mathlib.Core.Path.{_≡_}
-use mathlib.Core.List.{List}
+-- The laws of a step from block to block, of the blocks of an entry, and of entries read whole.
+use Prim.Native.Nat.{ℕ, _+_, suc, zero}
+use mathlib.Core.Path.{_≡_, refl, ap}
+use mathlib.Core.List.{List, []}
 use borrow.Author.Tests.{eq-eqb, ne-eqb}
 use Rattle.words.specs.Word.{wordAt}
+use native.Mathlib.Omega.{arith}
+use lib.ListN.{length}
 use Rattle.pack.specs.declared.Geometry.{Geometry}
 use Rattle.pack.specs.declared.Entry.{Entry}
-use Rattle.pack.specs.File.{linkOf, nextOf}
+use Rattle.pack.specs.File.{linkOf, nextOf, chain, blocksOf}
 use Rattle.pack.specs.Geometry.{blockAt, entryAt}
-use Rattle.pack.specs.Entry.{entryWord, entryOf}
+use Rattle.pack.specs.Entry.{entryWord, entryOf, Empty, blocksAt}
 
-pub next-contiguous : (img : List ℕ) (g : Geometry) (kind b : ℕ) → kind ≡ 1 → b + 1 ≡ nextOf img g kind b
+-- the block behind another one, by the kind of the file
+pub next-contiguous : (img : List ℕ) (g : Geometry) (kind b : ℕ) → kind ≡ 1 → nextOf img g kind b ≡ b + 1
 unfolding nextOf
-next-contiguous img g kind b is = rw (eq-eqb kind 1 is)
+next-contiguous img g kind b is = simp (eq-eqb kind 1 is)
 
 pub next-linked : (img : List ℕ) (g : Geometry) (kind b link : ℕ) → (kind ≡ 1 → ⊥) → link ≡ wordAt img (blockAt g b) → link ≡ nextOf img g kind b
 unfolding nextOf linkOf
 next-linked img g kind b link other is = rw (ne-eqb kind 1 other) is
+
+pub chain-length : (next : ℕ → ℕ) (k b : ℕ) → length (chain next k b) ≡ k
+unfolding chain
+chain-length next zero b = refl
+chain-length next (suc k) b = ap suc (chain-length next k (next b))
+
+-- an empty entry has no blocks
+pub empty-length : (img : List ℕ) (g : Geometry) (e : ℕ) → Empty img g e → entryOf img g e .length ≡ 0
+unfolding entryOf
+empty-length img g e empty = empty .zero 7 (omega arith)
+
+pub empty-blocks : (img : List ℕ) (g : Geometry) (e : ℕ) → Empty img g e → blocksAt img g e ≡ []
+unfolding blocksOf chain
+empty-blocks img g e empty =
+    ap (λ (k : ℕ). chain (nextOf img g (entryOf img g e .kind)) k (entryOf img g e .first .0)) (empty-length img g e empty)
 
 pub entry-word-is : (img : List ℕ) (g : Geometry) (e i word : ℕ) → word ≡ wordAt img (entryAt g e + i) → word ≡ entryWord img g e i
 unfolding entryWord

@@ -1,4 +1,4 @@
--- The laws of the pack's measures, header and entries.
+-- The laws of tests and counts, and of the pack's measures, header, files and entries.
 pub mod Tests
 pub mod Counting
 pub mod Measures

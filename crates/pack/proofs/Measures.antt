@@ -1,4 +1,4 @@
--- The laws of the forms and the measures: what they bound. Nobody else looks at a form's numbers.
+-- The laws of the forms and the measures: what they bound, and how many blocks, words and entries there are at most.
 use Prim.Native.Nat.{ℕ, _+_, _*_, _≤_, _<_}
 use mathlib.Core.Bool.{Bool, true, false, cond}
 use native.Mathlib.Omega.{arith}

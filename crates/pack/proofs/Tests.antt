@@ -1,4 +1,4 @@
--- Tests joined by `&&`, taken apart and put together.
+-- Small laws of tests: joined by `&&`, taken apart and put together; that true is not false; a count that is not 0.
 use Prim.Native.Nat.{ℕ, suc, _-_, _<_}
 use mathlib.Core.Bool.{Bool, true, false, _&&_}
 use mathlib.Core.Path.{_≡_, refl}

@@ -1,4 +1,4 @@
--- The forms of a pack. Word 0 of an image is its form, and all that a form decides stands here; document 01 has form 1 alone.
+-- The forms of a pack. Word 0 of an image is its form, and all that a form decides of an image stands here; document 01 has form 1 alone.
 use Prim.Native.Nat.{ℕ, _+_}
 use mathlib.Core.Bool.{cond}
 use lib.Dec.{eqb}

@@ -1,4 +1,4 @@
--- Whose a block is.
+-- Whose a block is, and how many blocks are held and free.
 use Prim.Native.Nat.{ℕ, suc, zero, _+_, _≤_, _<_}
 use mathlib.Core.Path.{_≡_}
 use mathlib.Core.Bool.{Bool, true, false, cond}

@@ -2,7 +2,6 @@
 ghost use mathlib.Core.Path.{_≡_};
 ghost use Prim.Native.Nat.{_+_, _*_, _<_, _≤_};
 ghost use lib.ListN.{length};
-ghost use Rattle.words.specs.Word.{wordAt};
 ghost use Rattle.pack.specs.Form.{segmentsOf, mostBlocksOf, mostContentsOf, mostUicsOf, bodiesOf, mostBlocks, mostSegments};
 ghost use Rattle.pack.specs.Geometry.{Sized, slots};
 ghost use Rattle.pack.specs.Header.{RightHeader};
@@ -128,7 +127,7 @@ pub fn is_measured(long: usize, form: usize, blocks: usize, contents: usize, uic
     long == blocks * (128 * segments.0)
 }
 
-pub fn zero_words(img: &[u8], from: usize, count: usize) -> bool
+pub fn are_words_zero(img: &[u8], from: usize, count: usize) -> bool
     requires { ⌜ 2 * (from + count) ≤ length (now img) ⌝ }
     ensures { λ r. ⌜ r ≡ zeros (now (img .entry)) from count ⌝ }
 {
@@ -206,7 +205,7 @@ pub fn read_header(img: &[u8]) -> Header
     }
     let segments = segments_of(form);
     let behind = 4 + uics;
-    if !zero_words(img, behind, 64 * segments.0 - behind) {
+    if !are_words_zero(img, behind, 64 * segments.0 - behind) {
         return Header::Wrong;
     }
     let bodies = bodies_of(form, contents);

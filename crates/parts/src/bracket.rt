@@ -3,12 +3,12 @@ ghost use mathlib.Core.Path.{_≡_};
 ghost use Rattle.grammar.specs.Characters.{is, opening};
 ghost use Rattle.grammar.specs.Reader.{opt, uic, from};
 ghost use Rattle.parts.specs.Images.{user, userImage, uicImage};
-use crate::characters::CLOSING;
-use crate::characters::COMMA;
-use crate::characters::OPENING;
 use cursor::Class;
 use cursor::Cursor;
 use cursor::Part;
+use cursor::characters::CLOSING;
+use cursor::characters::COMMA;
+use cursor::characters::OPENING;
 use cursor::low_octal;
 
 pub struct UicNumbers {

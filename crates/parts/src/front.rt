@@ -2,12 +2,12 @@
 ghost use mathlib.Core.Path.{_≡_};
 ghost use Rattle.grammar.specs.Reader.{device, file, head, from};
 ghost use Rattle.parts.specs.Images.{extension, deviceImage, extensionImage, fileImage, headImage, headWith};
-use crate::characters::COLON;
-use crate::characters::PERIOD;
 use cursor::Class;
 use cursor::Cursor;
 use cursor::NameWords;
 use cursor::Part;
+use cursor::characters::COLON;
+use cursor::characters::PERIOD;
 use cursor::low_octal;
 use cursor::name_words;
 use cursor::word_of;

@@ -1,6 +1,5 @@
 // Readers of the parts of a specification, in the order in which they stand: device and file, group and user, switches.
 mod bracket;
-mod characters;
 mod front;
 mod pass;
 mod switch;

@@ -7,14 +7,14 @@ ghost use Rattle.grammar.specs.Characters.{is, opening};
 ghost use Rattle.grammar.specs.Reader.{span, opt, device, file, head, uic, from};
 ghost use Rattle.parts.specs.Images.{extension, user};
 ghost use Rattle.parts.specs.Passed.{passed};
-use crate::characters::CLOSING;
-use crate::characters::COLON;
-use crate::characters::COMMA;
-use crate::characters::OPENING;
-use crate::characters::PERIOD;
 use cursor::Class;
 use cursor::Cursor;
 use cursor::Part;
+use cursor::characters::CLOSING;
+use cursor::characters::COLON;
+use cursor::characters::COMMA;
+use cursor::characters::OPENING;
+use cursor::characters::PERIOD;
 
 fn pass_device(line: &[u8], c: Cursor) -> Part
     ensures { λ r. ⌜ r ≡ passed (from device (now (line .entry)) (c .at)) ⌝ }

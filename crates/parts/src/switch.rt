@@ -5,11 +5,11 @@ ghost use lib.ListN.{length};
 ghost use Rattle.grammar.specs.Characters.{is, colon, slash};
 ghost use Rattle.grammar.specs.Reader.{many, value, switch, from};
 ghost use Rattle.parts.specs.Images.{valuesOf, countedImage, switchesImage, CountWithin};
-use crate::characters::COLON;
-use crate::characters::SLASH;
 use cursor::Class;
 use cursor::Cursor;
 use cursor::Part;
+use cursor::characters::COLON;
+use cursor::characters::SLASH;
 
 pub enum Counted {
     Read(usize, Cursor),

@@ -33,7 +33,7 @@ mostLine = 33
 abbrev pub mostHead : ℕ
 mostHead = 24
 
--- "word 2 is c, 1 to 8"; "Blocks 1 to c: 16 entries each": the most entries of a pack
+-- "word 2 is c, 1 to 8"; "Blocks 1 to c: 16 entries each": the most entries of a pack of form 1, for which the program has room
 abbrev pub mostEntries : ℕ
 mostEntries = 128
 

@@ -135,8 +135,8 @@ either true b first second = (λ t. inl (first .0 refl), λ x. refl)
 either false true first second = (λ t. inr (second .0 refl), λ x. refl)
 either false false first second = (λ never. true-not-false (sym never), λ x. ⊎-elim (first .1) (second .1) x)
 
-granted : (right : Right) (caller uic protect : ℕ) → not (may right caller uic protect) ≡ true ↔ (May caller uic protect right → ⊥)
-granted right caller uic protect = denies (may right caller uic protect) (may-iff right caller uic protect)
+lacks-right : (right : Right) (caller uic protect : ℕ) → not (may right caller uic protect) ≡ true ↔ (May caller uic protect right → ⊥)
+lacks-right right caller uic protect = denies (may right caller uic protect) (may-iff right caller uic protect)
 
 -- two keys of one name, extension and UIC are one key
 pub one-key : (a b : Key) → sameKey a b ≡ true ↔ a ≡ b
@@ -153,8 +153,8 @@ one-key a b = (
   λ is. and-both (eq-eqb _ _ (ap (λ k. k .name1) is)) (and-both (eq-eqb _ _ (ap (λ k. k .name2) is)) (and-both (eq-eqb _ _ (ap (λ k. k .extension) is)) (eq-eqb _ _ (ap (λ k. k .uic) is)))),
 )
 
-judged : (img : List ℕ) → not (consistent img) ≡ true ↔ (Consistent img → ⊥)
-judged img = denies (consistent img) (consistent-iff img)
+inconsistent : (img : List ℕ) → not (consistent img) ≡ true ↔ (Consistent img → ⊥)
+inconsistent img = denies (consistent img) (consistent-iff img)
 
 illegal : (key : Key) → not (legalKey key) ≡ true ↔ (Legal key → ⊥)
 illegal key = denies (legalKey key) (legal-both key)
@@ -164,7 +164,7 @@ module _ (img : List ℕ) (key : Key) (wrong : Bool) (Wrong : Type 0) (decides :
   file-code : FileCode img key Wrong Own (firstOf (fileRows img key wrong ++ more))
   unfolding fileRows
   file-code =
-      rung _ 0o40 _ (judged img) (λ c.
+      rung _ 0o40 _ (inconsistent img) (λ c.
       rung _ 0o15 _ (illegal key) (λ l.
       rung _ 0o41 _ decides (λ w.
       rung _ 0o2 _ (absent-key (consistent-iff img .0 (not-false _ c)) key (not-false _ l)) (λ f. rest (consistent-iff img .0 (not-false _ c))))))
@@ -194,7 +194,7 @@ format-code-iff image form blocks contents uics = exactly (rung-one success-one)
 
 owner-code : (img : List ℕ) (block : ℕ) → OwnerCode img block (owner img block .code)
 unfolding owner ownerRows settled
-owner-code img block = rung _ 0o40 _ (judged img) (λ c. rung _ 0o44 _ (at-least (geometryOf img .blocks) block) (λ b. clear))
+owner-code img block = rung _ 0o40 _ (inconsistent img) (λ c. rung _ 0o44 _ (at-least (geometryOf img .blocks) block) (λ b. clear))
 
 pub owner-code-iff : (img : List ℕ) (block code : ℕ) → owner img block .code ≡ code ↔ OwnerCode img block code
 owner-code-iff img block = exactly (rung-one (rung-one success-one)) (owner-code img block)
@@ -213,7 +213,7 @@ unfolding opened openRows settled
 openi-code img key caller =
     file-code img key false ⊥ no-argument _ _ (λ right.
     rung _ 0o2 _ (equal-numbers _ 2) (λ w.
-    rung _ 0o6 _ (granted _ caller _ _) (λ r. passed 0o5 _ (passed 0o43 _ (passed 0o4 _ (rung _ 0o3 _ (full-iff _) (λ o. clear)))))))
+    rung _ 0o6 _ (lacks-right _ caller _ _) (λ r. passed 0o5 _ (passed 0o43 _ (passed 0o4 _ (rung _ 0o3 _ (full-iff _) (λ o. clear)))))))
 
 pub openi-code-iff : (img : List ℕ) (key : Key) (caller code : ℕ) → opened Input img key caller .code ≡ code ↔ OpeniCode img key caller code
 openi-code-iff img key caller = exactly (file-one (rung-one (rung-one (rung-one success-one)))) (openi-code img key caller)
@@ -223,7 +223,7 @@ unfolding opened openRows settled
 openu-code img key caller =
     file-code img key false ⊥ no-argument _ _ (λ right.
     rung _ 0o2 _ (equal-numbers _ 2) (λ w.
-    rung _ 0o6 _ (granted _ caller _ _) (λ r.
+    rung _ 0o6 _ (lacks-right _ caller _ _) (λ r.
     passed 0o5 _ (rung _ 0o43 _ (equal-numbers _ 2) (λ k. rung _ 0o4 _ (above 0 _) (λ n. rung _ 0o3 _ (full-iff _) (λ o. clear)))))))
 
 pub openu-code-iff : (img : List ℕ) (key : Key) (caller code : ℕ) → opened Update img key caller .code ≡ code ↔ OpenuCode img key caller code
@@ -234,7 +234,7 @@ unfolding opened openRows settled
 opene-code img key caller =
     file-code img key false ⊥ no-argument _ _ (λ right.
     rung _ 0o2 _ (equal-numbers _ 2) (λ w.
-    rung _ 0o6 _ (granted _ caller _ _) (λ r.
+    rung _ 0o6 _ (lacks-right _ caller _ _) (λ r.
     rung _ 0o5 _ (equal-numbers _ 1) (λ k. passed 0o43 _ (rung _ 0o4 _ (above 0 _) (λ n. rung _ 0o3 _ (full-iff _) (λ o. clear)))))))
 
 pub opene-code-iff : (img : List ℕ) (key : Key) (caller code : ℕ) → opened Extension img key caller .code ≡ code ↔ OpeneCode img key caller code
@@ -271,7 +271,7 @@ close-code-iff img key mode = exactly (file-one (rung-one success-one)) (close-c
 delet-code : (img : List ℕ) (key : Key) (caller : ℕ) → DeletCode img key caller (delet img key caller .code)
 unfolding delet deletRows settled
 delet-code img key caller =
-    file-code img key false ⊥ no-argument _ _ (λ right. rung _ 0o6 _ (granted _ caller _ _) (λ r. rung _ 0o14 _ (open-iff _) (λ o. clear)))
+    file-code img key false ⊥ no-argument _ _ (λ right. rung _ 0o6 _ (lacks-right _ caller _ _) (λ r. rung _ 0o14 _ (open-iff _) (λ o. clear)))
 
 pub delet-code-iff : (img : List ℕ) (key : Key) (caller code : ℕ) → delet img key caller .code ≡ code ↔ DeletCode img key caller code
 delet-code-iff img key caller = exactly (file-one (rung-one (rung-one success-one))) (delet-code img key caller)
@@ -288,13 +288,13 @@ keep-code-iff img key caller = exactly (file-one (rung-one success-one)) (keep-c
 renam-code : (img : List ℕ) (old new : Key) (protect caller : ℕ) → RenamCode img old new protect caller (renam img old new protect caller .code)
 unfolding renam renamRows settled
 renam-code img old new protect caller =
-    rung _ 0o40 _ (judged img) (λ c.
+    rung _ 0o40 _ (inconsistent img) (λ c.
     rung _ 0o15 _ (illegal old) (λ l.
     rung _ 0o15 _ (illegal new) (λ m.
     rung _ 0o41 _ (above 255 protect) (λ p.
     rung _ 0o2 _ (absent-key (consistent-iff img .0 (not-false _ c)) old (not-false _ l)) (λ f.
     rung _ 0o2 _ (present-key (consistent-iff img .0 (not-false _ c)) new (not-false _ m)) (λ g.
-    rung _ 0o6 _ (granted _ caller _ _) (λ r. rung _ 0o14 _ (open-iff _) (λ o. clear))))))))
+    rung _ 0o6 _ (lacks-right _ caller _ _) (λ r. rung _ 0o14 _ (open-iff _) (λ o. clear))))))))
 
 pub renam-code-iff : (img : List ℕ) (old new : Key) (protect caller code : ℕ) → renam img old new protect caller .code ≡ code ↔ RenamCode img old new protect caller code
 renam-code-iff img old new protect caller =
@@ -303,14 +303,14 @@ renam-code-iff img old new protect caller =
 appnd-code : (img : List ℕ) (first second : Key) (caller : ℕ) → AppndCode img first second caller (appnd img first second caller .code)
 unfolding appnd appndRows settled
 appnd-code img first second caller =
-    rung _ 0o40 _ (judged img) (λ c.
+    rung _ 0o40 _ (inconsistent img) (λ c.
     rung _ 0o15 _ (illegal first) (λ l.
     rung _ 0o15 _ (illegal second) (λ m.
     rung _ 0o41 _ (one-key first second) (λ p.
     rung _ 0o2 _ (absent-key (consistent-iff img .0 (not-false _ c)) first (not-false _ l)) (λ f.
     rung _ 0o2 _ (absent-key (consistent-iff img .0 (not-false _ c)) second (not-false _ m)) (λ g.
-    rung _ 0o6 _ (granted _ caller _ _) (λ r.
-    rung _ 0o6 _ (granted _ caller _ _) (λ s.
+    rung _ 0o6 _ (lacks-right _ caller _ _) (λ r.
+    rung _ 0o6 _ (lacks-right _ caller _ _) (λ s.
     rung _ 0o43 _ (equal-numbers _ 1) (λ j.
     rung _ 0o43 _ (equal-numbers _ 1) (λ k. rung _ 0o14 _ (open-iff _) (λ o. rung _ 0o14 _ (open-iff _) (λ q. clear))))))))))))
 
@@ -333,7 +333,7 @@ module _ (img : List ℕ) (key : Key) (caller protect : ℕ) (wrong : Bool) (Wro
   creating-code : CreatingCode img key caller protect Wrong Room (firstOf (creatingRows img key caller protect wrong ++ more))
   unfolding creatingRows
   creating-code =
-      rung _ 0o40 _ (judged img) (λ c.
+      rung _ 0o40 _ (inconsistent img) (λ c.
       rung _ 0o15 _ (illegal key) (λ l.
       rung _ 0o41 _ decides (λ w.
       rung _ 0o41 _ (above 255 protect) (λ p.
@@ -388,7 +388,7 @@ block-in-code : (img : List ℕ) (key : Key) (caller place : ℕ) (buffer : List
 unfolding blockIn blockInRows settled
 block-in-code img key caller place buffer =
     file-code img key _ _ (sized (length buffer) (blockBytes (geometryOf img))) _ _ (λ right.
-    rung _ 0o6 _ (granted _ caller _ _) (λ r.
+    rung _ 0o6 _ (lacks-right _ caller _ _) (λ r.
     rung _ 0o43 _ (equal-numbers _ 2) (λ k.
     rung _ 0o45 _ (denies _ (either (ltb 0 (fileOf img key .readers)) (eqb (fileOf img key .writer) 1) (above 0 _) (equal-numbers _ 1))) (λ o.
     rung _ 0o44 _ (at-least _ place) (λ p. clear)))))
@@ -401,7 +401,7 @@ block-out-code : (img : List ℕ) (key : Key) (caller place : ℕ) (buffer : Lis
 unfolding blockOut blockOutRows settled
 block-out-code img key caller place buffer =
     file-code img key _ _ (sized (length buffer) (blockBytes (geometryOf img))) _ _ (λ right.
-    rung _ 0o6 _ (granted _ caller _ _) (λ r.
+    rung _ 0o6 _ (lacks-right _ caller _ _) (λ r.
     rung _ 0o43 _ (equal-numbers _ 2) (λ k.
     rung _ 0o45 _ (denies _ (equal-numbers (fileOf img key .writer) 1)) (λ o. rung _ 0o44 _ (at-least _ place) (λ p. clear)))))
 
@@ -423,7 +423,7 @@ linked-read-code : (img : List ℕ) (key : Key) (caller place : ℕ) (buffer : L
 unfolding linkedRead linkedReadRows settled
 linked-read-code img key caller place buffer =
     file-code img key _ _ (sized (length buffer) (payloadBytes (geometryOf img))) _ _ (λ right.
-    rung _ 0o6 _ (granted _ caller _ _) (λ r.
+    rung _ 0o6 _ (lacks-right _ caller _ _) (λ r.
     rung _ 0o43 _ (equal-numbers _ 1) (λ k. rung _ 0o45 _ (unread (fileOf img key .readers)) (λ o. rung _ 0o44 _ (at-least _ place) (λ p. clear)))))
 
 pub linked-read-code-iff : (img : List ℕ) (key : Key) (caller place : ℕ) (buffer : List ℕ) (code : ℕ)
@@ -454,7 +454,7 @@ linked-add-code : (img : List ℕ) (key : Key) (caller : ℕ) (payload : List �
 unfolding linkedAdd linkedAddRows settled
 linked-add-code img key caller payload =
     file-code img key _ _ (sized (length payload) (payloadBytes (geometryOf img))) _ _ (λ right.
-    rung _ 0o6 _ (granted _ caller _ _) (λ r.
+    rung _ 0o6 _ (lacks-right _ caller _ _) (λ r.
     rung _ 0o43 _ (equal-numbers _ 1) (λ k.
     rung _ 0o45 _ (denies _ (either (eqb (fileOf img key .writer) 2) (eqb (fileOf img key .writer) 3) (equal-numbers _ 2) (equal-numbers _ 3))) (λ o.
     rung _ 0o42 _ (none-free img) (λ b. clear)))))

@@ -9,10 +9,10 @@ use lib.ListN.{length, getD}
 use Rattle.answers.specs.Refusals.{tableOrder, inOrder}
 use Rattle.answers.specs.Conversion.{conversionRows}
 use Rattle.answers.proofs.Conversion.{conversion-ordered, number-given}
-use Rattle.radix.specs.Characters.{codeOf}
+use Rattle.radix.specs.Characters.{codeOf, Outside}
 use Rattle.radix.specs.Names.{LegalName, LegalExtension, legalName, legalExtension}
 use Rattle.radix.specs.Conversions.{radpk, radup}
-use Rattle.radix.proofs.Characters.{Outside, code-none-iff}
+use Rattle.radix.proofs.Characters.{code-none-iff}
 use Rattle.radix.proofs.Packing.{packing-refused, unpacking-refused}
 use Rattle.radix.proofs.Names.{name-iff, extension-iff}
 use Rattle.radix.proofs.Conversions as radix

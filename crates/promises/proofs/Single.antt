@@ -1,8 +1,9 @@
 -- For given inputs the requests on an image have one answer, one image and one buffer: what their contracts allow.
 use Prim.Native.Nat.{ℕ}
 use mathlib.Core.Path.{_≡_, sym, ap, _∙_}
-use mathlib.Core.List.{List}
+use mathlib.Core.List.{List, [], _∷_}
 use lib.ListN.{getD}
+use Rattle.answers.specs.declared.Answer.{Answer}
 use Rattle.asking.specs.Outcome.{Outcome}
 use Rattle.directory.specs.declared.LookAnswer.{LookAnswer}
 use Rattle.directory.specs.Look.{lookOutcome}
@@ -48,3 +49,9 @@ owner-single img outcome a b x y =
       entry = ap (λ (o : Outcome). getD (o .numbers) 1 0) same i;
       place = ap (λ (o : Outcome). getD (o .numbers) 2 0) same i;
     }
+
+-- ALLOC and linked add answer with a code and a number
+pub answer-single : (outcome : Outcome) (a b : Answer) → a .code ≡ outcome .code → a .number ∷ [] ≡ outcome .numbers
+    → b .code ≡ outcome .code → b .number ∷ [] ≡ outcome .numbers → a ≡ b
+answer-single outcome a b x p y q =
+    λ i. record { code = (x ∙ sym y) i; number = ap (λ (numbers : List ℕ). getD numbers 0 0) (p ∙ sym q) i }

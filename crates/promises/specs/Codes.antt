@@ -61,11 +61,11 @@ FileCode img key Wrong Own =
 abbrev pub FormatCode : List ℕ → ℕ → ℕ → ℕ → List ℕ → ℕ → Type 0
 FormatCode image form blocks contents uics = Rung (Formattable (length image) form blocks contents uics → ⊥) 0o41 Success
 
--- whose a block is: "It refuses with 40, and with 44 where the pack has no such block."
+-- whose a block is: 40, and 44 where the pack has no such block (docs/DECISIONS.md 22)
 abbrev pub OwnerCode : List ℕ → ℕ → ℕ → Type 0
 OwnerCode img block = Rung (Consistent img → ⊥) 0o40 (Rung (geometryOf img .blocks ≤ block) 0o44 Success)
 
--- LOOK has no other code than success
+-- LOOK: "no right needed", and no row behind those of the file
 abbrev pub LookCode : List ℕ → Key → ℕ → Type 0
 LookCode img key = FileCode img key ⊥ Success
 
@@ -111,6 +111,7 @@ DeletCode img key caller = FileCode img key ⊥ (Rung (Lacking Delete caller (fi
 abbrev pub KeepCode : List ℕ → Key → ℕ → ℕ → Type 0
 KeepCode img key caller = FileCode img key ⊥ (Rung (caller ≡ fileOf img key .uic → ⊥) 0o6 Success)
 
+-- RENAM: "2: .. new name in RENAM: exists", "RENAM needs write", "14: DELET, RENAM, APPND: a file is open"
 abbrev pub RenamCode : List ℕ → Key → Key → ℕ → ℕ → ℕ → Type 0
 RenamCode img old new protect caller =
     Rung (Consistent img → ⊥) 0o40
@@ -120,6 +121,7 @@ RenamCode img old new protect caller =
     (Rung (Exists img old → ⊥) 0o2
     (Rung (Exists img new) 0o2 (Rung (Lacking Write caller (fileOf img old)) 0o6 (Rung (0 < opens (fileOf img old)) 0o14 Success)))))))
 
+-- APPND: "41: .. APPND of a file to itself", "APPND needs write on the first, delete on the second, both linked", "14: .. a file is open"
 abbrev pub AppndCode : List ℕ → Key → Key → ℕ → ℕ → Type 0
 AppndCode img first second caller =
     Rung (Consistent img → ⊥) 0o40
@@ -137,7 +139,8 @@ AppndCode img first second caller =
 abbrev pub Full : List ℕ → Type 0
 Full img = (e : ℕ) → e < slots (geometryOf img) → Empty img (geometryOf img) e → ⊥
 
--- what creating means; `Wrong` is what else can be wrong with an argument, `Room` the codes behind
+-- what creating means: "41: .. protect above 255", "13: creating: UIC not in the list", "2: creating ..: exists", "6: .. creating under another's UIC",
+-- "12: creating: no empty entry"; `Wrong` is what else can be wrong with an argument, `Room` the codes behind
 abbrev pub CreatingCode : List ℕ → Key → ℕ → ℕ → Type 0 → (ℕ → Type 0) → ℕ → Type 0
 CreatingCode img key caller protect Wrong Room =
     Rung (Consistent img → ⊥) 0o40
@@ -147,9 +150,11 @@ CreatingCode img key caller protect Wrong Room =
     (Rung (Listed img (key .uic) → ⊥) 0o13
     (Rung (Exists img key) 0o2 (Rung (key .uic ≡ caller → ⊥) 0o6 (Rung (Full img) 0o12 Room)))))))
 
+-- OPENO: "a new linked file of length 0", which needs no room
 abbrev pub OpenoCode : List ℕ → Key → ℕ → ℕ → ℕ → Type 0
 OpenoCode img key caller protect = CreatingCode img key caller protect ⊥ Success
 
+-- ALLOC: "41: argument: N is 0", "42: .. no free run long enough"
 abbrev pub AllocCode : List ℕ → Key → ℕ → ℕ → ℕ → ℕ → Type 0
 AllocCode img key caller protect segments =
     CreatingCode img key caller protect (segments ≡ 0) (Rung ((s : ℕ) → FreeRun img (lengthFor img segments) s → ⊥) 0o42 Success)

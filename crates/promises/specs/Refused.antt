@@ -3,8 +3,8 @@ use Prim.Native.Nat.{ℕ, _+_, _≤_, _<_}
 use mathlib.Core.Logic.{_⊎_}
 use mathlib.Core.List.{List}
 use lib.ListN.{length, getD}
-use Rattle.radix.proofs.Characters.{Outside}
-use Rattle.radix.proofs.Packing.{NoCharacters}
+use Rattle.radix.specs.Characters.{Outside}
+use Rattle.radix.specs.Packing.{NoCharacters}
 use Rattle.numerals.specs.Digits.{value}
 
 -- RADPK: one of the three characters is outside the set

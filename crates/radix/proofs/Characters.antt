@@ -8,7 +8,7 @@ use native.Mathlib.Omega.{arith}
 use native.Mathlib.Decide.{decLe}
 use lib.Dec.{leb, ltb}
 use borrow.Author.Tests.{ltb-true, leb-true, lt-ltb, le-leb}
-use Rattle.radix.specs.Characters.{table, codeOf, characterOf}
+use Rattle.radix.specs.Characters.{table, codeOf, characterOf, Outside}
 use Rattle.radix.specs.Names.{blank}
 
 -- a number in a run of the table, and one outside it
@@ -46,14 +46,6 @@ unfolding codeOf table
 code-digit x low high =
     rw (outside 32 33 x (λ a b. omega arith), outside 65 91 x (λ a b. omega arith), outside 36 37 x (λ a b. omega arith), outside 46 47 x (λ a b. omega arith), inside 48 58 x low (omega arith))
     (ap some (omega arith))
-
--- a number that is no character of the set
-pub record Outside (x : ℕ) : Type 0 where
-  pub blank : x ≡ 32 → ⊥
-  pub letter : 65 ≤ x → x ≤ 90 → ⊥
-  pub dollar : x ≡ 36 → ⊥
-  pub period : x ≡ 46 → ⊥
-  pub digit : 48 ≤ x → x ≤ 57 → ⊥
 
 pub code-none : (x : ℕ) → Outside x → codeOf x ≡ none
 unfolding codeOf table

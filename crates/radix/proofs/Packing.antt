@@ -7,9 +7,9 @@ use mathlib.Core.Option.{Option, none, some}
 use native.Mathlib.Omega.{arith}
 use lib.ListN.{length, getD, set}
 use Rattle.answers.proofs.Conversion.{Pair}
-use Rattle.radix.specs.Characters.{codeOf, characterOf}
-use Rattle.radix.specs.Packing.{packed, packedIf, threeIf, firstCode, secondCode, thirdCode, upperEnd, wordOf, charactersOf}
-use Rattle.radix.proofs.Characters.{Outside, code-none, code-none-iff, code-character, character-code, code-bound, character-none, character-none-iff}
+use Rattle.radix.specs.Characters.{codeOf, characterOf, Outside}
+use Rattle.radix.specs.Packing.{packed, packedIf, threeIf, firstCode, secondCode, thirdCode, upperEnd, wordOf, charactersOf, NoCharacters}
+use Rattle.radix.proofs.Characters.{code-none, code-none-iff, code-character, character-code, code-bound, character-none, character-none-iff}
 
 -- what three that are there are made of
 record Three (p q r : Option ℕ) (s : List ℕ) : Type 0 where
@@ -86,10 +86,6 @@ word-pair =
       back = word-back;
       forth = characters-forth;
     }
-
--- "RADUP refuses a word with 29 or from 64000 up", and no other.
-abbrev pub NoCharacters : ℕ → Type 0
-NoCharacters w = (upperEnd ≤ w) ⊎ ((firstCode w ≡ 29) ⊎ ((secondCode w ≡ 29) ⊎ (thirdCode w ≡ 29)))
 
 three-none : (p q r : Option ℕ) → threeIf p q r ≡ none → (p ≡ none) ⊎ ((q ≡ none) ⊎ (r ≡ none))
 three-none none q r is = inl refl

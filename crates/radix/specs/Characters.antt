@@ -1,8 +1,9 @@
 -- The characters of Radix-50 and their codes: one table, read both ways.
-use Prim.Native.Nat.{ℕ, _+_, _-_}
+use Prim.Native.Nat.{ℕ, _+_, _-_, _≤_}
 use mathlib.Core.Bool.{cond, _&&_}
 use mathlib.Core.List.{List, [], _∷_}
 use mathlib.Core.Option.{Option, none, some}
+use mathlib.Core.Path.{_≡_}
 use lib.Dec.{leb, ltb}
 
 -- `many` numbers in a row from `from` on, each beside the number equally far from `beside`
@@ -36,3 +37,11 @@ codeOf character = look table character
 -- the character of a code
 unfoldable pub characterOf : ℕ → Option ℕ
 characterOf code = look (turned table) code
+
+-- a number that is no character of the set
+pub record Outside (x : ℕ) : Type 0 where
+  pub blank : x ≡ 32 → ⊥
+  pub letter : 65 ≤ x → x ≤ 90 → ⊥
+  pub dollar : x ≡ 36 → ⊥
+  pub period : x ≡ 46 → ⊥
+  pub digit : 48 ≤ x → x ≤ 57 → ⊥

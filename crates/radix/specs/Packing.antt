@@ -1,7 +1,9 @@
 -- Radix-50 words: three characters to a word.
-use Prim.Native.Nat.{ℕ, _+_, _*_, _/_, _%_}
+use Prim.Native.Nat.{ℕ, _+_, _*_, _/_, _%_, _≤_}
 use mathlib.Core.List.{List, [], _∷_}
 use mathlib.Core.Option.{Option, none, some}
+use mathlib.Core.Path.{_≡_}
+use mathlib.Core.Logic.{_⊎_}
 use Rattle.radix.specs.Characters.{codeOf, characterOf}
 
 -- "A word is 1600a + 40b + c."
@@ -47,3 +49,7 @@ thirdCode word = word % 40
 -- the three characters of a word, if each of its codes has one
 unfoldable pub charactersOf : ℕ → Option (List ℕ)
 charactersOf word = threeIf (characterOf (firstCode word)) (characterOf (secondCode word)) (characterOf (thirdCode word))
+
+-- "RADUP refuses a word with 29 or from 64000 up", and no other.
+abbrev pub NoCharacters : ℕ → Type 0
+NoCharacters w = (upperEnd ≤ w) ⊎ ((firstCode w ≡ 29) ⊎ ((secondCode w ≡ 29) ⊎ (thirdCode w ≡ 29)))

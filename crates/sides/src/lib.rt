@@ -7,6 +7,8 @@ ghost use Rattle.sides.specs.Sought.{behindComma, SoughtAt, LocatedIn};
 ghost use Rattle.sides.specs.Joined.{behindOutput, startOf, joined, Countable, among, chosen};
 use cursor::Cursor;
 use cursor::Part;
+use cursor::characters::COMMA;
+use cursor::characters::LESS_THAN;
 use parts::pass_parts;
 
 // How many specifications there are, and where one of them begins.
@@ -75,7 +77,7 @@ fn read_specification(line: &[u8], c: Cursor, k: usize) -> Sought
 fn read_side(line: &[u8], c: Cursor, k: usize) -> Sought
     ensures { λ r. ⌜ SoughtAt (now (line .entry)) k (from behindComma (now (line .entry)) (c .at)) r ⌝ }
 {
-    let comma = c.one(line, 44);
+    let comma = c.one(line, COMMA);
     match comma {
         Part::Refused(_) => Sought::Read(Found { count: 0, start: c }, c),
         Part::Read(next) => read_specification(line, next, k),
@@ -86,7 +88,7 @@ fn read_side(line: &[u8], c: Cursor, k: usize) -> Sought
 fn read_input(line: &[u8], c: Cursor, k: usize) -> Sought
     ensures { λ r. ⌜ SoughtAt (now (line .entry)) k (mapped inputOf (from behindOutput (now (line .entry)) (c .at))) r ⌝ }
 {
-    let sign = c.one(line, 60);
+    let sign = c.one(line, LESS_THAN);
     match sign {
         Part::Refused(_) => Sought::Read(Found { count: 0, start: c }, c),
         Part::Read(next) => read_specification(line, next, k),

@@ -2,6 +2,8 @@
 use cursor::Class;
 use cursor::Cursor;
 use cursor::Part;
+use cursor::characters::COLON;
+use cursor::characters::SLASH;
 use cursor::name_words;
 use words::set_word;
 ghost use mathlib.Core.Path.{_≡_};
@@ -41,7 +43,7 @@ fn write_values(line: &[u8], c: Cursor, buffer: &mut [u8], i: usize, count: usiz
     requires { ⌜ (count ≤ c .at) × (c .at ≤ length (now line)) × ValuesFit (now line) (c .at) i (length (now buffer)) ⌝ }
     ensures { λ r. ⌜ ValuesWritten (now (line .entry)) (c .at) i count (now (buffer .entry)) r (now (buffer .exit)) ⌝ }
 {
-    let colon = c.one(line, 58);
+    let colon = c.one(line, COLON);
     match colon {
         Part::Refused(_) => Written {
             values: count,
@@ -70,7 +72,7 @@ fn write_from(line: &[u8], c: Cursor, buffer: &mut [u8], i: usize)
     requires { ⌜ SwitchesFit (now line) (c .at) i (length (now buffer)) ⌝ }
     ensures { λ r. ⌜ SwitchesWritten (now (line .entry)) (c .at) i (now (buffer .entry)) (now (buffer .exit)) ⌝ }
 {
-    let slash = c.one(line, 47);
+    let slash = c.one(line, SLASH);
     match slash {
         Part::Refused(_) => {}
         Part::Read(start) => {

@@ -15,8 +15,8 @@ use Rattle.pack.specs.declared.Key.{Key}
 use Rattle.pack.specs.Geometry.{geometryOf, Sized, blockBytes}
 use Rattle.pack.specs.File.{nextOf, blocksOf, count}
 use Rattle.pack.specs.Entry.{entryOf, Contiguous, Linked, Used, RightEntry}
-use Rattle.frame.proofs.Chain.{next-contiguous, extent-inside}
-use Rattle.frame.proofs.Same.{empty-length}
+use Rattle.pack.proofs.Files.{empty-length, next-contiguous}
+use Rattle.frame.proofs.Chain.{extent-inside}
 use Rattle.frame.proofs.Frame.{entries-at}
 use Rattle.owners.proofs.Search.{measured-sized}
 use Rattle.asking.specs.declared.Right.{Right}

@@ -8,7 +8,8 @@ use Rattle.pack.specs.declared.Geometry.{Geometry}
 use Rattle.pack.specs.declared.Entry.{Entry}
 use Rattle.pack.specs.File.{nextOf, chain, after, blocksOf, count}
 use Rattle.pack.proofs.Counting.{count-at}
-use Rattle.frame.proofs.Chain.{chain-length, chain-place, after-append}
+use Rattle.pack.proofs.Files.{chain-length}
+use Rattle.frame.proofs.Chain.{chain-place, after-append}
 
 -- a block at a place of a chain is counted there
 pub place-counted : (next : ℕ → ℕ) (k first p : ℕ) → p < k → 0 < count (after next p first) (chain next k first)

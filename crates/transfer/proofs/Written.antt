@@ -33,6 +33,7 @@ use Rattle.asking.specs.Outcome.{Outcome, settled}
 use Rattle.asking.specs.Asked.{entryNo, fileOf}
 use Rattle.asking.proofs.Outcome.{settled-success}
 use Rattle.asking.proofs.Stage.{stage-clear}
+use Rattle.asking.proofs.Keys.{key-single}
 use Rattle.transfer.specs.Parts.{withPart, blockStart}
 use Rattle.transfer.specs.Block.{wrongBlock, blockAtPlace, blockOutRows, blockOut}
 use Rattle.transfer.specs.Stage.{placeRows, outputRows}
@@ -114,15 +115,7 @@ module _ {img : List ℕ} {key : Key} {wrong : Bool} {g : Geometry} {e : ℕ} {x
   pub written-untouched : (other : Key) → (other ≡ key → ⊥) → Untouched other img (blockWritten img g x place buffer)
   written-untouched other apart =
       untouched-framed (sym (asked .file .measures)) (asked .file .right) written-framed other
-      (λ i inside is used keyed. apart (one-key (asked .file .keyed) (subst (Keyed other) (ap (entryOf img g) is ∙ sym (asked .file .entry)) keyed)))
-    where
-      one-key : Keyed key x → Keyed other x → other ≡ key
-      one-key k o = λ i. record {
-        name1 = (sym (o .name1) ∙ k .name1) i;
-        name2 = (sym (o .name2) ∙ k .name2) i;
-        extension = (sym (o .extension) ∙ k .extension) i;
-        uic = (sym (o .uic) ∙ k .uic) i;
-      }
+      (λ i inside is used keyed. apart (key-single (asked .file .keyed) (subst (Keyed other) (ap (entryOf img g) is ∙ sym (asked .file .entry)) keyed)))
 
   pub written-owner : (b : ℕ) → ownerOf (blockWritten img g x place buffer) b ≡ ownerOf img b
   written-owner b =

@@ -54,36 +54,30 @@ fn ask_input(img: &[u8], key: Key, caller: usize, place: Place, wrong: bool) -> 
     ensures { λ r. ⌜ r ≡ stageOf (fileRows (now (img .entry)) key wrong ++ inputRows caller (place .0) (fileOf (now (img .entry)) key)) (now (img .entry)) key ⌝ }
 {
     let mut map = [0u8; pack::MOST_BLOCKS];
-    match asking::ask_file(img, &mut map, key, wrong) {
-        Asked::Refused(code) => {
-            return Asked::Refused(code);
-        }
-        Asked::File(g, e, x) => {
-            let code = crate::judge(x, caller, Right::Read, 2, !is_open_for_input(x), place);
-            if code != 0 {
-                return Asked::Refused(code);
-            }
-            return Asked::File(g, e, x);
-        }
+    let asked = asking::ask_file(img, &mut map, key, wrong);
+    let Asked::File(_, _, x) = asked else {
+        return asked;
+    };
+    let code = crate::judge(x, caller, Right::Read, 2, !is_open_for_input(x), place);
+    if code != 0 {
+        return Asked::Refused(code);
     }
+    asked
 }
 
 fn ask_output(img: &[u8], key: Key, caller: usize, place: Place, wrong: bool) -> Asked
     ensures { λ r. ⌜ r ≡ stageOf (fileRows (now (img .entry)) key wrong ++ outputRows caller (place .0) (fileOf (now (img .entry)) key)) (now (img .entry)) key ⌝ }
 {
     let mut map = [0u8; pack::MOST_BLOCKS];
-    match asking::ask_file(img, &mut map, key, wrong) {
-        Asked::Refused(code) => {
-            return Asked::Refused(code);
-        }
-        Asked::File(g, e, x) => {
-            let code = crate::judge(x, caller, Right::Write, 2, x.writer != 1, place);
-            if code != 0 {
-                return Asked::Refused(code);
-            }
-            return Asked::File(g, e, x);
-        }
+    let asked = asking::ask_file(img, &mut map, key, wrong);
+    let Asked::File(_, _, x) = asked else {
+        return asked;
+    };
+    let code = crate::judge(x, caller, Right::Write, 2, x.writer != 1, place);
+    if code != 0 {
+        return Asked::Refused(code);
     }
+    asked
 }
 
 pub fn block_input(img: &[u8], key: Key, caller: usize, place: Place, buffer: &mut [u8]) -> usize

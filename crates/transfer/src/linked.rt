@@ -51,18 +51,15 @@ pub fn ask_linked_read(img: &[u8], key: Key, caller: usize, place: Place, wrong:
     ensures { λ r. ⌜ r ≡ stageOf (linkedReadRows (now (img .entry)) key caller (place .0) wrong) (now (img .entry)) key ⌝ }
 {
     let mut map = [0u8; pack::MOST_BLOCKS];
-    match asking::ask_file(img, &mut map, key, wrong) {
-        Asked::Refused(code) => {
-            return Asked::Refused(code);
-        }
-        Asked::File(g, e, x) => {
-            let code = crate::judge(x, caller, Right::Read, 1, x.readers == 0, place);
-            if code != 0 {
-                return Asked::Refused(code);
-            }
-            return Asked::File(g, e, x);
-        }
+    let asked = asking::ask_file(img, &mut map, key, wrong);
+    let Asked::File(_, _, x) = asked else {
+        return asked;
+    };
+    let code = crate::judge(x, caller, Right::Read, 1, x.readers == 0, place);
+    if code != 0 {
+        return Asked::Refused(code);
     }
+    asked
 }
 
 pub fn linked_read(img: &[u8], key: Key, caller: usize, place: Place, buffer: &mut [u8]) -> usize

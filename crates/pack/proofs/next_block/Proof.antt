@@ -1,5 +1,6 @@
 use borrow.Author.Needs.{needs}
 use native.Mathlib.Omega.{arith}
+use mathlib.Core.Path.{sym}
 use Rattle.pack.proofs.Measures.{link-room}
 use Rattle.pack.proofs.Files.{next-contiguous, next-linked}
 use Rattle.pack.proofs.next_block.Statement.{statement}
@@ -9,7 +10,7 @@ add-t6 : tie.Need-add-t6
 add-t6 c = search needs
 
 returns : tie.Need-returns
-returns c = (next-contiguous _ _ _ _ (c .before .if1 .taken), omega (arith, c .before .before .before .pre .0 .most, c .before .before .before .pre .1))
+returns c = (sym (next-contiguous _ _ _ _ (c .before .if1 .taken)), omega (arith, c .before .before .before .pre .0 .most, c .before .before .before .pre .1))
 
 mul-word-at : tie.Need-mul-word-at
 mul-word-at c = search needs

@@ -40,26 +40,26 @@ segments-of-requires c κs = search needs
 add-behind : tie.Need-add-behind
 add-behind c = search needs
 
-mul-zero-words : tie.Need-mul-zero-words
-mul-zero-words c = let m = measured-roomy _ _ _ _ _ (sym (c .before .before .before .before .before .is-measured .ensures) ∙ not-false _ (c .before .before .before .before .if2 .left)) in
+mul-are-words-zero : tie.Need-mul-are-words-zero
+mul-are-words-zero c = let m = measured-roomy _ _ _ _ _ (sym (c .before .before .before .before .before .is-measured .ensures) ∙ not-false _ (c .before .before .before .before .if2 .left)) in
     omega (arith, m .few, c .before .segments-of .ensures)
 
-sub-zero-words : tie.Need-sub-zero-words
-sub-zero-words c = let m = measured-roomy _ _ _ _ _ (sym (c .before .before .before .before .before .is-measured .ensures) ∙ not-false _ (c .before .before .before .before .if2 .left)) in
+sub-are-words-zero : tie.Need-sub-are-words-zero
+sub-are-words-zero c = let m = measured-roomy _ _ _ _ _ (sym (c .before .before .before .before .before .is-measured .ensures) ∙ not-false _ (c .before .before .before .before .if2 .left)) in
     omega (arith, m .list, c .before .segments-of .ensures)
 
-zero-words-requires : tie.Need-zero-words-requires
-zero-words-requires c κs = let m = measured-roomy _ _ _ _ _ (sym (c .before .before .before .before .before .is-measured .ensures) ∙ not-false _ (c .before .before .before .before .if2 .left)) in
+are-words-zero-requires : tie.Need-are-words-zero-requires
+are-words-zero-requires c κs = let m = measured-roomy _ _ _ _ _ (sym (c .before .before .before .before .before .is-measured .ensures) ∙ not-false _ (c .before .before .before .before .if2 .left)) in
     omega (arith, m .list, m .block, c .before .segments-of .ensures)
 
 returns-4 : tie.Need-returns-4
-returns-4 c = not-zeros _ _ _ _ _ (c .before .before .before .before .before .before .before .before .before .before .before .word-at .ensures .0) (c .before .before .before .before .before .before .before .before .before .before .word-at2 .ensures .0) (c .before .before .before .before .before .before .before .before .before .word-at3 .ensures .0) (c .before .before .before .before .before .before .before .before .word-at4 .ensures .0) (sym (c .before .before .before .before .before .before .before .is-measured .ensures) ∙ not-false _ (c .before .before .before .before .before .before .if2 .left)) (sym (c .before .before .before .before .before .is-distinct .ensures) ∙ not-false _ (c .before .before .before .before .if3 .left)) _ (c .before .before .before .segments-of .ensures) (sym (c .before .zero-words .ensures) ∙ not-true _ (c .if4 .taken))
+returns-4 c = not-zeros _ _ _ _ _ (c .before .before .before .before .before .before .before .before .before .before .before .word-at .ensures .0) (c .before .before .before .before .before .before .before .before .before .before .word-at2 .ensures .0) (c .before .before .before .before .before .before .before .before .before .word-at3 .ensures .0) (c .before .before .before .before .before .before .before .before .word-at4 .ensures .0) (sym (c .before .before .before .before .before .before .before .is-measured .ensures) ∙ not-false _ (c .before .before .before .before .before .before .if2 .left)) (sym (c .before .before .before .before .before .is-distinct .ensures) ∙ not-false _ (c .before .before .before .before .if3 .left)) _ (c .before .before .before .segments-of .ensures) (sym (c .before .are-words-zero .ensures) ∙ not-true _ (c .if4 .taken))
 
 bodies-of-requires : tie.Need-bodies-of-requires
 bodies-of-requires c κs = measured-roomy _ _ _ _ _ (sym (c .before .before .before .before .before .before .before .is-measured .ensures) ∙ not-false _ (c .before .before .before .before .before .before .if2 .left)) .bounded
 
 returns-5 : tie.Need-returns-5
-returns-5 c = all-right _ _ _ _ _ (c .before .before .before .before .before .before .before .before .before .before .before .before .word-at .ensures .0) (c .before .before .before .before .before .before .before .before .before .before .before .word-at2 .ensures .0) (c .before .before .before .before .before .before .before .before .before .before .word-at3 .ensures .0) (c .before .before .before .before .before .before .before .before .before .word-at4 .ensures .0) (sym (c .before .before .before .before .before .before .before .before .is-measured .ensures) ∙ not-false _ (c .before .before .before .before .before .before .before .if2 .left)) (sym (c .before .before .before .before .before .before .is-distinct .ensures) ∙ not-false _ (c .before .before .before .before .before .if3 .left)) _ (c .before .before .before .before .segments-of .ensures) (sym (c .before .before .zero-words .ensures) ∙ not-false _ (c .before .if4 .left)) _ (c .bodies-of .ensures)
+returns-5 c = all-right _ _ _ _ _ (c .before .before .before .before .before .before .before .before .before .before .before .before .word-at .ensures .0) (c .before .before .before .before .before .before .before .before .before .before .before .word-at2 .ensures .0) (c .before .before .before .before .before .before .before .before .before .before .word-at3 .ensures .0) (c .before .before .before .before .before .before .before .before .before .word-at4 .ensures .0) (sym (c .before .before .before .before .before .before .before .before .is-measured .ensures) ∙ not-false _ (c .before .before .before .before .before .before .before .if2 .left)) (sym (c .before .before .before .before .before .before .is-distinct .ensures) ∙ not-false _ (c .before .before .before .before .before .if3 .left)) _ (c .before .before .before .before .segments-of .ensures) (sym (c .before .before .are-words-zero .ensures) ∙ not-false _ (c .before .if4 .left)) _ (c .bodies-of .ensures)
 
 pub read-header-spec : {M : Type 1} → statement M
 read-header-spec =
@@ -76,9 +76,9 @@ read-header-spec =
     returns-3
     segments-of-requires
     add-behind
-    mul-zero-words
-    sub-zero-words
-    zero-words-requires
+    mul-are-words-zero
+    sub-are-words-zero
+    are-words-zero-requires
     returns-4
     bodies-of-requires
     returns-5)

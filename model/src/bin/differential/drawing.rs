@@ -309,7 +309,7 @@ fn spoil(random: &mut Random, file: &mut File) {
         0 => file.name1 = word,
         1 => file.name2 = word,
         2 => file.extension = word,
-        _ => file.name1 += 65536,
+        _ => file.name1 = file.name1.saturating_add(65536),
     }
 }
 

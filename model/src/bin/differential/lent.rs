@@ -40,7 +40,9 @@ impl Lent {
         }
         let pairs = self.bytes.iter().zip(&other.bytes).enumerate();
         let differing: Vec<_> = pairs.filter(|(_, (one, two))| one != two).collect();
-        let (at, (one, two)) = *differing.first()?;
+        let Some(&(at, (one, two))) = differing.first() else {
+            return Some(format!("{} bytes against {}", self.bytes.len(), other.bytes.len()));
+        };
         Some(format!(
             "{} bytes differ, the first at {}: {one:#04x} and {two:#04x}",
             differing.len(),

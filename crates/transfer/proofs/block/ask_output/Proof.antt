@@ -1,4 +1,5 @@
 use borrow.Author.Needs.{needs}
+use mathlib.Core.Path.{_∙_}
 use Rattle.transfer.specs.Stage.{outputRows}
 use Rattle.asking.proofs.Stage.{stage-refused}
 use Rattle.transfer.proofs.Output.{output-stopped, output-passed}
@@ -11,23 +12,23 @@ slice-aggregate-ask-file c = search needs
 ask-file-requires : tie.Need-ask-file-requires
 ask-file-requires c κs = search needs
 
-enum-known-code : tie.Need-enum-known-code
-enum-known-code c = search needs
+enum-known-asked : tie.Need-enum-known-asked
+enum-known-asked c = search needs
+
+enum-told : tie.Need-enum-told
+enum-told c = search needs
 
 returns : tie.Need-returns
-returns c = stage-refused _ _ _ (outputRows (c .before .before .before .before .before .before .before .args .caller) (c .before .before .before .before .before .before .before .args .place .0)) _ (c .before .before .before .before .ask-file .ensures .0) _ (c .before .code .given .1)
-
-enum-known-g : tie.Need-enum-known-g
-enum-known-g c = search needs
+returns c = c .enum-told .given .1 ∙ stage-refused _ _ _ (outputRows (c .before .before .before .before .before .before .args .caller) (c .before .before .before .before .before .before .args .place .0)) _ (c .before .before .before .ask-file .ensures .0) _ (c .enum-told .given .1)
 
 judge-requires : tie.Need-judge-requires
 judge-requires c κs = search needs
 
 returns-2 : tie.Need-returns-2
-returns-2 c = output-stopped _ _ _ _ _ _ (c .before .before .before .before .before .before .before .ask-file .ensures .0) _ _ _ (c .before .before .before .before .g .given .1) _ (c .before .judge .ensures) (c .if1 .taken)
+returns-2 c = output-stopped _ _ _ _ _ _ (c .before .before .before .before .before .before .before .ask-file .ensures .0) _ _ _ (c .before .before .before .before .asked .given .1) _ (c .before .judge .ensures) (c .if1 .taken)
 
 returns-3 : tie.Need-returns-3
-returns-3 c = output-passed _ _ _ _ _ _ (c .before .before .before .before .before .before .before .ask-file .ensures .0) _ _ _ (c .before .before .before .before .g .given .1) _ (c .before .judge .ensures) (c .if1 .left)
+returns-3 c = output-passed _ _ _ _ _ _ (c .before .before .before .before .before .before .before .ask-file .ensures .0) _ _ _ (c .before .before .before .before .asked .given .1) _ (c .before .judge .ensures) (c .if1 .left)
 
 pub ask-output-spec : {M : Type 1} → statement M
 ask-output-spec =
@@ -35,9 +36,9 @@ ask-output-spec =
     (tie.spec
     slice-aggregate-ask-file
     ask-file-requires
-    enum-known-code
+    enum-known-asked
+    enum-told
     returns
-    enum-known-g
     judge-requires
     returns-2
     returns-3)

@@ -5,8 +5,8 @@ use mathlib.Core.Logic.{⊎-elim}
 use native.Mathlib.Omega.{arith}
 use Rattle.pack.specs.Test.{zeros}
 use Rattle.pack.proofs.Headers.{zeros-clear, zeros-never, zeros-done}
-use Rattle.pack.proofs.zero_words.Statement.{statement}
-use Rattle.pack.proofs.zero_words.Tie as tie
+use Rattle.pack.proofs.are_words_zero.Statement.{statement}
+use Rattle.pack.proofs.are_words_zero.Tie as tie
 
 abbrev Inv-loop : tie.InvT-loop
 Inv-loop img from count at₀ left₀ clear₀ at left clear = (at + left ≡ from + count) × (zeros img from count ≡ (clear && zeros img at left))
@@ -42,8 +42,8 @@ returns : tie.Need-returns Inv-loop μ-loop
 returns c = let none : c .before .loop .left ≡ 0 = omega arith in
     sym (c .before .loop .inv .1 ∙ zeros-done _ _ _ _ none)
 
-pub zero-words-spec : {M : Type 1} → statement M
-zero-words-spec =
+pub are-words-zero-spec : {M : Type 1} → statement M
+are-words-zero-spec =
     tie.close
     (tie.spec
     Inv-loop

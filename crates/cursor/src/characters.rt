@@ -1,4 +1,4 @@
-// The characters that stand between the parts of a specification, by their ASCII numbers.
+// The characters that stand between the parts of a line, by their ASCII numbers.
 pub const COMMA: u8 = 44;
 
 pub const PERIOD: u8 = 46;
@@ -6,6 +6,9 @@ pub const PERIOD: u8 = 46;
 pub const SLASH: u8 = 47;
 
 pub const COLON: u8 = 58;
+
+// Before the input side.
+pub const LESS_THAN: u8 = 60;
 
 pub const OPENING: u8 = 91;
 
