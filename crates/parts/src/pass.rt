@@ -1,4 +1,5 @@
-// Passing over the parts of a specification: where each ends. No number is made of them.
+// Passing over the parts of a specification: where each ends. No number is made of them: of the many specifications of a line only the one that
+// is asked for is read for its numbers.
 ghost use mathlib.Core.Path.{_≡_};
 ghost use Prim.Native.Nat.{_+_};
 ghost use lib.ListN.{drop};
