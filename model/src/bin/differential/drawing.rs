@@ -33,173 +33,200 @@ pub fn request(random: &mut Random) -> Request {
 
 /// A call of a request on a pack.
 pub fn call(random: &mut Random, request: Request, seen: &Seen) -> Call {
-    let mut line = Vec::new();
-    let mut buffer = Vec::new();
+    let (numbers, line, buffer) = match request {
+        Request::Format => without_line(format(random, seen)),
+        Request::Alloc | Request::Openo => numbers_alone(creating(random, seen)),
+        Request::Renam => numbers_alone(renaming(random, seen)),
+        Request::Appnd => numbers_alone(appending(random, seen)),
+        Request::Look | Request::Keep | Request::Delet | Request::Openi | Request::Openu | Request::Opene => {
+            numbers_alone(on_file(random, request, seen))
+        }
+        Request::Close => numbers_alone(closing(random, seen)),
+        Request::Owner => numbers_alone(Numbers::One(block(random, seen))),
+        Request::BlockIn | Request::BlockOut | Request::LinkedRead | Request::LinkedAdd => {
+            without_line(transferring(random, request, seen))
+        }
+        Request::Radpk | Request::D2bin | Request::O2bin => (Numbers::None, Vec::new(), to_number(random, request)),
+        Request::Radup | Request::Bin2d | Request::Bin2o => without_line(to_characters(random, request)),
+        Request::Csi1 => condensing(random),
+        Request::Csi2 => asking(random),
+    };
+    Call { request, numbers, line, buffer }
+}
+
+fn numbers_alone(numbers: Numbers) -> (Numbers, Vec<u8>, Vec<u8>) {
+    (numbers, Vec::new(), Vec::new())
+}
+
+fn without_line((numbers, buffer): (Numbers, Vec<u8>)) -> (Numbers, Vec<u8>, Vec<u8>) {
+    (numbers, Vec::new(), buffer)
+}
+
+fn format(random: &mut Random, seen: &Seen) -> (Numbers, Vec<u8>) {
+    let (blocks, contents) = (seen.blocks, packs::measures(random).1);
+    let (form, blocks, contents) = match random.below(12) {
+        0 => (random.pick(&[0, 2, 3, 65537]), blocks, contents),
+        1 => (1, random.pick(&[0, 15, 16, 1024, 1025, blocks + 1, blocks + 65536, blocks + (1 << 55)]), contents),
+        2 => (1, blocks, random.pick(&[0, 9, 10, 65537, usize::MAX])),
+        _ => (1, blocks, contents),
+    };
+    (Numbers::Format { form, blocks, contents }, format_uics(random))
+}
+
+fn creating(random: &mut Random, seen: &Seen) -> Numbers {
+    let (caller, file) = new_file(random, seen);
+    let segments = match random.below(10) {
+        0 => random.pick(&[0, 0, 65535, 65536, 65540, 4 * seen.blocks, 1 << 63, usize::MAX, usize::MAX - 2]),
+        1 => random.between(1, 4 * seen.blocks),
+        2 => 4 * (seen.blocks - seen.contents - 1) + random.below(2),
+        _ => random.between(1, 24),
+    };
+    Numbers::New { caller, file, protect: protect(random), segments }
+}
+
+fn renaming(random: &mut Random, seen: &Seen) -> Numbers {
+    let (caller, old) = old_file(random, seen, |file| file.opens() == 0);
+    let mut new = if random.chance(1, 5) { old_file(random, seen, |_| true).1 } else { pool_file(random, seen) };
+    if random.chance(1, 16) {
+        spoil(random, &mut new);
+    }
+    if random.chance(1, 16) {
+        new = old;
+    }
+    Numbers::Rename { caller, old, new, protect: protect(random) }
+}
+
+fn appending(random: &mut Random, seen: &Seen) -> Numbers {
+    let serves = |file: &Entry| file.kind == LINKED && file.opens() == 0 && file.protect & 0o100 == 0;
+    let (caller, first) = old_file(random, seen, serves);
+    let mine = random.chance(3, 4);
+    let other = |file: &Entry| (file.name1 as usize, file.extension as usize) != (first.name1, first.extension);
+    let mut second =
+        present(random, seen, |file| serves(file) && other(file) && (!mine || file.uic as usize == caller));
+    if second.uic == caller && random.chance(1, 2) {
+        second.uic = 0;
+    }
+    if random.chance(1, 16) {
+        spoil(random, &mut second);
+    }
+    if random.chance(1, 16) {
+        second = first;
+        if random.chance(1, 2) {
+            second.uic = if first.uic == 0 { caller } else { 0 };
+        }
+    }
+    Numbers::Append { caller, first, second }
+}
+
+fn on_file(random: &mut Random, request: Request, seen: &Seen) -> Numbers {
+    let closed = request == Request::Delet && random.chance(1, 2);
+    let (caller, file) = old_file(random, seen, |file| match request {
+        Request::Openi => file.writer != OUTPUT,
+        Request::Openu => file.kind == CONTIGUOUS,
+        Request::Opene => file.kind == LINKED && file.writer != OUTPUT,
+        _ => !closed || file.opens() == 0,
+    });
+    Numbers::File { caller, file }
+}
+
+fn closing(random: &mut Random, seen: &Seen) -> Numbers {
+    let (caller, file) = old_file(random, seen, |file| file.opens() != 0);
+    let mode = if random.chance(1, 12) { random.pick(&[0, 5, 65537, 65540, 1 << 63]) } else { random.between(1, 4) };
+    Numbers::Mode { caller, file, mode }
+}
+
+/// A block of the pack, sometimes behind its end.
+fn block(random: &mut Random, seen: &Seen) -> usize {
+    match random.below(8) {
+        0 => random.pick(&HUGE),
+        1 => seen.blocks,
+        2 => seen.blocks - 1,
+        3 => random.below(seen.contents + 2),
+        _ => random.below(seen.blocks),
+    }
+}
+
+fn transferring(random: &mut Random, request: Request, seen: &Seen) -> (Numbers, Vec<u8>) {
+    let (caller, file) = old_file(random, seen, |file| match request {
+        Request::LinkedRead => file.kind == LINKED && file.readers != 0,
+        Request::LinkedAdd => file.kind == LINKED && matches!(file.writer, OUTPUT | EXTEND),
+        _ => file.kind == CONTIGUOUS && (file.writer == UPDATE || file.readers != 0),
+    });
+    let size = if matches!(request, Request::BlockIn | Request::BlockOut) { BLOCK_BYTES } else { PAYLOAD_BYTES };
+    let buffer = transfer_buffer(random, size);
     let numbers = match request {
-        Request::Format => {
-            let (blocks, contents) = (seen.blocks, packs::measures(random).1);
-            let (form, blocks, contents) = match random.below(12) {
-                0 => (random.pick(&[0, 2, 3, 65537]), blocks, contents),
-                1 => {
-                    (1, random.pick(&[0, 15, 16, 1024, 1025, blocks + 1, blocks + 65536, blocks + (1 << 55)]), contents)
-                }
-                2 => (1, blocks, random.pick(&[0, 9, 10, 65537, usize::MAX])),
-                _ => (1, blocks, contents),
-            };
-            buffer = format_uics(random);
-            Numbers::Format { form, blocks, contents }
-        }
-        Request::Alloc | Request::Openo => {
-            let (caller, file) = new_file(random, seen);
-            let segments = match random.below(10) {
-                0 => random.pick(&[0, 0, 65535, 65536, 65540, 4 * seen.blocks, 1 << 63, usize::MAX, usize::MAX - 2]),
-                1 => random.between(1, 4 * seen.blocks),
-                2 => 4 * (seen.blocks - seen.contents - 1) + random.below(2),
-                _ => random.between(1, 24),
-            };
-            Numbers::New { caller, file, protect: protect(random), segments }
-        }
-        Request::Renam => {
-            let (caller, old) = old_file(random, seen, |file| file.opens() == 0);
-            let mut new =
-                if random.chance(1, 5) { old_file(random, seen, |_| true).1 } else { pool_file(random, seen) };
-            if random.chance(1, 16) {
-                spoil(random, &mut new);
-            }
-            if random.chance(1, 16) {
-                new = old;
-            }
-            Numbers::Rename { caller, old, new, protect: protect(random) }
-        }
-        Request::Appnd => {
-            let serves = |file: &Entry| file.kind == LINKED && file.opens() == 0 && file.protect & 0o100 == 0;
-            let (caller, first) = old_file(random, seen, serves);
-            let mine = random.chance(3, 4);
-            let other = |file: &Entry| (file.name1 as usize, file.extension as usize) != (first.name1, first.extension);
-            let mut second =
-                present(random, seen, |file| serves(file) && other(file) && (!mine || file.uic as usize == caller));
-            if second.uic == caller && random.chance(1, 2) {
-                second.uic = 0;
-            }
-            if random.chance(1, 16) {
-                spoil(random, &mut second);
-            }
-            if random.chance(1, 16) {
-                second = first;
-                if random.chance(1, 2) {
-                    second.uic = if first.uic == 0 { caller } else { 0 };
-                }
-            }
-            Numbers::Append { caller, first, second }
-        }
-        Request::Look | Request::Keep | Request::Delet => {
-            let closed = request == Request::Delet && random.chance(1, 2);
-            let (caller, file) = old_file(random, seen, |file| !closed || file.opens() == 0);
-            Numbers::File { caller, file }
-        }
-        Request::Openi => {
-            let (caller, file) = old_file(random, seen, |file| file.writer != OUTPUT);
-            Numbers::File { caller, file }
-        }
-        Request::Openu => {
-            let (caller, file) = old_file(random, seen, |file| file.kind == CONTIGUOUS);
-            Numbers::File { caller, file }
-        }
-        Request::Opene => {
-            let (caller, file) = old_file(random, seen, |file| file.kind == LINKED && file.writer != OUTPUT);
-            Numbers::File { caller, file }
-        }
-        Request::Close => {
-            let (caller, file) = old_file(random, seen, |file| file.opens() != 0);
-            let mode =
-                if random.chance(1, 12) { random.pick(&[0, 5, 65537, 65540, 1 << 63]) } else { random.between(1, 4) };
-            Numbers::Mode { caller, file, mode }
-        }
-        Request::Owner => {
-            let block = match random.below(8) {
-                0 => random.pick(&HUGE),
-                1 => seen.blocks,
-                2 => seen.blocks - 1,
-                3 => random.below(seen.contents + 2),
-                _ => random.below(seen.blocks),
-            };
-            Numbers::One(block)
-        }
-        Request::BlockIn | Request::BlockOut => {
-            let serves = |file: &Entry| file.kind == CONTIGUOUS && (file.writer == UPDATE || file.readers != 0);
-            let (caller, file) = old_file(random, seen, serves);
-            buffer = transfer_buffer(random, BLOCK_BYTES);
-            Numbers::Place { caller, file, place: place(random, seen, &file) }
-        }
-        Request::LinkedRead => {
-            let (caller, file) = old_file(random, seen, |file| file.kind == LINKED && file.readers != 0);
-            buffer = transfer_buffer(random, PAYLOAD_BYTES);
-            Numbers::Place { caller, file, place: place(random, seen, &file) }
-        }
-        Request::LinkedAdd => {
-            let serves = |file: &Entry| file.kind == LINKED && matches!(file.writer, OUTPUT | EXTEND);
-            let (caller, file) = old_file(random, seen, serves);
-            buffer = transfer_buffer(random, PAYLOAD_BYTES);
-            Numbers::File { caller, file }
-        }
-        Request::Radpk => {
-            buffer = characters(random, 3, b" ABCXYZ$.0189", b" ABC\x21\x23\x2d\x2f\x3a\x40\x5b\x60a\0\xa0\xc1");
-            Numbers::None
-        }
+        Request::LinkedAdd => Numbers::File { caller, file },
+        _ => Numbers::Place { caller, file, place: place(random, seen, &file) },
+    };
+    (numbers, buffer)
+}
+
+/// Characters for a conversion to a number.
+fn to_number(random: &mut Random, request: Request) -> Vec<u8> {
+    match request {
+        Request::Radpk => characters(random, 3, b" ABCXYZ$.0189", b" ABC\x21\x23\x2d\x2f\x3a\x40\x5b\x60a\0\xa0\xc1"),
         Request::D2bin => {
-            buffer = characters(random, 5, b"0123456789", b"01239:/ -+\xb1a\0");
+            let drawn = characters(random, 5, b"0123456789", b"01239:/ -+\xb1a\0");
             if random.chance(1, 4) {
-                buffer = format!("{:05}", random.between(65530, 65540)).into_bytes();
+                std::format!("{:05}", random.between(65530, 65540)).into_bytes()
+            } else {
+                drawn
             }
-            Numbers::None
         }
-        Request::O2bin => {
-            buffer = characters(random, 6, b"01234567", b"012789:/ -+\xb1a\0");
-            if let Some(first) = buffer.first_mut() {
+        _ => {
+            let mut drawn = characters(random, 6, b"01234567", b"012789:/ -+\xb1a\0");
+            if let Some(first) = drawn.first_mut() {
                 // Most numbers of six digits are too large.
                 *first = if random.chance(3, 4) { random.pick(b"0012") } else { *first };
             }
-            Numbers::None
+            drawn
         }
+    }
+}
+
+/// A number and a buffer for a conversion to characters.
+fn to_characters(random: &mut Random, request: Request) -> (Numbers, Vec<u8>) {
+    let (size, largest) = match request {
         Request::Radup => {
-            buffer = converted_buffer(random, 3);
             let codes = [0, 1, 26, 27, 28, 29, 30, 39];
-            let word = 1600 * random.pick(&codes) + 40 * random.pick(&codes) + random.pick(&codes);
-            Numbers::One(converted_number(random, word))
+            (3, 1600 * random.pick(&codes) + 40 * random.pick(&codes) + random.pick(&codes))
         }
-        Request::Bin2d | Request::Bin2o => {
-            buffer = converted_buffer(random, if request == Request::Bin2d { 5 } else { 6 });
-            Numbers::One(converted_number(random, 65535))
-        }
-        Request::Csi1 => {
-            line = lines::raw(random);
-            let kept = line.iter().filter(|character| !b" \t\0\x7f".contains(character)).count();
-            let length = match random.below(12) {
-                0 => kept.saturating_sub(1),
-                1 => random.below(kept + 1),
-                2 | 3 => kept,
-                4 => 600,
-                _ => 128,
-            };
-            buffer = random.bytes(length);
-            Numbers::None
-        }
-        Request::Csi2 => {
-            line = lines::condensed(random);
-            let (side, k) = asked(random, &line);
-            let needed = csi2(&line, side, k, &mut [0; 384]).map_or(0, |read| read.switches.bytes());
-            let length = match random.below(8) {
-                0 | 1 => needed.saturating_sub(1),
-                2 => random.below(needed + 1),
-                3 | 4 => needed,
-                5 => 400,
-                _ => 384,
-            };
-            buffer = random.bytes(length);
-            Numbers::Side { side, k }
-        }
+        Request::Bin2d => (5, 65535),
+        _ => (6, 65535),
     };
-    Call { request, numbers, line, buffer }
+    let buffer = converted_buffer(random, size);
+    (Numbers::One(converted_number(random, largest)), buffer)
+}
+
+/// A line for CSI1 and its buffer.
+fn condensing(random: &mut Random) -> (Numbers, Vec<u8>, Vec<u8>) {
+    let line = lines::raw(random);
+    let kept = line.iter().filter(|character| !b" \t\0\x7f".contains(character)).count();
+    let length = match random.below(12) {
+        0 => kept.saturating_sub(1),
+        1 => random.below(kept + 1),
+        2 | 3 => kept,
+        4 => 600,
+        _ => 128,
+    };
+    let buffer = random.bytes(length);
+    (Numbers::None, line, buffer)
+}
+
+/// A line for CSI2, what is asked of it, and the buffer for its switches.
+fn asking(random: &mut Random) -> (Numbers, Vec<u8>, Vec<u8>) {
+    let line = lines::condensed(random);
+    let (side, k) = asked(random, &line);
+    let needed = csi2(&line, side, k, &mut [0; 384]).map_or(0, |read| read.switches.bytes());
+    let length = match random.below(8) {
+        0 | 1 => needed.saturating_sub(1),
+        2 => random.below(needed + 1),
+        3 | 4 => needed,
+        5 => 400,
+        _ => 384,
+    };
+    let buffer = random.bytes(length);
+    (Numbers::Side { side, k }, line, buffer)
 }
 
 /// The UICs for Format, as bytes, and sometimes wrong.
