@@ -105,13 +105,7 @@ fn files(random: &mut Random, image: &mut [u8], blocks: usize, contents: usize, 
     random.shuffle(&mut free);
     let mut keys = Vec::new();
     for (count, &slot) in slots[..used].iter().enumerate() {
-        let uic = random.pick(uics);
-        let mut name = packed(random.pick(&NAMES), random.pick(&EXTENSIONS));
-        if keys.contains(&(name, uic)) {
-            name = packed(&format!("F{slot}"), "");
-        }
-        keys.push((name, uic));
-
+        let (name, uic) = another(random, &mut keys, uics, slot);
         let share = free.len() / (used - count);
         let the_rest = tight && count + 1 == used;
         let kind = if the_rest || free.is_empty() || random.chance(1, 2) { LINKED } else { CONTIGUOUS };
@@ -119,12 +113,7 @@ fn files(random: &mut Random, image: &mut [u8], blocks: usize, contents: usize, 
             run(random, &mut free, share)
         } else {
             let length = if the_rest { free.len() } else { random.below(2 * share + 2).min(free.len()) };
-            let held = free.split_off(free.len() - length);
-            for (place, &block) in held.iter().enumerate() {
-                let next = held.get(place + 1).copied().unwrap_or(0);
-                set_word(block_mut(image, block), 0, next as u16);
-            }
-            held
+            chain(image, &mut free, length)
         };
         let (writer, readers) = opens(random, kind);
         Entry {
@@ -142,6 +131,27 @@ fn files(random: &mut Random, image: &mut [u8], blocks: usize, contents: usize, 
         }
         .write(entry::bytes_mut(image, slot));
     }
+}
+
+/// A name with its extension, and a UIC, that no file has yet.
+fn another(random: &mut Random, keys: &mut Vec<([u16; 3], u16)>, uics: &[u16], slot: usize) -> ([u16; 3], u16) {
+    let uic = random.pick(uics);
+    let mut name = packed(random.pick(&NAMES), random.pick(&EXTENSIONS));
+    if keys.contains(&(name, uic)) {
+        name = packed(&format!("F{slot}"), "");
+    }
+    keys.push((name, uic));
+    (name, uic)
+}
+
+/// Takes as many free blocks, each with a link to the next.
+fn chain(image: &mut [u8], free: &mut Vec<usize>, length: usize) -> Vec<usize> {
+    let held = free.split_off(free.len() - length);
+    for (place, &block) in held.iter().enumerate() {
+        let next = held.get(place + 1).copied().unwrap_or(0);
+        set_word(block_mut(image, block), 0, next as u16);
+    }
+    held
 }
 
 /// Takes some free blocks in a row, at least one.
