@@ -64,6 +64,16 @@ pub found-at : (img : List ℕ) (key : Key) (g : Geometry) (o : Option ℕ) → 
 unfolding found
 found-at img key g o measures is = sym (subst (λ (h : Geometry). o ≡ findFrom img h key 0 (slots h)) (sym measures) is)
 
+-- the number and the entry of a file that is found
+pub number-found : (img : List ℕ) (key : Key) {e : ℕ} → found img key ≡ some e → entryNo img key ≡ e
+unfolding entryNo
+number-found img key there = rw there
+
+pub file-found : (img : List ℕ) (key : Key) (g : Geometry) (e : ℕ) → geometryOf img ≡ g → found img key ≡ some e → fileOf img key ≡ entryOf img g e
+unfolding fileOf
+file-found img key g e measures there =
+    ap (λ (h : Geometry). entryOf img h (entryNo img key)) measures ∙ ap (entryOf img g) (number-found img key there)
+
 -- what the stage's two answers say
 pub record FileAsked (img : List ℕ) (key : Key) (wrong : Bool) (g : Geometry) (e : ℕ) (x : Entry) : Type 0 where
   pub right : Consistent img

@@ -1,4 +1,4 @@
--- The first stage of every request on one file that is there: a consistent image, a legal name, right arguments, and the file's entry.
+-- The stages of a request on a file: the rows of the first (a consistent image, a legal name, right arguments, the file's entry), and what a stage answers.
 use Prim.Native.Nat.{ℕ}
 use mathlib.Core.Bool.{Bool, not}
 use mathlib.Core.List.{List, [], _∷_}

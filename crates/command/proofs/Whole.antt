@@ -6,13 +6,10 @@ use mathlib.Core.Option.{Option, none, some}
 use mathlib.Core.Bool.{Bool, true, false}
 use native.Mathlib.Omega.{arith}
 use lib.ListN.{length, take, drop, replicate, length-append, length-take, length-drop, take-append-drop, length-replicate}
-use Rattle.answers.specs.Conversion.{orElse}
-use Rattle.radix.specs.Packing.{wordOf}
 use Rattle.radix.specs.Names.{isLetter, isLetterOrDigit, blank, blankFilled}
-use Rattle.radix.proofs.Characters.{Coded, code-blank, character-blank}
 use Rattle.radix.proofs.Packing.{word-pair}
 use Rattle.cursor.specs.Words.{filledWord, firstWord, secondWord}
-use Rattle.cursor.proofs.Classes.{named-coded, letters-named}
+use Rattle.cursor.proofs.Classes.{letters-named}
 use Rattle.cursor.proofs.Words.{filled-word, all-take, all-drop}
 use Rattle.grammar.specs.Parsed.{Device, File, Uic, Switch, Specification, Parsed}
 use Rattle.grammar.specs.Grammar.{All, nil, cons, Run, IsDevice, IsFile, AreValues, IsSwitch, AreSwitches, IsSpecification, IsSide, Command}

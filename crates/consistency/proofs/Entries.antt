@@ -2,7 +2,7 @@
 use Prim.Native.Nat.{ℕ, _+_, _*_, _-_, _≤_, _<_}
 use mathlib.Core.Path.{_≡_, sym, ap, _∙_}
 use mathlib.Core.Bool.{Bool, true, _&&_}
-use mathlib.Core.List.{List, []}
+use mathlib.Core.List.{List}
 use mathlib.Core.Logic.{inl, inr, _↔_}
 use native.Mathlib.Omega.{arith}
 use native.Mathlib.Decide.{ℕ-discrete}
@@ -13,7 +13,7 @@ use Rattle.pack.specs.declared.Geometry.{Geometry}
 use Rattle.pack.specs.declared.Entry.{Entry}
 use Rattle.pack.specs.Geometry.{entryAt, slots, Sized}
 use Rattle.pack.specs.Test.{zeros}
-use Rattle.pack.specs.File.{nextOf, chain, blocksOf}
+use Rattle.pack.specs.File.{blocksOf}
 use Rattle.pack.specs.Entry.{entryWord, entryOf, blocksAt, Empty, Used, RightEntry}
 use Rattle.pack.proofs.Tests.{and-left, and-right, and-both}
 use Rattle.pack.proofs.Measures.{entry-room}

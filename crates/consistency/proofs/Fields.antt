@@ -9,13 +9,13 @@ use native.Mathlib.Decide.{ℕ-discrete}
 use lib.Dec.{eqb, leb, ltb}
 use borrow.Author.Tests.{eq-eqb, ne-eqb, eqb-true, eqb-false, le-leb, leb-true, not-true}
 use Rattle.radix.specs.Names.{LegalName, LegalExtension, legalName, legalExtension}
-use Rattle.radix.proofs.Names.{name-iff, extension-iff, name-blank}
+use Rattle.radix.proofs.Names.{name-iff, extension-iff}
 use Rattle.pack.specs.declared.Geometry.{Geometry}
 use Rattle.pack.specs.declared.Entry.{Entry}
 use Rattle.pack.specs.Header.{Listed}
 use Rattle.pack.specs.File.{nextOf, after, lastOf, one}
 use Rattle.pack.specs.Entry.{Contiguous, Linked}
-use Rattle.pack.proofs.Tests.{and-left, and-right, and-both, true-not-false}
+use Rattle.pack.proofs.Tests.{and-left, and-right, and-both}
 use Rattle.pack.proofs.Headers.{listed-iff}
 use Rattle.consistency.specs.Entry.{keyTest, kindTest, opensTest, fieldsTest, endTest}
 use Rattle.consistency.proofs.Walking.{last-run}

@@ -8,11 +8,11 @@ use lib.ListN.{getD}
 use Rattle.pack.specs.declared.Geometry.{Geometry}
 use Rattle.pack.specs.declared.Key.{Key}
 use Rattle.pack.specs.Geometry.{geometryOf, slots, Sized}
+use Rattle.pack.proofs.Headers.{listed-word}
 use Rattle.asking.proofs.Legal.{legal-words}
 use Rattle.creation.specs.Creating.{setEntryWords, created}
 use Rattle.creation.specs.Filled.{Writable, Shape, newFile}
 use Rattle.creation.specs.Stages.{entryFor}
-use Rattle.creation.proofs.Fitting.{listed-word}
 use Rattle.creation.proofs.Deciding.{Creatable}
 
 -- the image with the new entry, at the measures and the entry that the code has

@@ -9,7 +9,6 @@ use native.Mathlib.Decide.{ℕ-discrete}
 use lib.Dec.{ltb}
 use lib.ListN.{length, getD, take, replicate, getD-replicate}
 use lib.Seq.{getD-append-add}
-use Rattle.pack.specs.declared.Geometry.{Geometry}
 use Rattle.pack.specs.declared.Entry.{Entry}
 use Rattle.pack.specs.declared.Key.{Key}
 use Rattle.pack.specs.declared.Owner.the-variants.{Held}
@@ -17,7 +16,7 @@ use Rattle.pack.specs.Geometry.{geometryOf, slots}
 use Rattle.pack.specs.File.{blocksOf, one, count}
 use Rattle.pack.specs.Entry.{entryOf, blocksAt, Contiguous, Linked, Used, SameFile, Empty}
 use Rattle.pack.specs.Consistent.{Consistent}
-use Rattle.pack.specs.Owner.{FreeBlock, placeFrom, ownerOf, HeldAt}
+use Rattle.pack.specs.Owner.{FreeBlock, placeFrom, ownerOf}
 use Rattle.pack.specs.Untouched.{Untouched}
 use Rattle.pack.proofs.Headers.{listed-iff}
 use Rattle.pack.proofs.Files.{empty-blocks}

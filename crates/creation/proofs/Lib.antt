@@ -8,7 +8,6 @@ pub mod Rounding
 pub mod Stretch
 pub mod Lowest
 pub mod Filling
-pub mod Fitting
 pub mod Deciding
 pub mod Highest
 pub mod Created

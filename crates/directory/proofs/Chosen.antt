@@ -1,6 +1,6 @@
 -- The file that a request changes: its entry is in use and has its key, and where nothing but that entry changes no other file is touched.
 use Prim.Native.Nat.{ℕ, _<_}
-use mathlib.Core.Path.{_≡_, refl, ap, subst, _∙_}
+use mathlib.Core.Path.{_≡_, refl, subst}
 use mathlib.Core.Bool.{Bool, true}
 use mathlib.Core.List.{List}
 use mathlib.Core.Option.{some}
@@ -13,7 +13,7 @@ use Rattle.pack.specs.Consistent.{Consistent}
 use Rattle.pack.specs.Untouched.{Keyed, Untouched}
 use Rattle.pack.proofs.Headers.{header-sized}
 use Rattle.asking.specs.Keys.{legalKey, found}
-use Rattle.asking.specs.Asked.{entryNo, fileOf}
+use Rattle.asking.specs.Asked.{entryNo}
 use Rattle.asking.proofs.Keys.{found-iff, keyed-used, key-single}
 use Rattle.asking.proofs.Stage.{FileAsked}
 use Rattle.frame.specs.Framed.{Only, Never, Kept}
@@ -47,16 +47,6 @@ chosen img key right legal e there =
 pub asked-chosen : {img : List ℕ} {key : Key} {wrong : Bool} {g : Geometry} {e : ℕ} {x : Entry} → FileAsked img key wrong g e x
     → Chosen img key (geometryOf img) (entryNo img key)
 asked-chosen {img} {key} {wrong} {g} {e} {x} f = chosen img key (f .right) (f .legal) e (f .there)
-
--- the number and the entry of a file that is found
-pub number-found : (img : List ℕ) (key : Key) {e : ℕ} → found img key ≡ some e → entryNo img key ≡ e
-unfolding entryNo
-number-found img key there = rw there
-
-pub file-found : (img : List ℕ) (key : Key) (g : Geometry) (e : ℕ) → geometryOf img ≡ g → found img key ≡ some e → fileOf img key ≡ entryOf img g e
-unfolding fileOf
-file-found img key g e measures there =
-    ap (λ (h : Geometry). entryOf img h (entryNo img key)) measures ∙ ap (entryOf img g) (number-found img key there)
 
 pub chosen-untouched : {img img′ : List ℕ} {key : Key} {g : Geometry} {e : ℕ} → Chosen img key g e → Kept (Only e) Never img img′ g
     → (key′ : Key) → (key′ ≡ key → ⊥) → Untouched key′ img img′

@@ -24,7 +24,7 @@ use Rattle.consistency.proofs.Consistent.{consistent-iff}
 use Rattle.asking.specs.Keys.{found}
 use Rattle.asking.specs.Asked.{fileRows, entryNo, fileOf}
 use Rattle.asking.specs.Written.{setEntryWord}
-use Rattle.asking.proofs.Stage.{stage-clear}
+use Rattle.asking.proofs.Stage.{stage-clear, number-found, file-found}
 use Rattle.frame.specs.Framed.Distinct.{known}
 use Rattle.frame.proofs.Frame.{geometry-framed}
 use Rattle.frame.proofs.Untouched.{untouched-refl}
@@ -32,7 +32,7 @@ use Rattle.frame.proofs.Written.{kept-entry-word, entry-set-same, entry-set-oth
 use Rattle.directory.specs.Keep.{keepRows, keptCode, keep}
 use Rattle.asking.proofs.Outcome.{code-is, success-image, refusal-keeps, image-by}
 use Rattle.asking.specs.Outcome.{Unchanged}
-use Rattle.directory.proofs.Chosen.{Chosen, number-found, file-found, chosen-untouched}
+use Rattle.directory.proofs.Chosen.{Chosen, chosen-untouched}
 use Rattle.directory.proofs.Relabelled.{labelled, Relabelled, relabelled-framed, relabelled-entry, relabelled-owner, relabelled-consistent, relabelled-found}
 use Rattle.directory.proofs.Keeping.{owner-only, keep-chosen, kept-small, kept-again}
 

@@ -35,13 +35,13 @@ use Rattle.asking.specs.Rights.{may, granted}
 use Rattle.asking.specs.Opens.{isOpen}
 use Rattle.asking.specs.Written.{setEntryWord}
 use Rattle.asking.proofs.Keys.{found-keyed}
-use Rattle.asking.proofs.Stage.{found-at, stage-refuses, stage-gives, Given, stage-is-file, outcome-refused}
+use Rattle.asking.proofs.Stage.{found-at, stage-refuses, stage-gives, Given, stage-is-file, outcome-refused, number-found, file-found}
 use Rattle.asking.specs.Outcome.{Outcome}
 use Rattle.asking.proofs.Outcome.{done-answer}
 use Rattle.asking.proofs.Legal.{legal-words}
 use Rattle.directory.specs.Renam.{renamRows, renamed, renam}
 use Rattle.directory.proofs.Lacking.{lacking, lacking-right, lacking-open, lacking-none}
-use Rattle.directory.proofs.Chosen.{Chosen, chosen, number-found, file-found}
+use Rattle.directory.proofs.Chosen.{Chosen, chosen}
 
 pub renam-ordered : (img : List ℕ) (old new : Key) (protect caller : ℕ) → inOrder tableOrder 0 (renamRows img old new protect caller) ≡ true
 unfolding renamRows

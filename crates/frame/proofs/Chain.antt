@@ -5,9 +5,9 @@ use mathlib.Core.List.{List, [], _∷_, _++_}
 use mathlib.Core.Bool.{cond}
 use native.Mathlib.Omega.{arith}
 use native.Mathlib.Decide.{ℕ-discrete, decLt}
-use lib.ListN.{length, getD}
+use lib.ListN.{getD}
 use lib.Dec.{eqb}
-use borrow.Author.Tests.{eq-eqb, ne-eqb}
+use borrow.Author.Tests.{ne-eqb}
 use Rattle.pack.specs.declared.Geometry.{Geometry}
 use Rattle.pack.specs.File.{linkOf, nextOf, chain, after, lastOf, count}
 use Rattle.pack.proofs.Counting.{count-nil, count-same, count-other, count-more}

@@ -1,7 +1,7 @@
 -- An entry whose words are the same, with blocks whose bytes are the same: its file is the same and as right as before.
 use Prim.Native.Nat.{ℕ, _+_, _*_, _≤_, _<_}
 use mathlib.Core.Path.{_≡_, sym, ap, subst, _∙_}
-use mathlib.Core.List.{List, []}
+use mathlib.Core.List.{List}
 use mathlib.Core.Logic.{_⊎_, inl, inr}
 use native.Mathlib.Omega.{arith}
 use lib.ListN.{length, getD}
@@ -13,7 +13,7 @@ use Rattle.pack.specs.File.{linkOf, nextOf, chain, blocksOf, count}
 use Rattle.pack.specs.Entry.{entryWord, entryOf, blocksAt, Empty, Contiguous, Linked, Used, RightEntry}
 use Rattle.pack.proofs.Counting.{count-nil}
 use Rattle.pack.proofs.Files.{empty-blocks}
-use Rattle.frame.proofs.Chain.{chain-none, chain-same, after-same, last-same, next-same}
+use Rattle.frame.proofs.Chain.{chain-same, after-same, last-same, next-same}
 
 -- a word is its two bytes
 pub word-same : (img img′ : List ℕ) (w : ℕ) → getD img′ (2 * w) 0 ≡ getD img (2 * w) 0 → getD img′ (2 * w + 1) 0 ≡ getD img (2 * w + 1) 0 → wordAt img′ w ≡ wordAt img w

@@ -4,7 +4,6 @@ use mathlib.Core.Path.{_≡_, refl, sym, ap, subst, _∙_}
 use mathlib.Core.List.{List, [], _∷_, _++_}
 use native.Mathlib.Omega.{arith}
 use Rattle.pack.specs.File.{chain, after, lastOf, count}
-use Rattle.pack.proofs.Files.{chain-length}
 use Rattle.frame.specs.Growth.{Walked}
 use Rattle.frame.proofs.Chain.{chain-none, after-none, last-none, last-any, last-in, after-last, chain-same, after-same, last-same, chain-join, after-join, last-join}
 

@@ -1,7 +1,7 @@
 -- A side is its first specification, and what a comma begins: the law by which the readers of sides and specifications call each other.
 use Prim.Native.Nat.{ℕ, suc, _+_, _-_, _≤_}
 use mathlib.Core.Path.{_≡_, refl, ap}
-use mathlib.Core.List.{List, [], _∷_}
+use mathlib.Core.List.{List, _∷_}
 use native.Mathlib.Nat.{le-refl}
 use native.Mathlib.Omega.{arith}
 use lib.ListN.{length, drop, length-drop, length-append, length-take}
@@ -11,7 +11,7 @@ use Rattle.grammar.specs.Grammar.{IsSide}
 use Rattle.grammar.specs.Grammar as G
 use Rattle.grammar.specs.Reader.{Res, ok, no, used, later, andThen, seq, manyBy, many, one, second, specification, side}
 use Rattle.grammar.proofs.Lists.{agree-refl}
-use Rattle.grammar.proofs.Theory.{Sound, seq-reads, Stop, over, at, many-near}
+use Rattle.grammar.proofs.Theory.{Sound, seq-reads, at, many-near}
 use Rattle.grammar.proofs.Parts.{chr-reads, is-in, afterSpec}
 use Rattle.grammar.proofs.Lines.{specification-reads, next-first, side-reads}
 

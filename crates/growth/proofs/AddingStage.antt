@@ -27,7 +27,7 @@ use Rattle.asking.specs.declared.Asked.the-variants.{File, Refused}
 use Rattle.asking.specs.Keys.{legalKey}
 use Rattle.asking.specs.Asked.{fileRows, entryNo, fileOf, askedOf}
 use Rattle.asking.specs.Rights.{may}
-use Rattle.asking.proofs.Stage.{FileAsked, asked-is-file, asked-is-refused, asked-entry, file-refused, file-clear}
+use Rattle.asking.proofs.Stage.{FileAsked, asked-is-file, asked-is-refused, asked-entry, file-refused, file-clear, number-found}
 use Rattle.creation.specs.declared.allocation.Run.{Run}
 use Rattle.creation.specs.declared.allocation.Run.the-variants.{Start, Nowhere}
 use Rattle.creation.specs.Choice.{FreeRun}
@@ -37,7 +37,6 @@ use Rattle.creation.proofs.Stretch.{run-is}
 use Rattle.growth.specs.Adding.{openForAdding, highestFree, addedBlock, linkedAddRows}
 use Rattle.growth.specs.Stages.{addingRows, addingOf}
 use Rattle.growth.specs.declared.adding.Adding.the-variants.{At, Refused as AddRefused}
-use Rattle.growth.proofs.Deciding.{found-number}
 use Rattle.growth.proofs.Accepted.{Asked as AskedFile, asked}
 
 -- 40, 15, 41, 2, 6, 43, 45 and 42 stand in the order of the table
@@ -133,7 +132,7 @@ module _ (img : List ℕ) (key : Key) (caller : ℕ) (wrong : Bool) where
           adding-at b there =
               let first = add-rows-clear (all-rows ∙ passed) (b .0) there in
               let block : addedBlock img ≡ b .0 = ap (orElse 0) there in
-              let number : entryNo img key ≡ e = sym (found-number img key e (adding-file .there)) in
+              let number : entryNo img key ≡ e = number-found img key (adding-file .there) in
               sym (success-is _ _ first ∙ (λ i. At (adding-file .measures i) (number i) (record { 0 = block i })))
 
 -- a block that is free is a free run of one block

@@ -18,7 +18,7 @@ use Rattle.pack.specs.Entry.{entryOf}
 use Rattle.consistency.specs.Test.{consistent}
 use Rattle.asking.specs.Keys.{legalKey, found, findFrom}
 use Rattle.asking.specs.Asked.{entryNo, fileOf}
-use Rattle.asking.proofs.Stage.{found-at}
+use Rattle.asking.proofs.Stage.{found-at, number-found}
 use Rattle.growth.specs.Appnd.{sameKey, appndRows}
 use Rattle.growth.specs.Stages.{nameRows, permitRows, bothAt, bothOf, decided}
 use Rattle.growth.specs.declared.Both.the-variants.{Files, Missing}
@@ -104,10 +104,6 @@ found-entry : (img : List ℕ) (key : Key) (g : Geometry) (e : ℕ) (x : Entry) 
 unfolding fileOf entryNo
 found-entry img key g e x measures there is = rw there (is ∙ ap (λ (h : Geometry). entryOf img h e) (sym measures))
 
-pub found-number : (img : List ℕ) (key : Key) (e : ℕ) → found img key ≡ some e → e ≡ entryNo img key
-unfolding entryNo
-found-number img key e there = rw there
-
 -- what the rows decide
 module _ (img : List ℕ) (first second : Key) (caller : ℕ) where
   code-decided : {code : ℕ} → firstOf (appndRows img first second caller) ≡ code → (code ≡ 0 → ⊥) → Refused code ≡ decided img first second caller
@@ -176,4 +172,4 @@ module _ (img : List ℕ) (first second : Key) (caller : ℕ) where
 
         pub decided-join : 0 ≡ firstOf (permitRows caller x y) → Join g e x f y ≡ decided img first second caller
         unfolding decided onSuccess
-        decided-join clear = rw (files-decide, ← clear, measures, x-is, y-is, found-number img first e there-first, found-number img second f there-second)
+        decided-join clear = rw (files-decide, ← clear, measures, x-is, y-is, sym (number-found img first there-first), sym (number-found img second there-second))

@@ -7,13 +7,12 @@ use native.Mathlib.Omega.{arith}
 use native.Mathlib.Decide.{ℕ-discrete}
 use lib.ListN.{length, getD, length-append, List·getD-append}
 use lib.Seq.{getD-append-add}
-use Rattle.pack.specs.declared.Geometry.{Geometry}
 use Rattle.pack.specs.declared.Key.{Key}
 use Rattle.pack.specs.declared.Owner.the-variants.{Held}
-use Rattle.pack.specs.Geometry.{geometryOf, slots}
+use Rattle.pack.specs.Geometry.{geometryOf}
 use Rattle.pack.specs.File.{count}
 use Rattle.pack.specs.Entry.{entryOf, blocksAt}
-use Rattle.pack.specs.Owner.{placeFrom, ownerOf, HeldAt}
+use Rattle.pack.specs.Owner.{placeFrom, ownerOf}
 use Rattle.pack.proofs.Counting.{count-nil, count-append}
 use Rattle.pack.proofs.Files.{empty-blocks}
 use Rattle.asking.specs.Asked.{entryNo, fileOf}

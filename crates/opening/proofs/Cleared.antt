@@ -13,8 +13,7 @@ use Rattle.pack.specs.Consistent.{Consistent}
 use Rattle.pack.specs.Untouched.{Keyed}
 use Rattle.asking.specs.Asked.{fileRows, entryNo, fileOf}
 use Rattle.asking.proofs.Keys.{keyed-used}
-use Rattle.asking.proofs.Stage.{FileAsked, stage-clear}
-use Rattle.opening.proofs.Deciding.{asked-number}
+use Rattle.asking.proofs.Stage.{FileAsked, stage-clear, number-found}
 
 -- the file of a request that is not refused, at the image's own measures
 pub record Cleared (img : List ℕ) (key : Key) : Type 0 where
@@ -26,7 +25,7 @@ pub record Cleared (img : List ℕ) (key : Key) : Type 0 where
 asked-cleared : {img : List ℕ} {key : Key} {wrong : Bool} {g : Geometry} {e : ℕ} {x : Entry} → FileAsked img key wrong g e x → Cleared img key
 unfolding fileOf
 asked-cleared {img} {key} {wrong} {g} {e} f =
-    let at : e ≡ entryNo img key = sym (asked-number f) in
+    let at : e ≡ entryNo img key = sym (number-found img key (f .there)) in
     let inside : entryNo img key < slots (geometryOf img) = subst (λ (j : ℕ). j < slots (geometryOf img)) at (subst (λ (h : Geometry). e < slots h) (sym (f .measures)) (f .inside)) in
     let here : Keyed key (entryOf img g e) = subst (Keyed key) (f .entry) (f .keyed) in
     let keyed : Keyed key (entryOf img (geometryOf img) (entryNo img key)) = subst (λ (j : ℕ). Keyed key (entryOf img (geometryOf img) j)) at (subst (λ (h : Geometry). Keyed key (entryOf img h e)) (sym (f .measures)) here) in

@@ -12,15 +12,10 @@ use Rattle.pack.specs.declared.Key.{Key}
 use Rattle.pack.specs.Geometry.{geometryOf, Sized, slots}
 use Rattle.asking.specs.Asked.{entryNo}
 use Rattle.asking.specs.Written.{setEntryWord}
-use Rattle.asking.proofs.Stage.{FileAsked}
+use Rattle.asking.proofs.Stage.{FileAsked, number-found}
 use Rattle.opening.specs.declared.Decision.{Decision}
 use Rattle.opening.specs.declared.Decision.the-variants.{Set, Refused}
 use Rattle.opening.specs.Decision.{decided, Settable, codeOf, imageOf}
-
--- the number of the entry that the first stage found
-pub asked-number : {img : List ℕ} {key : Key} {wrong : Bool} {g : Geometry} {e : ℕ} {x : Entry} → FileAsked img key wrong g e x → entryNo img key ≡ e
-unfolding entryNo
-asked-number f = rw (f .there)
 
 module _ (rows : List Row) (img : List ℕ) (key : Key) (i word : ℕ) where
   pub decided-refused : {code : ℕ} → firstOf rows ≡ code → (code ≡ 0 → ⊥) → Refused code ≡ decided rows img key i word
@@ -29,7 +24,7 @@ module _ (rows : List Row) (img : List ℕ) (key : Key) (i word : ℕ) where
 
   pub decided-set : {wrong : Bool} {g : Geometry} {e : ℕ} {x : Entry} → FileAsked img key wrong g e x → firstOf rows ≡ 0 → Set g e i word ≡ decided rows img key i word
   unfolding decided onSuccess
-  decided-set {wrong} {g} {e} f is = rw (is, f .measures, asked-number f)
+  decided-set {wrong} {g} {e} f is = rw (is, f .measures, number-found img key (f .there))
 
   pub decided-code : codeOf (decided rows img key i word) ≡ firstOf rows
   unfolding decided onSuccess codeOf

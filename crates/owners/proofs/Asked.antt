@@ -22,7 +22,6 @@ use Rattle.consistency.proofs.Consistent.{consistent-iff, opened-good, opened-b
 use Rattle.asking.specs.Outcome.{Outcome, zeroed}
 use Rattle.asking.proofs.Outcome.{settled-refused, settled-success}
 use Rattle.owners.specs.declared.OwnerAnswer.{OwnerAnswer}
-use Rattle.owners.specs.Owner.{OneOwner}
 use Rattle.owners.specs.Asked.{ownerRows, ownerNumbers, owner, ownerOutcome}
 use Rattle.owners.proofs.Owner.{owner-system, owner-free, owner-held}
 

@@ -1,6 +1,6 @@
 -- The blocks of an entry: as many as its stored length, and in a consistent image all of them bodies.
-use Prim.Native.Nat.{ℕ, suc, zero, _≤_, _<_}
-use mathlib.Core.Path.{_≡_, refl, ap, _∙_}
+use Prim.Native.Nat.{ℕ, _≤_, _<_}
+use mathlib.Core.Path.{_≡_, _∙_}
 use mathlib.Core.Logic.{inl, inr}
 use mathlib.Core.List.{List, [], _∷_}
 use native.Mathlib.Omega.{arith}
@@ -8,7 +8,7 @@ use lib.ListN.{length}
 use Rattle.words.specs.Word.{wordAt}
 use Rattle.pack.specs.declared.Geometry.{Geometry}
 use Rattle.pack.specs.Geometry.{geometryOf, slots}
-use Rattle.pack.specs.File.{chain, blocksOf, count}
+use Rattle.pack.specs.File.{blocksOf, count}
 use Rattle.pack.specs.Entry.{entryOf, blocksAt, Empty, RightEntry}
 use Rattle.pack.specs.Header.{RightHeader}
 use Rattle.pack.specs.Consistent.{Consistent}

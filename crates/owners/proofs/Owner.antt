@@ -15,7 +15,7 @@ use Rattle.pack.specs.declared.Owner.{Owner}
 use Rattle.pack.specs.declared.Owner.the-variants.{System, Free, Held}
 use Rattle.pack.specs.Geometry.{geometryOf, slots}
 use Rattle.pack.specs.File.{count}
-use Rattle.pack.specs.Entry.{entryOf, blocksAt, Empty}
+use Rattle.pack.specs.Entry.{blocksAt}
 use Rattle.pack.specs.Consistent.{held, Consistent}
 use Rattle.pack.specs.Owner.{placeFrom, holder, ownerOf, HeldAt}
 use Rattle.pack.proofs.Counting.{count-at, total-has, total-two}

@@ -8,9 +8,10 @@ use native.Mathlib.Omega.{arith}
 use native.Mathlib.Decide.{ℕ-discrete}
 use native.Mathlib.Nat.{mul-le-mul, mul-le-mul-right}
 use lib.Dec.{eqb, leb, ltb}
-use lib.ListN.{length}
+use lib.ListN.{length, getD}
 use borrow.Author.Tests.{eq-eqb, ne-eqb, eqb-true, eqb-false, leb-true, le-leb, lt-leb, ltb-true, lt-ltb, le-ltb, not-true}
 use Rattle.words.specs.Word.{wordAt}
+use Rattle.words.proofs.Laws.{word-bound}
 use Rattle.pack.specs.declared.Header.the-variants.{Right, Wrong}
 use Rattle.pack.specs.Form.{segmentsOf, leastBlocks, mostBlocksOf, leastContents, mostContentsOf, mostUicsOf, bodiesOf}
 use Rattle.pack.specs.Geometry.{geometryOf, Sized}
@@ -116,6 +117,12 @@ listed-iff img uic = (λ t. found (among-is img uic 4 (uicCount img) t), λ l. i
     found a =
         let place : 4 + (a .at - 4) ≡ a .at = omega (arith, a .low) in
         record { at = a .at - 4; within = omega (arith, a .low, a .high); is = ap (wordAt img) place ∙ a .is }
+
+-- a listed UIC is a word of the image, so that an entry can hold it
+pub listed-word : (img : List ℕ) (uic : ℕ) → ((i : ℕ) → getD img i 0 < 256) → listed img uic ≡ true → uic < 65536
+listed-word img uic bytes known =
+    let there = listed-iff img uic .0 known in
+    omega (arith, word-bound img (4 + there .at) bytes, there .is)
 
 -- distinct words that are not 0
 pub record Distinct (img : List ℕ) (from k : ℕ) : Type 0 where

@@ -11,7 +11,6 @@ use lib.Dec.{eqb, ltb}
 use lib.ListN.{length, getD}
 use lib.Seq.{getD-append-add}
 use borrow.Author.Tests.{eq-eqb, ne-eqb, eqb-true, lt-ltb, not-false}
-use Rattle.answers.specs.Conversion.{orElse}
 use Rattle.answers.proofs.Refusals.{none-given}
 use Rattle.pack.specs.declared.Geometry.{Geometry}
 use Rattle.pack.specs.declared.Entry.{Entry}
@@ -32,7 +31,7 @@ use Rattle.asking.specs.Rights.{May}
 use Rattle.asking.specs.Written.{setEntryWord}
 use Rattle.asking.proofs.Keys.{legal-iff, found-iff}
 use Rattle.asking.proofs.Rights.{may-iff, may-reads}
-use Rattle.asking.proofs.Stage.{FileAsked, asked-is-file, asked-file, file-at}
+use Rattle.asking.proofs.Stage.{FileAsked, asked-is-file, asked-file, file-at, number-found, file-found}
 use Rattle.asking.proofs.Outcome.{code-is, success-image}
 use Rattle.frame.specs.Framed.{Kept}
 use Rattle.frame.proofs.Frame.{stated-framed, entries-at}
@@ -109,12 +108,10 @@ module _ {img : List ℕ} {key : Key} {g : Geometry} {e caller place : ℕ} {pay
   there = found-iff (stored .right) key (stored .legal) e .1 here
 
   number : entryNo img key ≡ e
-  unfolding entryNo
-  number = ap (orElse 0) there
+  number = number-found img key there
 
   own : fileOf img key ≡ entryOf img g e
-  unfolding fileOf
-  own = ap (entryOf img (geometryOf img)) number ∙ ap (λ (h : Geometry). entryOf img h e) (sym (stored .stated))
+  own = file-found img key g e (sym (stored .stated)) there
 
   asked : (wrong : Bool) → wrong ≡ false → FileAsked img key wrong g e (entryOf img g e)
   asked wrong right =

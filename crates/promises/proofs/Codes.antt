@@ -13,12 +13,12 @@ use borrow.Author.Tests.{not-false, eqb-true, eqb-false, ltb-true, lt-ltb, leb-t
 use Rattle.answers.specs.Refusals.{Row, row, firstOf}
 use Rattle.answers.specs.Conversion.{missing}
 use Rattle.answers.proofs.Refusals.{clear}
+use Rattle.answers.proofs.Missing.{missing-iff}
 use Rattle.pack.specs.declared.Key.{Key}
 use Rattle.pack.specs.Consistent.{Consistent}
 use Rattle.pack.specs.Test.{listed}
 use Rattle.pack.specs.Geometry.{geometryOf, blockBytes, payloadBytes}
 use Rattle.pack.specs.declared.Entry.{Entry}
-use Rattle.pack.specs.Owner.{FreeBlock}
 use Rattle.pack.proofs.Headers.{listed-iff, header-sized}
 use Rattle.pack.proofs.Tests.{true-not-false, and-left, and-right, and-both}
 use Rattle.consistency.specs.Test.{consistent}
@@ -40,7 +40,8 @@ use Rattle.directory.specs.Delet.{delet, deletRows}
 use Rattle.directory.specs.Keep.{keep, keepRows}
 use Rattle.directory.specs.Renam.{renam, renamRows}
 use Rattle.growth.specs.Appnd.{sameKey, appnd, appndRows}
-use Rattle.growth.specs.Adding.{linkedAdd, linkedAddRows}
+use Rattle.growth.specs.Adding.{linkedAdd, linkedAddRows, highestFree}
+use Rattle.growth.proofs.AddingStage.{none-free, free-none}
 use Rattle.transfer.specs.Block.{blockIn, blockInRows, blockOut, blockOutRows}
 use Rattle.transfer.specs.Linked.{linkedRead, linkedReadRows}
 use Rattle.creation.specs.Format.{format, formatRows, formatTest}
@@ -102,14 +103,12 @@ denies false iff = (λ t. fails false iff refl, λ t. refl)
 
 -- where there is nothing: no entry has the key
 absent-key : {img : List ℕ} → Consistent img → (key : Key) → legalKey key ≡ true → missing (found img key) ≡ true ↔ (Exists img key → ⊥)
-absent-key {img} right key legal = by (found img key) refl
-  where
-    by : (o : Option ℕ) → found img key ≡ o → missing (found img key) ≡ true ↔ (Exists img key → ⊥)
-    by none is =
-        (λ t there. absent-iff right key legal .0 is (there .entry) (there .inside) (there .keyed), λ t. rw is)
-    by (some e) is =
-        let at = found-iff right key legal e .0 is in
-        (λ t. true-not-false (sym (rw is at t)), λ never. absurd (never (record { entry = e; inside = at .0; keyed = at .1 })))
+absent-key {img} right key legal =
+    let absent = absent-iff right key legal in
+    missing-iff (found img key) (
+      λ is there. absent .0 is (there .entry) (there .inside) (there .keyed),
+      λ never. absent .1 (λ e inside keyed. never (record { entry = e; inside = inside; keyed = keyed })),
+    )
 
 present-key : {img : List ℕ} → Consistent img → (key : Key) → legalKey key ≡ true → not (missing (found img key)) ≡ true ↔ Exists img key
 present-key {img} right key legal = by (found img key) refl
@@ -322,11 +321,7 @@ appnd-code-iff img first second caller =
 
 -- no entry is empty
 full : (img : List ℕ) → missing (lowestEmpty img) ≡ true ↔ Full img
-full img = by (lowestEmpty img) refl
-  where
-    by : (o : Option ℕ) → lowestEmpty img ≡ o → missing (lowestEmpty img) ≡ true ↔ Full img
-    by none is = (λ t. empty-none img .0 is, λ never. rw is)
-    by (some e) is = (λ t. true-not-false (sym (rw is at t)), λ never. let z : _≡_ {A = Option ℕ} none (some e) = sym (empty-none img .1 never) ∙ is in let w : _≡_ {A = ℕ} 0 1 = cc in absurd (omega arith))
+full img = missing-iff (lowestEmpty img) (empty-none img)
 
 module _ (img : List ℕ) (key : Key) (caller protect : ℕ) (wrong : Bool) (Wrong : Type 0) (decides : wrong ≡ true ↔ Wrong) (more : List Row) (Room : ℕ → Type 0)
     (rest : Consistent img → wrong ≡ false → Room (firstOf more)) where
@@ -357,18 +352,10 @@ openo-code-iff img key caller protect = exactly (creating-one success-one) (open
 -- no run of the length is free
 crowded : {img : List ℕ} → Consistent img → (segments : ℕ) → eqb segments 0 ≡ false
     → missing (highestRun img (lengthFor img segments)) ≡ true ↔ ((s : ℕ) → FreeRun img (lengthFor img segments) s → ⊥)
-crowded {img} right segments some-segments = by (highestRun img (lengthFor img segments)) refl
+crowded {img} right segments some-segments = missing-iff (highestRun img (lengthFor img segments)) (run-none img (lengthFor img segments) positive)
   where
     positive : 0 < lengthFor img segments
     positive = blocks-some (geometryOf img) segments (header-sized img (right .header) .some) (omega (arith, eqb-false segments 0 some-segments))
-
-    by : (o : Option ℕ) → highestRun img (lengthFor img segments) ≡ o
-        → missing (highestRun img (lengthFor img segments)) ≡ true ↔ ((s : ℕ) → FreeRun img (lengthFor img segments) s → ⊥)
-    by none is = (λ t. run-none img (lengthFor img segments) positive .0 is, λ never. rw is)
-    by (some s) is = (
-      λ t. true-not-false (sym (rw is at t)),
-      λ never. let z : _≡_ {A = Option ℕ} none (some s) = sym (run-none img (lengthFor img segments) positive .1 never) ∙ is in let w : _≡_ {A = ℕ} 0 1 = cc in absurd (omega arith),
-    )
 
 alloc-code : (img : List ℕ) (key : Key) (caller protect segments : ℕ) → AllocCode img key caller protect segments (alloc img key caller protect segments .code)
 unfolding alloc allocRows settled
@@ -430,26 +417,6 @@ pub linked-read-code-iff : (img : List ℕ) (key : Key) (caller place : ℕ) (bu
     → linkedRead img key caller place buffer .code ≡ code ↔ LinkedReadCode img key caller place buffer code
 linked-read-code-iff img key caller place buffer = exactly (file-one four-one) (linked-read-code img key caller place buffer)
 
--- a run of one block is a block
-run-of-one : (img : List ℕ) → ((s : ℕ) → FreeRun img 1 s → ⊥) ↔ ((b : ℕ) → FreeBlock img b → ⊥)
-run-of-one img = (
-  λ never b free. never b (record { free = λ z low high. subst (FreeBlock img) (let is : b ≡ z = omega arith in is) free }),
-  λ never s run. never s (run .free s (omega arith) (omega arith)),
-)
-
-none-free : (img : List ℕ) → missing (highestRun img 1) ≡ true ↔ ((b : ℕ) → FreeBlock img b → ⊥)
-none-free img = by (highestRun img 1) refl
-  where
-    by : (o : Option ℕ) → highestRun img 1 ≡ o → missing (highestRun img 1) ≡ true ↔ ((b : ℕ) → FreeBlock img b → ⊥)
-    by none is = (λ t. run-of-one img .0 (run-none img 1 (omega arith) .0 is), λ never. rw is)
-    by (some s) is = (
-      λ t. true-not-false (sym (rw is at t)),
-      λ never.
-          let z : _≡_ {A = Option ℕ} none (some s) = sym (run-none img 1 (omega arith) .1 (run-of-one img .1 never)) ∙ is in
-          let w : _≡_ {A = ℕ} 0 1 = cc in
-          absurd (omega arith),
-    )
-
 linked-add-code : (img : List ℕ) (key : Key) (caller : ℕ) (payload : List ℕ) → LinkedAddCode img key caller payload (linkedAdd img key caller payload .code)
 unfolding linkedAdd linkedAddRows settled
 linked-add-code img key caller payload =
@@ -457,7 +424,7 @@ linked-add-code img key caller payload =
     rung _ 0o6 _ (lacks-right _ caller _ _) (λ r.
     rung _ 0o43 _ (equal-numbers _ 1) (λ k.
     rung _ 0o45 _ (denies _ (either (eqb (fileOf img key .writer) 2) (eqb (fileOf img key .writer) 3) (equal-numbers _ 2) (equal-numbers _ 3))) (λ o.
-    rung _ 0o42 _ (none-free img) (λ b. clear)))))
+    rung _ 0o42 _ (missing-iff (highestFree img) (none-free img, free-none img)) (λ b. clear)))))
 
 pub linked-add-code-iff : (img : List ℕ) (key : Key) (caller : ℕ) (payload : List ℕ) (code : ℕ)
     → linkedAdd img key caller payload .code ≡ code ↔ LinkedAddCode img key caller payload code

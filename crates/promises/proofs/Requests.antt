@@ -1,6 +1,6 @@
 -- What is promised of the requests on an image, side by side: consistency, refusals, room.
 use Prim.Native.Nat.{ℕ}
-use mathlib.Core.Path.{_≡_, refl}
+use mathlib.Core.Path.{_≡_, refl, subst}
 use mathlib.Core.Logic.{_↔_}
 use mathlib.Core.List.{List, _++_, [], _∷_}
 use lib.Dec.{eqb}
@@ -20,6 +20,8 @@ use Rattle.opening.specs.Close.{close}
 use Rattle.opening.proofs.Opened.{open-consistent, open-refused}
 use Rattle.opening.proofs.Closed.{close-consistent, close-refused}
 use Rattle.pack.specs.Owner.{FreeBlock, ownerOf}
+use Rattle.pack.specs.declared.Owner.{Owner}
+use Rattle.pack.specs.declared.Owner.the-variants.{System, Free, Held}
 use Rattle.asking.specs.Asked.{fileRows, fileOf}
 use Rattle.asking.specs.Outcome.{zeroed, Unchanged}
 use Rattle.asking.proofs.Outcome.{refusal-keeps}
@@ -76,7 +78,7 @@ stays-consistent {img} right =
 pub record RefusedUnchanged (img : List ℕ) : Type 0 where
   pub format : (form blocks contents : ℕ) (uics : List ℕ) → (format img form blocks contents uics .code ≡ 0 → ⊥) → Unchanged (format img form blocks contents uics) [] img uics
   pub look : (key : Key) → (look img key .code ≡ 0 → ⊥) → Unchanged (look img key) (0 ∷ (0 ∷ (0 ∷ (0 ∷ (0 ∷ (0 ∷ [])))))) img []
-  pub owner : (block : ℕ) → (owner img block .code ≡ 0 → ⊥) → Unchanged (owner img block) (zeroed (ownerNumbers (ownerOf img block))) img []
+  pub owner : (block : ℕ) → (owner img block .code ≡ 0 → ⊥) → Unchanged (owner img block) (0 ∷ (0 ∷ (0 ∷ []))) img []
   pub alloc : (key : Key) (caller protect segments : ℕ) → (alloc img key caller protect segments .code ≡ 0 → ⊥)
       → Unchanged (alloc img key caller protect segments) (0 ∷ []) img []
   pub openo : (key : Key) (caller protect : ℕ) → (openo img key caller protect .code ≡ 0 → ⊥) → Unchanged (openo img key caller protect) [] img []
@@ -99,9 +101,16 @@ look-unchanged : (img : List ℕ) (key : Key) → (look img key .code ≡ 0 → 
 unfolding look
 look-unchanged img key = refusal-keeps (lookRows img key) img [] _
 
-owner-unchanged : (img : List ℕ) (block : ℕ) → (owner img block .code ≡ 0 → ⊥) → Unchanged (owner img block) (zeroed (ownerNumbers (ownerOf img block))) img []
+owner-zeros : (who : Owner) → zeroed (ownerNumbers who) ≡ 0 ∷ (0 ∷ (0 ∷ []))
+unfolding ownerNumbers
+owner-zeros System = refl
+owner-zeros Free = refl
+owner-zeros (Held e p) = refl
+
+owner-unchanged : (img : List ℕ) (block : ℕ) → (owner img block .code ≡ 0 → ⊥) → Unchanged (owner img block) (0 ∷ (0 ∷ (0 ∷ []))) img []
 unfolding owner
-owner-unchanged img block = refusal-keeps (ownerRows img block) img [] _
+owner-unchanged img block never =
+    subst (λ (zeros : List ℕ). Unchanged (owner img block) zeros img []) (owner-zeros (ownerOf img block)) (refusal-keeps (ownerRows img block) img [] _ never)
 
 pub refused-unchanged : (img : List ℕ) → RefusedUnchanged img
 refused-unchanged img =
