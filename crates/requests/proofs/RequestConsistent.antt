@@ -1,0 +1,59 @@
+-- From a consistent image every request leaves a consistent one, refused or done.
+use Prim.Native.Nat.{ℕ}
+use mathlib.Core.Path.{_≡_, refl, sym, ap, subst}
+use mathlib.Core.Bool.{Bool, true, false}
+use mathlib.Core.List.{List}
+use lib.ListN.{length}
+use Rattle.pack.specs.Consistent.{Consistent}
+use Rattle.asking.specs.Outcome.{Outcome}
+use Rattle.creation.specs.Format.{formatTest, format}
+use Rattle.creation.proofs.Formatting.{format-refused, format-done}
+use Rattle.creation.proofs.EmptyPack.{format-consistent}
+use Rattle.creation.proofs.Allocated.{alloc-consistent}
+use Rattle.creation.proofs.OpenedOutput.{openo-consistent}
+use Rattle.opening.proofs.Opened.{open-consistent}
+use Rattle.opening.proofs.Closed.{close-consistent}
+use Rattle.directory.specs.Renam.{newKey}
+use Rattle.directory.proofs.Deleted.{delet-consistent}
+use Rattle.directory.proofs.Kept.{keep-consistent}
+use Rattle.directory.proofs.Renamed.{renam-consistent}
+use Rattle.transfer.proofs.Written.{block-out-consistent}
+use Rattle.growth.proofs.Appnd.{appnd-consistent}
+use Rattle.growth.proofs.Added.{add-consistent}
+use Rattle.requests.specs.Request.{Request, outcome}
+use Rattle.requests.specs.Request.{FORMAT, ALLOC, OPENO, OPEN, CLOSE, DELET, RENAM, APPND, LOOK, KEEP}
+use Rattle.requests.specs.Request.{BLOCK-INPUT, BLOCK-OUTPUT, LINKED-READ, LINKED-ADD, OWNER}
+use Rattle.requests.proofs.RequestAsking.{look-image, owner-image, block-input-image, linked-read-image}
+
+-- Format: refused it leaves the image, done it leaves an empty pack
+format-stays : (img : List ℕ) (form blocks contents : ℕ) (uics : List ℕ) → Consistent img → Consistent (format img form blocks contents uics .image)
+format-stays img form blocks contents uics right = by (formatTest (length img) form blocks contents uics) refl
+  where
+    by : (test : Bool) → formatTest (length img) form blocks contents uics ≡ test → Consistent (format img form blocks contents uics .image)
+    by true holds =
+        subst Consistent (sym (ap (λ (o : Outcome). o .image) (format-done img form blocks contents uics holds)))
+        (format-consistent img form blocks contents uics holds)
+    by false fails = subst Consistent (sym (ap (λ (o : Outcome). o .image) (format-refused img form blocks contents uics fails))) right
+
+-- the image is as it was
+kept-right : {img after : List ℕ} → after ≡ img → Consistent img → Consistent after
+kept-right same right = subst Consistent (sym same) right
+
+-- 2.2 "The image stays consistent"
+pub stays-consistent : (r : Request) {img : List ℕ} → Consistent img → Consistent (outcome r img .image)
+stays-consistent (FORMAT form blocks contents uics) {img} right = format-stays img form blocks contents uics right
+stays-consistent (ALLOC key caller protect segments) {img} right = alloc-consistent img key caller protect segments right
+stays-consistent (OPENO key caller protect) {img} right = openo-consistent img key caller protect right
+stays-consistent (OPEN mode key caller) {img} right = open-consistent mode img key caller right
+stays-consistent (CLOSE key mode) {img} right = close-consistent img key mode right
+stays-consistent (DELET key caller) {img} right = delet-consistent img key caller right
+stays-consistent (RENAM old name1 name2 extension protect caller) {img} right =
+    renam-consistent img old (newKey old name1 name2 extension) protect caller right refl
+stays-consistent (APPND first second caller) {img} right = appnd-consistent img first second caller right
+stays-consistent (LOOK key) {img} right = kept-right (look-image img key) right
+stays-consistent (KEEP key caller) {img} right = keep-consistent img key caller right
+stays-consistent (BLOCK-INPUT key caller place buffer) {img} right = kept-right (block-input-image img key caller place buffer) right
+stays-consistent (BLOCK-OUTPUT key caller place buffer) {img} right = block-out-consistent img key caller place buffer right
+stays-consistent (LINKED-READ key caller place buffer) {img} right = kept-right (linked-read-image img key caller place buffer) right
+stays-consistent (LINKED-ADD key caller payload) {img} right = add-consistent img key caller payload right
+stays-consistent (OWNER block) {img} right = kept-right (owner-image img block) right

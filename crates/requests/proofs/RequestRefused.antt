@@ -1,0 +1,64 @@
+-- A refused request leaves the image and what was lent as they were, and answers zeros.
+use Prim.Native.Nat.{ℕ}
+use mathlib.Core.Path.{_≡_, refl, subst}
+use mathlib.Core.List.{List, [], _∷_}
+use lib.ListN.{replicate}
+use Rattle.pack.specs.declared.Key.{Key}
+use Rattle.pack.specs.declared.Owner.{Owner}
+use Rattle.pack.specs.declared.Owner.the-variants.{System, Free, Held}
+use Rattle.pack.specs.Owner.{ownerOf}
+use Rattle.asking.specs.Outcome.{zeroed, Unchanged}
+use Rattle.asking.proofs.Outcome.{refusal-keeps}
+use Rattle.owners.specs.Asked.{ownerRows, ownerNumbers, owner}
+use Rattle.creation.proofs.Formatting.{format-unchanged}
+use Rattle.creation.proofs.Allocated.{alloc-refused}
+use Rattle.creation.proofs.OpenedOutput.{openo-refused}
+use Rattle.opening.proofs.Opened.{open-refused}
+use Rattle.opening.proofs.Closed.{close-refused}
+use Rattle.directory.specs.Look.{lookRows, look}
+use Rattle.directory.specs.Renam.{newKey}
+use Rattle.directory.proofs.Deleted.{delet-refused}
+use Rattle.directory.proofs.Kept.{keep-refused}
+use Rattle.directory.proofs.Renamed.{renam-refused}
+use Rattle.transfer.proofs.Input.{block-in-refused}
+use Rattle.transfer.proofs.Output.{block-out-refused}
+use Rattle.transfer.proofs.Reading.{linked-read-refused}
+use Rattle.growth.proofs.Appnd.{appnd-refused}
+use Rattle.growth.proofs.Added.{add-refused}
+use Rattle.requests.specs.Request.{Request, outcome, bufferLent, numbersAnswered}
+use Rattle.requests.specs.Request.{FORMAT, ALLOC, OPENO, OPEN, CLOSE, DELET, RENAM, APPND, LOOK, KEEP}
+use Rattle.requests.specs.Request.{BLOCK-INPUT, BLOCK-OUTPUT, LINKED-READ, LINKED-ADD, OWNER}
+
+look-unchanged : (img : List ℕ) (key : Key) → (look img key .code ≡ 0 → ⊥) → Unchanged (look img key) (replicate 6 0) img []
+unfolding look
+look-unchanged img key = refusal-keeps (lookRows img key) img [] _
+
+owner-zeros : (who : Owner) → zeroed (ownerNumbers who) ≡ replicate 3 0
+unfolding ownerNumbers
+owner-zeros System = refl
+owner-zeros Free = refl
+owner-zeros (Held e p) = refl
+
+owner-unchanged : (img : List ℕ) (block : ℕ) → (owner img block .code ≡ 0 → ⊥) → Unchanged (owner img block) (replicate 3 0) img []
+unfolding owner
+owner-unchanged img block never =
+    subst (λ (zeros : List ℕ). Unchanged (owner img block) zeros img []) (owner-zeros (ownerOf img block)) (refusal-keeps (ownerRows img block) img [] _ never)
+
+-- 1.3 "and the image and each lent buffer then hold what they held before"; "any other number in the answer 0"
+pub refusal-leaves : (r : Request) (img : List ℕ) → (outcome r img .code ≡ 0 → ⊥)
+    → Unchanged (outcome r img) (replicate (numbersAnswered r) 0) img (bufferLent r)
+refusal-leaves (FORMAT form blocks contents uics) img = format-unchanged img form blocks contents uics
+refusal-leaves (ALLOC key caller protect segments) img = alloc-refused img key caller protect segments
+refusal-leaves (OPENO key caller protect) img = openo-refused img key caller protect
+refusal-leaves (OPEN mode key caller) img = open-refused mode img key caller
+refusal-leaves (CLOSE key mode) img = close-refused img key mode
+refusal-leaves (DELET key caller) img = delet-refused img key caller
+refusal-leaves (RENAM old name1 name2 extension protect caller) img = renam-refused img old (newKey old name1 name2 extension) protect caller
+refusal-leaves (APPND first second caller) img = appnd-refused img first second caller
+refusal-leaves (LOOK key) img = look-unchanged img key
+refusal-leaves (KEEP key caller) img = keep-refused img key caller
+refusal-leaves (BLOCK-INPUT key caller place buffer) img = block-in-refused img key caller place buffer
+refusal-leaves (BLOCK-OUTPUT key caller place buffer) img = block-out-refused img key caller place buffer
+refusal-leaves (LINKED-READ key caller place buffer) img = linked-read-refused img key caller place buffer
+refusal-leaves (LINKED-ADD key caller payload) img = add-refused img key caller payload
+refusal-leaves (OWNER block) img = owner-unchanged img block

@@ -1,0 +1,48 @@
+-- A file that a request does not name has the same entry words and the same body bytes afterwards.
+use Prim.Native.Nat.{ℕ}
+use mathlib.Core.Path.{_≡_, sym, subst}
+use mathlib.Core.Logic.{inl, inr}
+use mathlib.Core.List.{List}
+use Rattle.pack.specs.declared.Key.{Key}
+use Rattle.pack.specs.Consistent.{Consistent}
+use Rattle.pack.specs.Untouched.{Untouched}
+use Rattle.frame.proofs.Untouched.{untouched-refl}
+use Rattle.creation.proofs.Allocated.{alloc-untouched}
+use Rattle.creation.proofs.OpenedOutput.{openo-untouched}
+use Rattle.opening.proofs.Opened.{open-untouched}
+use Rattle.opening.proofs.Closed.{close-untouched}
+use Rattle.directory.specs.Renam.{newKey}
+use Rattle.directory.proofs.Deleted.{delet-untouched}
+use Rattle.directory.proofs.Kept.{keep-untouched}
+use Rattle.directory.proofs.Renamed.{renam-untouched}
+use Rattle.transfer.proofs.Written.{block-out-untouched}
+use Rattle.growth.proofs.Appnd.{appnd-untouched}
+use Rattle.growth.proofs.Added.{add-untouched}
+use Rattle.requests.specs.Request.{Request, outcome, Names}
+use Rattle.requests.specs.Request.{FORMAT, ALLOC, OPENO, OPEN, CLOSE, DELET, RENAM, APPND, LOOK, KEEP}
+use Rattle.requests.specs.Request.{BLOCK-INPUT, BLOCK-OUTPUT, LINKED-READ, LINKED-ADD, OWNER}
+use Rattle.requests.proofs.RequestAsking.{look-image, owner-image, block-input-image, linked-read-image}
+
+-- the image is as it was
+kept-untouched : {img after : List ℕ} (who : Key) → after ≡ img → Untouched who img after
+kept-untouched {img} who same = subst (Untouched who img) (sym same) (untouched-refl who img)
+
+-- what a request leaves alone: every file that it does not name
+pub who-is-not-named : (r : Request) {img : List ℕ} → Consistent img → (who : Key) → (Names r who → ⊥) → Untouched who img (outcome r img .image)
+who-is-not-named (FORMAT form blocks contents uics) {img} right who apart = absurd (apart tt)
+who-is-not-named (ALLOC key caller protect segments) {img} right who apart = alloc-untouched img key caller protect segments who
+who-is-not-named (OPENO key caller protect) {img} right who apart = openo-untouched img key caller protect who
+who-is-not-named (OPEN mode key caller) {img} right who apart = open-untouched mode img key caller who apart
+who-is-not-named (CLOSE key mode) {img} right who apart = close-untouched img key mode who apart
+who-is-not-named (DELET key caller) {img} right who apart = delet-untouched img key caller right who apart
+who-is-not-named (RENAM old name1 name2 extension protect caller) {img} right who apart =
+    renam-untouched img old (newKey old name1 name2 extension) protect caller right who (λ is. apart (inl is))
+who-is-not-named (APPND first second caller) {img} right who apart =
+    appnd-untouched img first second caller who (λ is. apart (inl is)) (λ is. apart (inr is))
+who-is-not-named (LOOK key) {img} right who apart = kept-untouched who (look-image img key)
+who-is-not-named (KEEP key caller) {img} right who apart = keep-untouched img key caller right who apart
+who-is-not-named (BLOCK-INPUT key caller place buffer) {img} right who apart = kept-untouched who (block-input-image img key caller place buffer)
+who-is-not-named (BLOCK-OUTPUT key caller place buffer) {img} right who apart = block-out-untouched img key caller place buffer who apart
+who-is-not-named (LINKED-READ key caller place buffer) {img} right who apart = kept-untouched who (linked-read-image img key caller place buffer)
+who-is-not-named (LINKED-ADD key caller payload) {img} right who apart = add-untouched img key caller payload who apart
+who-is-not-named (OWNER block) {img} right who apart = kept-untouched who (owner-image img block)

@@ -1,0 +1,2 @@
+-- The requests on an image, as one type.
+pub mod Request
