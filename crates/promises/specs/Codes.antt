@@ -1,9 +1,9 @@
 -- When each code is given, in the paper's propositions: "What cannot be done is refused with the code that the build document orders first".
--- The codes of a request stand as in the paper's table, row under row, each a proposition and its code.
+-- The cases of a request stand as in the paper's table, row under row.
 use Prim.Native.Nat.{ℕ, _≤_, _<_}
 use mathlib.Core.Path.{_≡_}
 use mathlib.Core.Logic.{_⊎_}
-use mathlib.Core.List.{List}
+use mathlib.Core.List.{List, [], _∷_, _++_}
 use lib.ListN.{length}
 use Rattle.radix.specs.Names.{LegalName, LegalExtension}
 use Rattle.pack.specs.declared.Key.{Key}
@@ -22,23 +22,15 @@ use Rattle.asking.specs.Opens.{opens}
 use Rattle.creation.specs.Format.{Formattable}
 use Rattle.creation.specs.Alloc.{lengthFor}
 use Rattle.creation.specs.Choice.{FreeRun}
-use mathlib.Core.Option.{none, some}
-use Rattle.grammar.specs.Parsed.{Specification}
-use Rattle.grammar.specs.Reading.{Reading, Reads, sideOf, specificationAt}
-use Rattle.grammar.specs.Place.{Wrong}
-use Rattle.switches.specs.Encoded.{encoded}
-use Rattle.command.specs.Condensed.{condensed, lineLimit, TooLong}
+use Rattle.opening.specs.declared.Opening.the-variants.{Input, Update, Extension}
+use Rattle.directory.specs.Renam.{newKey}
+use Rattle.requests.specs.Request.{Request}
+use Rattle.requests.specs.Request.{FORMAT, ALLOC, OPENO, OPEN, CLOSE, DELET, RENAM, APPND, LOOK, KEEP}
+use Rattle.requests.specs.Request.{BLOCK-INPUT, BLOCK-OUTPUT, LINKED-READ, LINKED-ADD, OWNER}
+use Rattle.promises.specs.GivenWhen.{Case, _when_}
 
--- "Of several, the first in this table is given.": the row holds and its code is given, or it does not and the rows behind it decide
-pub data Rung (Given : Type 0) (code : ℕ) (Behind : ℕ → Type 0) : ℕ → Type 0 where
-  here : Given → Rung Given code Behind code
-  behind : {c : ℕ} → (Given → ⊥) → Behind c → Rung Given code Behind c
-
--- "Success returns 0"
-abbrev pub Success : ℕ → Type 0
-Success code = code ≡ 0
-
-pub record Legal (key : Key) : Type 0 where
+-- "A legal name is ..; an extension .."
+pub record LegalKey (key : Key) : Type 0 where
   pub name : LegalName (key .name1) (key .name2)
   pub extension : LegalExtension (key .extension)
 
@@ -52,43 +44,37 @@ pub record Exists (img : List ℕ) (key : Key) : Type 0 where
 abbrev pub Lacking : Right → ℕ → Entry → Type 0
 Lacking right caller x = May caller (x .uic) (x .protect) right → ⊥
 
--- the rows that all requests on a file share; `Wrong` is what can be wrong with an argument, `Own` the codes behind
-abbrev pub FileCode : List ℕ → Key → Type 0 → (ℕ → Type 0) → ℕ → Type 0
-FileCode img key Wrong Own =
-    Rung (Consistent img → ⊥) 0o40 (Rung (Legal key → ⊥) 0o15 (Rung Wrong 0o41 (Rung (Exists img key → ⊥) 0o2 Own)))
+-- the rows that all requests on a file share; `Wrong` is what can be wrong with an argument
+abbrev pub FileCases : List ℕ → Key → Type 0 → List Case
+FileCases img key Wrong =
+    0o40 when (Consistent img → ⊥) ∷ 0o15 when (LegalKey key → ⊥) ∷ 0o41 when Wrong ∷ 0o2 when (Exists img key → ⊥) ∷ []
 
--- Format: "41 unless the image is 512n bytes and n, c, UICs are as above"
-abbrev pub FormatCode : List ℕ → ℕ → ℕ → ℕ → List ℕ → ℕ → Type 0
-FormatCode image form blocks contents uics = Rung (Formattable (length image) form blocks contents uics → ⊥) 0o41 Success
+-- no entry is empty
+abbrev pub Full : List ℕ → Type 0
+Full img = (e : ℕ) → e < slots (geometryOf img) → Empty img (geometryOf img) e → ⊥
 
--- whose a block is: 40, and 44 where the pack has no such block (docs/DECISIONS.md 22)
-abbrev pub OwnerCode : List ℕ → ℕ → ℕ → Type 0
-OwnerCode img block = Rung (Consistent img → ⊥) 0o40 (Rung (geometryOf img .blocks ≤ block) 0o44 Success)
+-- what creating means: "41: .. protect above 255", "13: creating: UIC not in the list", "2: creating ..: exists", "6: .. creating under another's UIC",
+-- "12: creating: no empty entry"; `Wrong` is what else can be wrong with an argument
+abbrev pub CreatingCases : List ℕ → Key → ℕ → ℕ → Type 0 → List Case
+CreatingCases img key caller protect Wrong =
+    0o40 when (Consistent img → ⊥)
+    ∷ 0o15 when (LegalKey key → ⊥)
+    ∷ 0o41 when Wrong
+    ∷ 0o41 when (255 < protect)
+    ∷ 0o13 when (Listed img (key .uic) → ⊥)
+    ∷ 0o2 when Exists img key
+    ∷ 0o6 when (key .uic ≡ caller → ⊥)
+    ∷ 0o12 when Full img
+    ∷ []
 
--- LOOK: "no right needed", and no row behind those of the file
-abbrev pub LookCode : List ℕ → Key → ℕ → Type 0
-LookCode img key = FileCode img key ⊥ Success
+-- the right that a request needs, the kind that it is not for, and the open that it needs: "6: right lacking",
+-- "43: .. BLOCK of a linked file; .. linked read or add of a contiguous one", "45: not open as the request needs"
+abbrev pub AccessCases : Right → ℕ → Type 0 → Entry → ℕ → List Case
+AccessCases right other Open x caller = 0o6 when Lacking right caller x ∷ 0o43 when (x .kind ≡ other) ∷ 0o45 when (Open → ⊥) ∷ []
 
--- an open: "2: .. OPENI, OPENE, OPENU also: writer is 2", "6: right lacking"
-abbrev pub OpenCode : Right → List ℕ → Key → ℕ → (ℕ → Type 0) → ℕ → Type 0
-OpenCode right img key caller Own = FileCode img key ⊥ (Rung (fileOf img key .writer ≡ 2) 0o2 (Rung (Lacking right caller (fileOf img key)) 0o6 Own))
-
--- "3: 62 opens already", the writer counted
-abbrev pub OpensCode : Entry → ℕ → Type 0
-OpensCode x = Rung (62 ≤ opens x) 0o3 Success
-
-abbrev pub OpeniCode : List ℕ → Key → ℕ → ℕ → Type 0
-OpeniCode img key caller = OpenCode Read img key caller (OpensCode (fileOf img key))
-
--- "43: OPENU .. of a linked file", "4: OPENE, OPENU: there is a writer"
-abbrev pub OpenuCode : List ℕ → Key → ℕ → ℕ → Type 0
-OpenuCode img key caller =
-    OpenCode Write img key caller (Rung (fileOf img key .kind ≡ 2) 0o43 (Rung (0 < fileOf img key .writer) 0o4 (OpensCode (fileOf img key))))
-
--- "5: OPENE of a contiguous file"
-abbrev pub OpeneCode : List ℕ → Key → ℕ → ℕ → Type 0
-OpeneCode img key caller =
-    OpenCode Write img key caller (Rung (fileOf img key .kind ≡ 1) 0o5 (Rung (0 < fileOf img key .writer) 0o4 (OpensCode (fileOf img key))))
+-- "2: .. OPENI, OPENE, OPENU also: writer is 2", "6: right lacking"
+abbrev pub OpenCases : Right → Entry → ℕ → List Case
+OpenCases right x caller = 0o2 when (x .writer ≡ 2) ∷ 0o6 when Lacking right caller x ∷ []
 
 -- "41: .. mode not 1 to 4"
 abbrev pub NoMode : ℕ → Type 0
@@ -99,65 +85,18 @@ pub data OpenAs (x : Entry) : ℕ → Type 0 where
   writing : {mode : ℕ} → (mode ≡ 4 → ⊥) → x .writer ≡ mode → OpenAs x mode
   reading : {mode : ℕ} → mode ≡ 4 → 0 < x .readers → OpenAs x mode
 
--- "45: .. CLOSE of a mode not open"
-abbrev pub CloseCode : List ℕ → Key → ℕ → ℕ → Type 0
-CloseCode img key mode = FileCode img key (NoMode mode) (Rung (OpenAs (fileOf img key) mode → ⊥) 0o45 Success)
-
--- DELET: "14: .. a file is open"
-abbrev pub DeletCode : List ℕ → Key → ℕ → ℕ → Type 0
-DeletCode img key caller = FileCode img key ⊥ (Rung (Lacking Delete caller (fileOf img key)) 0o6 (Rung (0 < opens (fileOf img key)) 0o14 Success))
-
--- KEEP: "owner only"
-abbrev pub KeepCode : List ℕ → Key → ℕ → ℕ → Type 0
-KeepCode img key caller = FileCode img key ⊥ (Rung (caller ≡ fileOf img key .uic → ⊥) 0o6 Success)
-
 -- RENAM: "2: .. new name in RENAM: exists", "RENAM needs write", "14: DELET, RENAM, APPND: a file is open"
-abbrev pub RenamCode : List ℕ → Key → Key → ℕ → ℕ → ℕ → Type 0
-RenamCode img old new protect caller =
-    Rung (Consistent img → ⊥) 0o40
-    (Rung (Legal old → ⊥) 0o15
-    (Rung (Legal new → ⊥) 0o15
-    (Rung (255 < protect) 0o41
-    (Rung (Exists img old → ⊥) 0o2
-    (Rung (Exists img new) 0o2 (Rung (Lacking Write caller (fileOf img old)) 0o6 (Rung (0 < opens (fileOf img old)) 0o14 Success)))))))
-
--- APPND: "41: .. APPND of a file to itself", "APPND needs write on the first, delete on the second, both linked", "14: .. a file is open"
-abbrev pub AppndCode : List ℕ → Key → Key → ℕ → ℕ → Type 0
-AppndCode img first second caller =
-    Rung (Consistent img → ⊥) 0o40
-    (Rung (Legal first → ⊥) 0o15
-    (Rung (Legal second → ⊥) 0o15
-    (Rung (first ≡ second) 0o41
-    (Rung (Exists img first → ⊥) 0o2
-    (Rung (Exists img second → ⊥) 0o2
-    (Rung (Lacking Write caller (fileOf img first)) 0o6
-    (Rung (Lacking Delete caller (fileOf img second)) 0o6
-    (Rung (fileOf img first .kind ≡ 1) 0o43
-    (Rung (fileOf img second .kind ≡ 1) 0o43 (Rung (0 < opens (fileOf img first)) 0o14 (Rung (0 < opens (fileOf img second)) 0o14 Success)))))))))))
-
--- no entry is empty
-abbrev pub Full : List ℕ → Type 0
-Full img = (e : ℕ) → e < slots (geometryOf img) → Empty img (geometryOf img) e → ⊥
-
--- what creating means: "41: .. protect above 255", "13: creating: UIC not in the list", "2: creating ..: exists", "6: .. creating under another's UIC",
--- "12: creating: no empty entry"; `Wrong` is what else can be wrong with an argument, `Room` the codes behind
-abbrev pub CreatingCode : List ℕ → Key → ℕ → ℕ → Type 0 → (ℕ → Type 0) → ℕ → Type 0
-CreatingCode img key caller protect Wrong Room =
-    Rung (Consistent img → ⊥) 0o40
-    (Rung (Legal key → ⊥) 0o15
-    (Rung Wrong 0o41
-    (Rung (255 < protect) 0o41
-    (Rung (Listed img (key .uic) → ⊥) 0o13
-    (Rung (Exists img key) 0o2 (Rung (key .uic ≡ caller → ⊥) 0o6 (Rung (Full img) 0o12 Room)))))))
-
--- OPENO: "a new linked file of length 0", which needs no room
-abbrev pub OpenoCode : List ℕ → Key → ℕ → ℕ → ℕ → Type 0
-OpenoCode img key caller protect = CreatingCode img key caller protect ⊥ Success
-
--- ALLOC: "41: argument: N is 0", "42: .. no free run long enough"
-abbrev pub AllocCode : List ℕ → Key → ℕ → ℕ → ℕ → ℕ → Type 0
-AllocCode img key caller protect segments =
-    CreatingCode img key caller protect (segments ≡ 0) (Rung ((s : ℕ) → FreeRun img (lengthFor img segments) s → ⊥) 0o42 Success)
+abbrev pub RenamCases : List ℕ → Key → Key → ℕ → ℕ → List Case
+RenamCases img old new protect caller =
+    0o40 when (Consistent img → ⊥)
+    ∷ 0o15 when (LegalKey old → ⊥)
+    ∷ 0o15 when (LegalKey new → ⊥)
+    ∷ 0o41 when (255 < protect)
+    ∷ 0o2 when (Exists img old → ⊥)
+    ∷ 0o2 when Exists img new
+    ∷ 0o6 when Lacking Write caller (fileOf img old)
+    ∷ 0o14 when (0 < opens (fileOf img old))
+    ∷ []
 
 -- "buffer not of the size asked": 512 bytes of a block, 510 of a payload
 abbrev pub OtherBlock : List ℕ → List ℕ → Type 0
@@ -166,54 +105,69 @@ OtherBlock img buffer = length buffer ≡ blockBytes (geometryOf img) → ⊥
 abbrev pub OtherPayload : List ℕ → List ℕ → Type 0
 OtherPayload img buffer = length buffer ≡ payloadBytes (geometryOf img) → ⊥
 
--- "43: .. BLOCK of a linked file; .. linked read .. of a contiguous one": the kind that the request is not for;
--- "45: not open as the request needs", "44: no such block in the file"
-abbrev pub PlaceCode : Right → ℕ → Type 0 → Entry → ℕ → ℕ → ℕ → Type 0
-PlaceCode right other Open x caller place =
-    Rung (Lacking right caller x) 0o6 (Rung (x .kind ≡ other) 0o43 (Rung (Open → ⊥) 0o45 (Rung (x .length ≤ place) 0o44 Success)))
-
--- BLOCK: "Input needs read, and besides a reader or writer 1; output needs write and writer 1"
-abbrev pub BlockInCode : List ℕ → Key → ℕ → ℕ → List ℕ → ℕ → Type 0
-BlockInCode img key caller place buffer =
-    FileCode img key (OtherBlock img buffer)
-    (PlaceCode Read 2 ((0 < fileOf img key .readers) ⊎ (fileOf img key .writer ≡ 1)) (fileOf img key) caller place)
-
-abbrev pub BlockOutCode : List ℕ → Key → ℕ → ℕ → List ℕ → ℕ → Type 0
-BlockOutCode img key caller place buffer =
-    FileCode img key (OtherBlock img buffer) (PlaceCode Write 2 (fileOf img key .writer ≡ 1) (fileOf img key) caller place)
-
+-- the cases of each request
+abbrev pub casesOf : Request → List ℕ → List Case
+-- "41 unless the image is 512n bytes and n, c, UICs are as above"
+casesOf (FORMAT form blocks contents uics) img = 0o41 when (Formattable (length img) form blocks contents uics → ⊥) ∷ []
+-- "41: argument: N is 0", "42: .. no free run long enough"
+casesOf (ALLOC key caller protect segments) img =
+    CreatingCases img key caller protect (segments ≡ 0) ++ 0o42 when ((s : ℕ) → FreeRun img (lengthFor img segments) s → ⊥) ∷ []
+-- "a new linked file of length 0", which needs no room
+casesOf (OPENO key caller protect) img = CreatingCases img key caller protect ⊥
+-- "OPENI needs read", "3: 62 opens already", the writer counted
+casesOf (OPEN Input key caller) img =
+    FileCases img key ⊥ ++ OpenCases Read (fileOf img key) caller ++ 0o3 when (62 ≤ opens (fileOf img key)) ∷ []
+-- "43: OPENU .. of a linked file", "4: OPENE, OPENU: there is a writer"
+casesOf (OPEN Update key caller) img =
+    FileCases img key ⊥
+    ++ OpenCases Write (fileOf img key) caller
+    ++ 0o43 when (fileOf img key .kind ≡ 2) ∷ 0o4 when (0 < fileOf img key .writer) ∷ 0o3 when (62 ≤ opens (fileOf img key)) ∷ []
+-- "5: OPENE of a contiguous file"
+casesOf (OPEN Extension key caller) img =
+    FileCases img key ⊥
+    ++ OpenCases Write (fileOf img key) caller
+    ++ 0o5 when (fileOf img key .kind ≡ 1) ∷ 0o4 when (0 < fileOf img key .writer) ∷ 0o3 when (62 ≤ opens (fileOf img key)) ∷ []
+-- "45: .. CLOSE of a mode not open"
+casesOf (CLOSE key mode) img = FileCases img key (NoMode mode) ++ 0o45 when (OpenAs (fileOf img key) mode → ⊥) ∷ []
+-- "DELET needs delete", "14: .. a file is open"
+casesOf (DELET key caller) img = FileCases img key ⊥ ++ 0o6 when Lacking Delete caller (fileOf img key) ∷ 0o14 when (0 < opens (fileOf img key)) ∷ []
+-- "the UIC stays"
+casesOf (RENAM old name1 name2 extension protect caller) img = RenamCases img old (newKey old name1 name2 extension) protect caller
+-- "41: .. APPND of a file to itself", "APPND needs write on the first, delete on the second, both linked", "14: .. a file is open"
+casesOf (APPND first second caller) img =
+    0o40 when (Consistent img → ⊥)
+    ∷ 0o15 when (LegalKey first → ⊥)
+    ∷ 0o15 when (LegalKey second → ⊥)
+    ∷ 0o41 when (first ≡ second)
+    ∷ 0o2 when (Exists img first → ⊥)
+    ∷ 0o2 when (Exists img second → ⊥)
+    ∷ 0o6 when Lacking Write caller (fileOf img first)
+    ∷ 0o6 when Lacking Delete caller (fileOf img second)
+    ∷ 0o43 when (fileOf img first .kind ≡ 1)
+    ∷ 0o43 when (fileOf img second .kind ≡ 1)
+    ∷ 0o14 when (0 < opens (fileOf img first))
+    ∷ 0o14 when (0 < opens (fileOf img second))
+    ∷ []
+-- "no right needed", and no row behind those of the file
+casesOf (LOOK key) img = FileCases img key ⊥
+-- "owner only"
+casesOf (KEEP key caller) img = FileCases img key ⊥ ++ 0o6 when (caller ≡ fileOf img key .uic → ⊥) ∷ []
+-- "Input needs read, and besides a reader or writer 1; output needs write and writer 1"; "44: no such block in the file"
+casesOf (BLOCK-INPUT key caller place buffer) img =
+    FileCases img key (OtherBlock img buffer)
+    ++ AccessCases Read 2 ((0 < fileOf img key .readers) ⊎ (fileOf img key .writer ≡ 1)) (fileOf img key) caller
+    ++ 0o44 when (fileOf img key .length ≤ place) ∷ []
+casesOf (BLOCK-OUTPUT key caller place buffer) img =
+    FileCases img key (OtherBlock img buffer)
+    ++ AccessCases Write 2 (fileOf img key .writer ≡ 1) (fileOf img key) caller ++ 0o44 when (fileOf img key .length ≤ place) ∷ []
 -- "Linked read: buffer of 510, read right, a reader."
-abbrev pub LinkedReadCode : List ℕ → Key → ℕ → ℕ → List ℕ → ℕ → Type 0
-LinkedReadCode img key caller place buffer =
-    FileCode img key (OtherPayload img buffer) (PlaceCode Read 1 (0 < fileOf img key .readers) (fileOf img key) caller place)
-
+casesOf (LINKED-READ key caller place buffer) img =
+    FileCases img key (OtherPayload img buffer)
+    ++ AccessCases Read 1 (0 < fileOf img key .readers) (fileOf img key) caller ++ 0o44 when (fileOf img key .length ≤ place) ∷ []
 -- "Linked add: payload of 510, write right, writer 2 or 3"; "42: no free block"
-abbrev pub LinkedAddCode : List ℕ → Key → ℕ → List ℕ → ℕ → Type 0
-LinkedAddCode img key caller payload =
-    FileCode img key (OtherPayload img payload)
-    (Rung (Lacking Write caller (fileOf img key)) 0o6
-    (Rung (fileOf img key .kind ≡ 1) 0o43
-    (Rung ((fileOf img key .writer ≡ 2) ⊎ (fileOf img key .writer ≡ 3) → ⊥) 0o45 (Rung ((b : ℕ) → FreeBlock img b → ⊥) 0o42 Success))))
-
--- CSI1: "Order: 53, raw line over 512 or condensed over 128; 52, buffer shorter than the condensed line; 50, not in the grammar"
-abbrev pub Csi1Code : List ℕ → List ℕ → ℕ → Type 0
-Csi1Code line buffer =
-    Rung (TooLong line) 0o53 (Rung (length buffer < length (condensed line)) 0o52 (Rung (Wrong (condensed line)) 0o50 Success))
-
--- "no such side or specification" in the line's reading
-abbrev pub NoSpecification : List ℕ → ℕ → ℕ → Type 0
-NoSpecification line side k = (reading : Reading) → Reads line reading → specificationAt k (sideOf side reading) ≡ none
-
--- "switch buffer too short" for the specification that is there
-pub record ShortFor (line : List ℕ) (side k : ℕ) (buffer : List ℕ) : Type 0 where
-  pub reading : Reading
-  pub reads : Reads line reading
-  pub specification : Specification
-  pub there : specificationAt k (sideOf side reading) ≡ some specification
-  pub short : length buffer < length (encoded (specification .switches))
-
--- CSI2: "Order: 53, over 128; 50; 51, no such side or specification; 52, switch buffer too short."
-abbrev pub Csi2Code : List ℕ → ℕ → ℕ → List ℕ → ℕ → Type 0
-Csi2Code line side k buffer =
-    Rung (lineLimit < length line) 0o53
-    (Rung (Wrong line) 0o50 (Rung (NoSpecification line side k) 0o51 (Rung (ShortFor line side k buffer) 0o52 Success)))
+casesOf (LINKED-ADD key caller payload) img =
+    FileCases img key (OtherPayload img payload)
+    ++ AccessCases Write 1 ((fileOf img key .writer ≡ 2) ⊎ (fileOf img key .writer ≡ 3)) (fileOf img key) caller
+    ++ 0o42 when ((b : ℕ) → FreeBlock img b → ⊥) ∷ []
+-- whose a block is: 40, and 44 where the pack has no such block (docs/DECISIONS.md 22)
+casesOf (OWNER block) img = 0o40 when (Consistent img → ⊥) ∷ 0o44 when (geometryOf img .blocks ≤ block) ∷ []

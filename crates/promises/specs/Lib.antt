@@ -2,4 +2,7 @@
 pub mod Examples
 pub mod Refused
 pub mod Conversions
+pub mod GivenWhen
 pub mod Codes
+pub mod CommandCodes
+pub mod AddedAgain

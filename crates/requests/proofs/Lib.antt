@@ -3,3 +3,4 @@ pub mod RequestAsking
 pub mod RequestConsistent
 pub mod RequestRefused
 pub mod RequestUntouched
+pub mod ContractSingle

@@ -1,7 +1,7 @@
 -- A refused request leaves the image and what was lent as they were, and answers zeros.
 use Prim.Native.Nat.{ℕ}
 use mathlib.Core.Path.{_≡_, refl, subst}
-use mathlib.Core.List.{List, [], _∷_}
+use mathlib.Core.List.{List, []}
 use lib.ListN.{replicate}
 use Rattle.pack.specs.declared.Key.{Key}
 use Rattle.pack.specs.declared.Owner.{Owner}

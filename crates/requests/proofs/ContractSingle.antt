@@ -1,4 +1,4 @@
--- For given inputs the requests on an image have one answer, one image and one buffer: what their contracts allow.
+-- For given inputs the contracts of the requests on an image allow one answer, one image and one buffer.
 use Prim.Native.Nat.{ℕ}
 use mathlib.Core.Path.{_≡_, sym, ap, _∙_}
 use mathlib.Core.List.{List, [], _∷_}
@@ -9,13 +9,7 @@ use Rattle.directory.specs.declared.LookAnswer.{LookAnswer}
 use Rattle.directory.specs.Look.{lookOutcome}
 use Rattle.owners.specs.declared.OwnerAnswer.{OwnerAnswer}
 use Rattle.owners.specs.Asked.{ownerOutcome}
-
--- what a call left meets a contract that gives its code, numbers, image and buffer as those of an outcome
-pub record Meets (outcome left : Outcome) : Type 0 where
-  pub code : left .code ≡ outcome .code
-  pub numbers : left .numbers ≡ outcome .numbers
-  pub image : left .image ≡ outcome .image
-  pub buffer : left .buffer ≡ outcome .buffer
+use Rattle.requests.specs.Contract.{Meets}
 
 pub outcome-single : (outcome a b : Outcome) → Meets outcome a → Meets outcome b → a ≡ b
 outcome-single outcome a b x y =

@@ -1,0 +1,219 @@
+-- A payload that is stored in a file stays there through CLOSE and OPENI, and a linked read gives it.
+use Prim.Native.Nat.{ℕ, _+_, _*_, _≤_, _<_}
+use mathlib.Core.Path.{_≡_, refl, sym, ap, subst, subst₂, _∙_}
+use mathlib.Core.Logic.{⊎-elim}
+use mathlib.Core.Bool.{Bool, true, false}
+use mathlib.Core.List.{List, [], _++_}
+use mathlib.Core.Option.{some}
+use native.Mathlib.Omega.{arith}
+use lib.Dec.{eqb, ltb}
+use lib.ListN.{length, getD}
+use borrow.Author.Tests.{eq-eqb, ne-eqb}
+use Rattle.pack.specs.declared.Geometry.{Geometry}
+use Rattle.pack.specs.declared.Entry.{Entry}
+use Rattle.pack.specs.declared.Key.{Key}
+use Rattle.pack.specs.Geometry.{geometryOf, blockBytes, payloadBytes, slots}
+use Rattle.pack.specs.File.{blocksOf, one}
+use Rattle.pack.specs.Entry.{entryOf, blocksAt, Used, SameFile}
+use Rattle.pack.specs.Consistent.{Consistent}
+use Rattle.pack.specs.Untouched.{Keyed}
+use Rattle.pack.proofs.Counting.{count-at}
+use Rattle.consistency.proofs.Consistent.{consistent-iff}
+use Rattle.asking.specs.declared.Right.the-variants.{Read}
+use Rattle.asking.specs.Keys.{legalKey, found}
+use Rattle.asking.specs.Asked.{entryNo, fileOf}
+use Rattle.asking.specs.Rights.{May}
+use Rattle.asking.specs.Written.{setEntryWord}
+use Rattle.asking.proofs.Keys.{legal-iff, found-iff}
+use Rattle.asking.proofs.Rights.{may-iff}
+use Rattle.asking.proofs.Stage.{FileAsked, asked-is-file, asked-file, file-at, number-found, file-found}
+use Rattle.asking.proofs.Outcome.{code-is, success-image}
+use Rattle.frame.specs.Framed.{Kept}
+use Rattle.frame.proofs.Frame.{stated-framed, entries-at}
+use Rattle.frame.proofs.Described.{described-blocks}
+use Rattle.frame.proofs.Resized.{linked-used}
+use Rattle.owners.proofs.Blocks.{blocks-length}
+use Rattle.opening.specs.declared.Opening.the-variants.{Input}
+use Rattle.opening.specs.Open.{openRows, opened}
+use Rattle.opening.specs.Close.{closeRows, close}
+use Rattle.opening.proofs.EntryWord.{framed, described, same-file, protect-same, kind-same, writer-new, readers-kept, readers-new}
+use Rattle.opening.proofs.Closed.{close-consistent}
+use Rattle.opening.proofs.Opened.{open-consistent}
+use Rattle.transfer.specs.Parts.{payloadOf}
+use Rattle.transfer.specs.Linked.{wrongPayload, linkedRead}
+use Rattle.transfer.proofs.Stage.{Placed}
+use Rattle.transfer.proofs.Reading.{linked-read-given}
+use Rattle.growth.proofs.Payloads.{run-same}
+use Rattle.asking.specs.Opens.{opens}
+use Rattle.requests.specs.Request.{OPEN, CLOSE}
+use Rattle.promises.specs.GivenWhen.{Case, Gives, success, behind}
+use Rattle.promises.specs.Codes.{FileCases, OpenAs, writing}
+use Rattle.promises.proofs.GivenWhen.{denied}
+use Rattle.promises.proofs.CodesFiles.{file-behind}
+use Rattle.promises.proofs.Codes.{code-iff}
+
+-- an entry of the same name, extension and UIC has the same key
+pub keyed-alike : {key : Key} {x y : Entry} → SameFile x y → Keyed key y → Keyed key x
+keyed-alike alike keyed =
+    record {
+      name1 = alike .name1 ∙ keyed .name1;
+      name2 = alike .name2 ∙ keyed .name2;
+      extension = alike .extension ∙ keyed .extension;
+      uic = alike .uic ∙ keyed .uic;
+    }
+
+-- the payload of a block that is not written
+payload-kept : {Named Written : ℕ → Type 0} {img img′ : List ℕ} {g : Geometry} → Kept Named Written img img′ g
+    → (b : ℕ) → g .bodies .0 ≤ b → b < g .blocks → (Written b → ⊥) → payloadOf img′ g b ≡ payloadOf img g b
+payload-kept {Named} {Written} {img} {img′} {g} kept b low high other =
+    run-same img img′ (b * blockBytes g + 2) (payloadBytes g) (kept .long) byte
+  where
+    byte : (i : ℕ) → i < payloadBytes g → getD img′ (b * blockBytes g + 2 + i) 0 ≡ getD img (b * blockBytes g + 2 + i) 0
+    byte i small =
+        let place : b * blockBytes g + 2 + i ≡ b * blockBytes g + (2 + i) = omega arith in
+        ap (λ (k : ℕ). getD img′ k 0) place ∙ kept .bodies b low high other (2 + i) (omega arith) ∙ ap (λ (k : ℕ). getD img k 0) (sym place)
+
+-- the key's file is linked and the caller may read it, and its block at the place has the payload
+pub record Stored (img : List ℕ) (key : Key) (g : Geometry) (e caller place : ℕ) (payload : List ℕ) : Type 0 where
+  pub stated : g ≡ geometryOf img
+  pub right : Consistent img
+  pub legal : legalKey key ≡ true
+  pub within : e < slots g
+  pub keyed : Keyed key (entryOf img g e)
+  pub readable : May caller (entryOf img g e .uic) (entryOf img g e .protect) Read
+  pub linked : entryOf img g e .kind ≡ 2
+  pub inside : place < entryOf img g e .length
+  pub bytes : payloadOf img g (getD (blocksAt img g e) place 0) ≡ payload
+
+module _ {img : List ℕ} {key : Key} {g : Geometry} {e caller place : ℕ} {payload : List ℕ} (stored : Stored img key g e caller place payload) where
+  pub used : Used img g e (entryOf img g e)
+  used = linked-used img g e (entries-at img g (stored .stated) (stored .right) e (stored .within)) (stored .linked)
+
+  -- the file as the requests find it
+  here : (e < slots (geometryOf img)) × Keyed key (entryOf img (geometryOf img) e)
+  here = subst (λ (h : Geometry). (e < slots h) × Keyed key (entryOf img h e)) (stored .stated) (stored .within, stored .keyed)
+
+  -- the first rows have nothing against it
+  first-behind : {Wrong : Type 0} (own : List Case) {code : ℕ} → (Wrong → ⊥) → Gives own code → Gives (FileCases img key Wrong ++ own) code
+  first-behind own good rest =
+      let names = legal-iff key .0 (stored .legal) in
+      file-behind own (stored .right) (record { name = names .0; extension = names .1 }) good (record { entry = e; inside = here .0; keyed = here .1 }) rest
+
+  there : found img key ≡ some e
+  there = found-iff (stored .right) key (stored .legal) e .1 here
+
+  number : entryNo img key ≡ e
+  number = number-found img key there
+
+  own : fileOf img key ≡ entryOf img g e
+  own = file-found img key g e (sym (stored .stated)) there
+
+  asked : (wrong : Bool) → wrong ≡ false → FileAsked img key wrong g e (entryOf img g e)
+  asked wrong right =
+      asked-is-file img key wrong g e (entryOf img g e)
+      (sym (file-at img key wrong g e (entryOf img g e) (sym (stored .stated)) refl
+      (asked-file img key wrong (consistent-iff img .1 (stored .right)) (stored .legal) right e there)))
+
+  -- linked read: "read right, a reader"
+  pub read-stored : 0 < entryOf img g e .readers → (lent : List ℕ) → length lent ≡ payloadBytes g
+      → linkedRead img key caller place lent ≡ record { code = 0; numbers = []; image = img; buffer = payload }
+  read-stored reader lent long =
+      linked-read-given img key caller place lent (asked (wrongPayload img lent) argument) (sym own) placed
+      ∙ ap (λ (bytes : List ℕ). record { code = 0; numbers = []; image = img; buffer = bytes }) given
+    where
+      argument : wrongPayload img lent ≡ false
+      argument = rw (eq-eqb (length lent) (payloadBytes (geometryOf img)) (long ∙ ap payloadBytes (stored .stated)))
+
+      placed : Placed (entryOf img g e) caller Read 1 (eqb (entryOf img g e .readers) 0) place
+      placed =
+          record {
+            right-given = may-iff Read caller (entryOf img g e .uic) (entryOf img g e .protect) .1 (stored .readable);
+            kind = λ is. omega (arith, is, stored .linked);
+            opened = ne-eqb (entryOf img g e .readers) 0 (λ none. omega (arith, none, reader));
+            inside = stored .inside;
+          }
+
+      given : payloadOf img (geometryOf img) (getD (blocksOf img (geometryOf img) (fileOf img key)) place 0) ≡ payload
+      given =
+          ap (λ (x : Entry). payloadOf img (geometryOf img) (getD (blocksOf img (geometryOf img) x) place 0)) own
+          ∙ subst (λ (h : Geometry). payloadOf img h (getD (blocksOf img h (entryOf img g e)) place 0) ≡ payload) (stored .stated) (stored .bytes)
+
+  -- the writer or the readers set: the rest of the file is as it was
+  module _ (i word : ℕ) (low : 9 ≤ i) (high : i ≤ 10) where
+    abbrev after : List ℕ
+    after = setEntryWord img g e i word
+
+    size-same : entryOf after g e .length ≡ entryOf img g e .length
+    unfolding entryOf
+    size-same = described (stored .stated) (stored .right) (stored .within) i word low high .file 7 (omega arith) (omega arith)
+
+    stored-word : Consistent after → Stored after key g e caller place payload
+    stored-word right =
+        let kept = framed (stored .stated) (stored .right) (stored .within) i word low high in
+        let alike = same-file (stored .stated) (stored .right) (stored .within) i word low high in
+        let block : ℕ = getD (blocksAt img g e) place 0 in
+        let range = used .bodies block (count-at (blocksAt img g e) place block (omega (arith, stored .inside, blocks-length img g e)) refl) in
+        record {
+          stated = stated-framed (stored .stated) (stored .right) kept;
+          right = right;
+          legal = stored .legal;
+          within = stored .within;
+          keyed = keyed-alike alike (stored .keyed);
+          readable = subst₂ (λ (uic protect : ℕ). May caller uic protect Read) (sym (alike .uic))
+              (sym (protect-same (stored .stated) (stored .right) (stored .within) i word low high)) (stored .readable);
+          linked = kind-same (stored .stated) (stored .right) (stored .within) i word low high ∙ stored .linked;
+          inside = omega (arith, stored .inside, size-same);
+          bytes = ap (λ (bs : List ℕ). payloadOf after g (getD bs place 0))
+              (described-blocks (described (stored .stated) (stored .right) (stored .within) i word low high))
+              ∙ payload-kept (kept .kept) block (range .0) (range .1) (λ never. never) ∙ stored .bytes;
+        }
+
+  -- CLOSE of the writer, 2 or 3
+  module _ (mode : ℕ) (low : 2 ≤ mode) (high : mode ≤ 3) (writer : entryOf img g e .writer ≡ mode) where
+    pub close-stored : close img key mode .code ≡ 0
+    close-stored =
+        let is : OpenAs (fileOf img key) mode = rw own (writing {mode = mode} (λ four. omega (arith, four)) writer) in
+        code-iff (CLOSE key mode) img 0 .1
+        (first-behind _ (⊎-elim (λ zero. omega (arith, zero)) (λ more. omega (arith, more))) (behind (denied is) success))
+
+    close-word : close img key mode .image ≡ setEntryWord img g e 9 0
+    unfolding close
+    close-word =
+        success-image (closeRows img key mode) img [] _ (sym (code-is (closeRows img key mode) img [] _) ∙ close-stored)
+        ∙ rw (number, sym (stored .stated), ne-eqb mode 4 (λ four. omega (arith, four))) refl
+
+    pub stored-closed : Stored (close img key mode .image) key g e caller place payload
+    stored-closed =
+        let right : Consistent (setEntryWord img g e 9 0) = subst Consistent close-word (close-consistent img key mode (stored .right)) in
+        rw close-word (stored-word 9 0 (omega arith) (omega arith) right)
+
+    pub closed-writer : entryOf (close img key mode .image) g e .writer ≡ 0
+    closed-writer = rw close-word (writer-new (stored .stated) (stored .right) (stored .within) 0 used)
+
+    pub closed-readers : entryOf (close img key mode .image) g e .readers ≡ entryOf img g e .readers
+    closed-readers = rw close-word (readers-kept (stored .stated) (stored .right) (stored .within) 0 used)
+
+  -- OPENI where there is no writer
+  module _ (writer : entryOf img g e .writer ≡ 0) (few : entryOf img g e .readers < 62) where
+    pub open-stored : opened Input img key caller .code ≡ 0
+    open-stored =
+        let nobody : one (ltb 0 (entryOf img g e .writer)) ≡ 0 = ap (λ (n : ℕ). one (ltb 0 n)) writer in
+        let other : fileOf img key .writer ≡ 2 → ⊥ = rw own (λ two. omega (arith, two, writer)) in
+        let granted : May caller (fileOf img key .uic) (fileOf img key .protect) Read = rw own (stored .readable) in
+        let left : 62 ≤ opens (fileOf img key) → ⊥ = rw own (λ many. omega (arith, many, few, nobody)) in
+        code-iff (OPEN Input key caller) img 0 .1 (first-behind _ (λ never. never) (behind other (behind (denied granted) (behind left success))))
+
+    open-word : opened Input img key caller .image ≡ setEntryWord img g e 10 (entryOf img g e .readers + 1)
+    unfolding opened
+    open-word =
+        success-image (openRows Input img key caller) img [] _ (sym (code-is (openRows Input img key caller) img [] _) ∙ open-stored)
+        ∙ rw (own, number, sym (stored .stated)) refl
+
+    pub stored-opened : Stored (opened Input img key caller .image) key g e caller place payload
+    stored-opened =
+        let right : Consistent (setEntryWord img g e 10 (entryOf img g e .readers + 1)) =
+        subst Consistent open-word (open-consistent Input img key caller (stored .right)) in
+        rw open-word (stored-word 10 (entryOf img g e .readers + 1) (omega arith) (omega arith) right)
+
+    pub opened-readers : entryOf (opened Input img key caller .image) g e .readers ≡ entryOf img g e .readers + 1
+    opened-readers = rw open-word (readers-new (stored .stated) (stored .right) (stored .within) (entryOf img g e .readers + 1) used)

@@ -1,0 +1,258 @@
+-- The order, sentence by sentence, in the customer's words, and under each the theorems that carry it. docs/PROMISES.md goes on from here.
+use Prim.Native.Nat.{ℕ, _+_, _*_, _≤_, _<_}
+use mathlib.Core.Path.{_≡_}
+use mathlib.Core.Logic.{_↔_, _⊎_}
+use mathlib.Core.Bool.{true}
+use mathlib.Core.List.{List, [], _∷_, _++_}
+use mathlib.Core.Option.{none, some}
+use lib.ListN.{length, getD, take, replicate}
+use Rattle.answers.specs.declared.Answer.{Answer}
+use Rattle.answers.specs.Refusals.{tableOrder, placeIn}
+use Rattle.words.specs.Word.{wordAt}
+use Rattle.radix.specs.Characters.{codeOf}
+use Rattle.radix.specs.Conversions.{radpk, radup}
+use Rattle.numerals.specs.Digits.{allDigits, value}
+use Rattle.numerals.specs.Conversions.{d2bin, bin2d, o2bin, bin2o}
+use Rattle.pack.specs.declared.Key.{Key}
+use Rattle.pack.specs.declared.Owner.the-variants.{Free}
+use Rattle.pack.specs.Form.{bodiesOf}
+use Rattle.pack.specs.Geometry.{geometryOf, slots, payloadBytes}
+use Rattle.pack.specs.Entry.{entryOf}
+use Rattle.pack.specs.Consistent.{Consistent}
+use Rattle.pack.specs.Owner.{ownerOf, HeldAt, FreeBlock, storedLengths, freeCount}
+use Rattle.pack.specs.Untouched.{Keyed, Untouched}
+use Rattle.consistency.specs.Test.{consistent}
+use Rattle.consistency.proofs.Consistent.{consistent-iff}
+use Rattle.asking.specs.declared.Right.{Right}
+use Rattle.asking.specs.declared.Right.the-variants.{Write}
+use Rattle.asking.specs.Outcome.{Outcome, Unchanged}
+use Rattle.asking.specs.Keys.{legalKey, found}
+use Rattle.asking.specs.Asked.{fileOf}
+use Rattle.asking.specs.Rights.{may, May}
+use Rattle.asking.proofs.Keys.{found-iff, absent-iff, one-entry}
+use Rattle.asking.proofs.Rights.{may-iff}
+use Rattle.owners.specs.Owner.{OneOwner}
+use Rattle.owners.specs.Asked.{owner}
+use Rattle.owners.proofs.Owner.{one-owner}
+use Rattle.owners.proofs.Sum.{sum-of-words}
+use Rattle.owners.proofs.Asked.{says-system, says-free, says-held}
+use Rattle.creation.specs.Format.{Formattable, formatted}
+use Rattle.creation.specs.Alloc.{alloc, lengthFor}
+use Rattle.creation.specs.Choice.{FreeRun}
+use Rattle.creation.proofs.Formatting.{format-iff}
+use Rattle.creation.proofs.EmptyPack.{format-consistent, format-free}
+use Rattle.transfer.specs.Linked.{linkedRead}
+use Rattle.growth.specs.Adding.{linkedAdd}
+use Rattle.grammar.specs.Parsed.{Parsed}
+use Rattle.grammar.specs.Grammar.{Command}
+use Rattle.grammar.specs.Reading.{Reading, Reads, sideOf}
+use Rattle.grammar.specs.Place.{Viable, Place}
+use Rattle.command.specs.declared.SpecificationAnswer.{SpecificationAnswer}
+use Rattle.command.specs.Condensed.{condensed, TooLong}
+use Rattle.command.specs.Csi1.{Csi1Answered}
+use Rattle.command.specs.Csi2.{Csi2Answered}
+use Rattle.command.specs.Asked.{Reply, Asked, KnownUpTo51, knownOf}
+use Rattle.requests.specs.Request.{Request, outcome, Names, bufferLent, numbersAnswered}
+use Rattle.requests.specs.Contract.{Meets}
+use Rattle.requests.proofs.RequestConsistent
+use Rattle.requests.proofs.RequestRefused
+use Rattle.requests.proofs.RequestUntouched
+use Rattle.requests.proofs.ContractSingle
+use Rattle.promises.specs.GivenWhen.{Gives, InTableOrder}
+use Rattle.promises.specs.Codes.{FileCases, CreatingCases, AccessCases, OtherPayload, casesOf}
+use Rattle.promises.specs.CommandCodes.{Csi1Cases, Csi2Cases}
+use Rattle.promises.specs.AddedAgain.{openedImage}
+use Rattle.promises.specs.Refused.{NotRadix, NotWord, TooLarge, NotNumeral}
+use Rattle.promises.specs.Conversions.{NumberDemands, CharactersDemands, InverseDemands}
+use Rattle.promises.proofs.Codes
+use Rattle.promises.proofs.CodesRoom
+use Rattle.promises.proofs.AddedAgain
+use Rattle.promises.proofs.Demands
+use Rattle.promises.proofs.Commands
+use Rattle.promises.proofs.CommandCodes
+
+-- 1.1 "Every request accepts any numbers and any image."
+-- No exported function (`crates/service/src/lib.rt`) has a `requires`: its contract holds of every input, and the code it gives is 0 or one of the paper's table.
+pub code-known : (r : Request) (img : List ℕ) → (outcome r img .code ≡ 0) ⊎ (placeIn tableOrder (outcome r img .code) < length tableOrder)
+code-known = Codes.code-known
+
+-- 1.2 "What cannot be done is refused with the code that the build document orders first,"
+-- Each request on an image gives each code exactly in its case (`specs/Codes.antt`), and the cases stand in the order of the paper's table.
+pub code-iff : (r : Request) (img : List ℕ) (code : ℕ) → outcome r img .code ≡ code ↔ Gives (casesOf r img) code
+code-iff = Codes.code-iff
+
+pub cases-ordered : (r : Request) (img : List ℕ) → InTableOrder (casesOf r img)
+cases-ordered = Codes.cases-ordered
+
+-- so do CSI1 and CSI2
+pub csi1-code-iff : (line buffer : List ℕ) (answer : Answer) (after : List ℕ) → Csi1Answered line buffer answer after
+    → (code : ℕ) → answer .code ≡ code ↔ Gives (Csi1Cases line buffer) code
+csi1-code-iff = CommandCodes.csi1-code-iff
+
+pub csi2-code-iff : (line : List ℕ) (side k : ℕ) (buffer : List ℕ) (answer : SpecificationAnswer) (after : List ℕ) → Csi2Answered line side k buffer answer after
+    → (code : ℕ) → answer .code ≡ code ↔ Gives (Csi2Cases line side k buffer) code
+csi2-code-iff = CommandCodes.csi2-code-iff
+
+-- and the conversions; a field of these is for 1.1, one for 1.3
+pub radpk-demands : NumberDemands 3 NotRadix radpk
+radpk-demands = Demands.radpk-demands
+
+pub radup-demands : CharactersDemands 3 NotWord radup
+radup-demands = Demands.radup-demands
+
+pub d2bin-demands : NumberDemands 5 (NotNumeral 10) d2bin
+d2bin-demands = Demands.d2bin-demands
+
+pub bin2d-demands : CharactersDemands 5 TooLarge bin2d
+bin2d-demands = Demands.bin2d-demands
+
+pub o2bin-demands : NumberDemands 6 (NotNumeral 8) o2bin
+o2bin-demands = Demands.o2bin-demands
+
+pub bin2o-demands : CharactersDemands 6 TooLarge bin2o
+bin2o-demands = Demands.bin2o-demands
+
+-- 1.3 "and the image and each lent buffer then hold what they held before."
+pub refusal-leaves : (r : Request) (img : List ℕ) → (outcome r img .code ≡ 0 → ⊥)
+    → Unchanged (outcome r img) (replicate (numbersAnswered r) 0) img (bufferLent r)
+refusal-leaves = RequestRefused.refusal-leaves
+
+pub csi1-kept : (line buffer : List ℕ) (answer : Answer) (after : List ℕ) → Csi1Answered line buffer answer after → (answer .code ≡ 0 → ⊥) → after ≡ buffer
+csi1-kept = CommandCodes.csi1-kept
+
+pub csi2-kept : (line : List ℕ) (side k : ℕ) (buffer : List ℕ) (answer : SpecificationAnswer) (after : List ℕ) → Csi2Answered line side k buffer answer after
+    → (answer .code ≡ 0 → ⊥) → after ≡ buffer
+csi2-kept = CommandCodes.csi2-kept
+
+-- 2.1 "From any consistent image, each request has exactly the effect and answer that the build document draws from the handbook."
+-- Each contract is an equation with the request's `outcome`, whose definition says every word that changes. It allows one outcome:
+pub one-outcome : (r : Request) (img : List ℕ) (a b : Outcome) → Meets (outcome r img) a → Meets (outcome r img) b → a ≡ b
+one-outcome r img = ContractSingle.outcome-single (outcome r img)
+
+-- and it touches no file that it does not name
+pub who-is-not-named : (r : Request) {img : List ℕ} → Consistent img → (who : Key) → (Names r who → ⊥) → Untouched who img (outcome r img .image)
+who-is-not-named = RequestUntouched.who-is-not-named
+
+-- rights are those of Figure 2-7
+pub figure : (right : Right) (caller uic protect : ℕ) → may right caller uic protect ≡ true ↔ May caller uic protect right
+figure = may-iff
+
+-- a legal key is found exactly where an entry has it, and at most one has it
+module _ {img : List ℕ} (right : Consistent img) (key : Key) (legal : legalKey key ≡ true) where
+  pub entry-found : (e : ℕ) → found img key ≡ some e ↔ ((e < slots (geometryOf img)) × Keyed key (entryOf img (geometryOf img) e))
+  entry-found = found-iff right key legal
+
+  pub entry-absent : found img key ≡ none ↔ ((e : ℕ) → e < slots (geometryOf img) → Keyed key (entryOf img (geometryOf img) e) → ⊥)
+  entry-absent = absent-iff right key legal
+
+  pub entry-single : (e f : ℕ) → e < slots (geometryOf img) → f < slots (geometryOf img)
+      → Keyed key (entryOf img (geometryOf img) e) → Keyed key (entryOf img (geometryOf img) f) → e ≡ f
+  entry-single = one-entry right key legal
+
+-- what was added is read, after CLOSE and OPENI
+pub add-again : (img : List ℕ) (key : Key) (caller : ℕ) (payload : List ℕ) → linkedAdd img key caller payload .code ≡ 0
+    → (lent : List ℕ) → length lent ≡ payloadBytes (geometryOf img)
+    → linkedRead (openedImage img key caller payload) key caller (fileOf img key .length) lent
+    ≡ record { code = 0; numbers = []; image = openedImage img key caller payload; buffer = payload }
+add-again = AddedAgain.add-again
+
+-- Format makes a consistent pack of any image, whose bodies are all free
+module _ (image : List ℕ) (form blocks contents : ℕ) (uics : List ℕ) (right : Formattable (length image) form blocks contents uics) where
+  pub format-makes : Consistent (formatted image form blocks contents uics)
+  format-makes = format-consistent image form blocks contents uics (format-iff (length image) form blocks contents uics .1 right)
+
+  pub format-frees : (b : ℕ) → bodiesOf form contents ≤ b → b < blocks
+      → FreeBlock (formatted image form blocks contents uics) b × (ownerOf (formatted image form blocks contents uics) b ≡ Free)
+  format-frees = format-free image form blocks contents uics (format-iff (length image) form blocks contents uics .1 right)
+
+-- 2.2 "The image stays consistent: each block is system, free, or held by one file."
+pub stays-consistent : (r : Request) {img : List ℕ} → Consistent img → Consistent (outcome r img .image)
+stays-consistent = RequestConsistent.stays-consistent
+
+-- any image is judged, exactly as document 01 says
+pub judged : (img : List ℕ) → consistent img ≡ true ↔ Consistent img
+judged = consistent-iff
+
+pub block-owned : {img : List ℕ} → Consistent img → (b : ℕ) → OneOwner img b (ownerOf img b)
+block-owned = one-owner
+
+-- the audit note: the service shows, for every block of a pack, whose it is
+module _ {img : List ℕ} (right : Consistent img) (b : ℕ) (below : b < geometryOf img .blocks) where
+  pub shown-system : owner img b .numbers ≡ 0 ∷ (0 ∷ (0 ∷ [])) ↔ b < geometryOf img .bodies .0
+  shown-system = says-system right b below
+
+  pub shown-free : owner img b .numbers ≡ 1 ∷ (0 ∷ (0 ∷ [])) ↔ FreeBlock img b
+  shown-free = says-free right b below
+
+  pub shown-held : (e p : ℕ) → owner img b .numbers ≡ 2 ∷ (e ∷ (p ∷ [])) ↔ HeldAt img e p b
+  shown-held = says-held right b below
+
+-- "So c + 1, the stored lengths and the free blocks counted one by one add to n."
+pub blocks-summed : {img : List ℕ} → Consistent img → wordAt img 2 + 1 + storedLengths img + freeCount img ≡ wordAt img 1
+unfolding storedLengths
+blocks-summed right = sum-of-words right
+
+-- 2.3 "A request for room with nothing else against it is refused exactly if no such room is free."
+module _ (img : List ℕ) (key : Key) (caller protect segments : ℕ) (clear : Gives (CreatingCases img key caller protect (segments ≡ 0)) 0) where
+  pub room-refused : alloc img key caller protect segments .code ≡ 0o42 ↔ ((s : ℕ) → FreeRun img (lengthFor img segments) s → ⊥)
+  room-refused = CodesRoom.room-refused img key caller protect segments clear
+
+  pub room-given : (s : ℕ) → FreeRun img (lengthFor img segments) s → alloc img key caller protect segments .code ≡ 0
+  room-given = CodesRoom.room-given img key caller protect segments clear
+
+module _ (img : List ℕ) (key : Key) (caller : ℕ) (payload : List ℕ)
+    (clear : Gives (FileCases img key (OtherPayload img payload)
+    ++ AccessCases Write 1 ((fileOf img key .writer ≡ 2) ⊎ (fileOf img key .writer ≡ 3)) (fileOf img key) caller) 0) where
+  pub block-refused : linkedAdd img key caller payload .code ≡ 0o42 ↔ ((b : ℕ) → FreeBlock img b → ⊥)
+  block-refused = CodesRoom.block-refused img key caller payload clear
+
+  pub block-given : (b : ℕ) → FreeBlock img b → linkedAdd img key caller payload .code ≡ 0
+  block-given = CodesRoom.block-given img key caller payload clear
+
+-- 2.4 "Radix-50 and number conversions are right, packing as well as unpacking."
+pub radpk-right : (s : List ℕ) → length s ≡ 3 → (a b c : ℕ) → codeOf (getD s 0 0) ≡ some a → codeOf (getD s 1 0) ≡ some b → codeOf (getD s 2 0) ≡ some c
+    → record { code = 0; number = 1600 * a + 40 * b + c } ≡ radpk s
+radpk-right = Demands.radpk-right
+
+pub d2bin-right : (s : List ℕ) → length s ≡ 5 → allDigits 10 s ≡ true → value 10 s ≤ 65535 → d2bin s ≡ record { code = 0; number = value 10 s }
+d2bin-right = Demands.d2bin-right
+
+pub o2bin-right : (s : List ℕ) → length s ≡ 6 → allDigits 8 s ≡ true → value 8 s ≤ 65535 → o2bin s ≡ record { code = 0; number = value 8 s }
+o2bin-right = Demands.o2bin-right
+
+pub radix-inverse : InverseDemands 3 radpk radup
+radix-inverse = Demands.radix-inverse
+
+pub decimal-inverse : InverseDemands 5 d2bin bin2d
+decimal-inverse = Demands.decimal-inverse
+
+pub octal-inverse : InverseDemands 6 o2bin bin2o
+octal-inverse = Demands.octal-inverse
+
+-- 3.1 "For any command line within the length limits, with room lent for the result, the line is accepted exactly when the grammar writes it
+-- with blanks and fill characters removed."
+pub line-accepted : (line buffer : List ℕ) (answer : Answer) (after : List ℕ) → (TooLong line → ⊥) → length (condensed line) ≤ length buffer
+    → Csi1Answered line buffer answer after → answer .code ≡ 0 ↔ ((said : Parsed) × Command (condensed line) said)
+line-accepted = Commands.line-accepted
+
+-- 3.2 "No line has two readings."
+pub line-reading : (line : List ℕ) (a b : Reading) → Reads line a → Reads line b → a ≡ b
+line-reading = Commands.line-reading
+
+-- 3.3 "Asking for each side's specifications by place yields that reading, all of it and no more."
+pub line-asked : (line buffer : List ℕ) (answer : Answer) (after : List ℕ) → Csi1Answered line buffer answer after → answer .code ≡ 0
+    → (reading : Reading) × Reads (condensed line) reading
+    × ((side : ℕ) (replies : ℕ → Reply) → Asked (take (answer .number) after) side replies → KnownUpTo51 replies 0 (knownOf (sideOf side reading)))
+line-asked = Commands.line-asked
+
+-- 3.4 "A refused line is answered with the place, in what remains, of the first character with which no command could go on, or with its end if
+-- it only stops too soon."
+pub line-refused : (line buffer : List ℕ) (answer : Answer) (after : List ℕ) → (TooLong line → ⊥) → length (condensed line) ≤ length buffer
+    → Csi1Answered line buffer answer after → answer .code ≡ 0o50 ↔ Place (condensed line) (answer .number)
+line-refused = Commands.line-refused
+
+pub place-viable : (line : List ℕ) (p : ℕ) → Place line p → (count : ℕ) → count ≤ length line → Viable (take count line) ↔ count ≤ p
+place-viable = Commands.place-viable
+
+pub place-end : (line : List ℕ) (p : ℕ) → Place line p → p ≡ length line ↔ Viable line
+place-end = Commands.place-end
