@@ -46,7 +46,7 @@ use Rattle.transfer.proofs.Reading.{linked-read-given}
 use Rattle.growth.proofs.Payloads.{run-same}
 use Rattle.asking.specs.Opens.{opens}
 use Rattle.requests.specs.Request.{OPEN, CLOSE}
-use Rattle.promises.specs.GivenWhen.{Case, Gives, success, behind}
+use Rattle.promises.specs.GivenWhen.{Case, GivesCode, success, behind}
 use Rattle.promises.specs.Codes.{FileCases, OpenAs, writing}
 use Rattle.promises.proofs.GivenWhen.{denied}
 use Rattle.promises.proofs.CodesFiles.{file-behind}
@@ -94,7 +94,7 @@ module _ {img : List ℕ} {key : Key} {g : Geometry} {e caller place : ℕ} {pay
   here = subst (λ (h : Geometry). (e < slots h) × Keyed key (entryOf img h e)) (stored .stated) (stored .within, stored .keyed)
 
   -- the first rows have nothing against it
-  first-behind : {Wrong : Type 0} (own : List Case) {code : ℕ} → (Wrong → ⊥) → Gives own code → Gives (FileCases img key Wrong ++ own) code
+  first-behind : {Wrong : Type 0} (own : List Case) {code : ℕ} → (Wrong → ⊥) → GivesCode own code → GivesCode (FileCases img key Wrong ++ own) code
   first-behind own good rest =
       let names = legal-iff key .0 (stored .legal) in
       file-behind own (stored .right) (record { name = names .0; extension = names .1 }) good (record { entry = e; inside = here .0; keyed = here .1 }) rest

@@ -10,14 +10,14 @@ use Rattle.directory.specs.Renam.{newKey}
 use Rattle.requests.specs.Request.{Request, outcome}
 use Rattle.requests.specs.Request.{FORMAT, ALLOC, OPENO, OPEN, CLOSE, DELET, RENAM, APPND, LOOK, KEEP}
 use Rattle.requests.specs.Request.{BLOCK-INPUT, BLOCK-OUTPUT, LINKED-READ, LINKED-ADD, OWNER}
-use Rattle.promises.specs.GivenWhen.{Gives, InTableOrder}
+use Rattle.promises.specs.GivenWhen.{GivesCode, InTableOrder}
 use Rattle.promises.specs.Codes.{casesOf}
 use Rattle.promises.proofs.GivenWhen.{exactly, gives-known}
 use Rattle.promises.proofs.CodesFiles.{owner-code, look-code, open-code, close-code, delet-code, keep-code, renam-code, appnd-code}
 use Rattle.promises.proofs.CodesCreation.{format-code, openo-code, alloc-code}
 use Rattle.promises.proofs.CodesBlocks.{block-in-code, block-out-code, linked-read-code, linked-add-code}
 
-pub code-given : (r : Request) (img : List ℕ) → Gives (casesOf r img) (outcome r img .code)
+pub code-given : (r : Request) (img : List ℕ) → GivesCode (casesOf r img) (outcome r img .code)
 code-given (FORMAT form blocks contents uics) img = format-code img form blocks contents uics
 code-given (ALLOC key caller protect segments) img = alloc-code img key caller protect segments
 code-given (OPENO key caller protect) img = openo-code img key caller protect
@@ -35,7 +35,7 @@ code-given (LINKED-ADD key caller payload) img = linked-add-code img key caller 
 code-given (OWNER block) img = owner-code img block
 
 -- 1.2 "What cannot be done is refused with the code that the build document orders first"
-pub code-iff : (r : Request) (img : List ℕ) (code : ℕ) → outcome r img .code ≡ code ↔ Gives (casesOf r img) code
+pub code-iff : (r : Request) (img : List ℕ) (code : ℕ) → outcome r img .code ≡ code ↔ GivesCode (casesOf r img) code
 code-iff r img = exactly (casesOf r img) (code-given r img)
 
 pub cases-ordered : (r : Request) (img : List ℕ) → InTableOrder (casesOf r img)

@@ -20,7 +20,7 @@ use Rattle.transfer.specs.Linked.{linkedRead, linkedReadRows}
 use Rattle.growth.specs.Adding.{linkedAdd, linkedAddRows, highestFree}
 use Rattle.growth.proofs.AddingStage.{none-free, free-none}
 use Rattle.requests.specs.Request.{BLOCK-INPUT, BLOCK-OUTPUT, LINKED-READ, LINKED-ADD}
-use Rattle.promises.specs.GivenWhen.{Case, Gives}
+use Rattle.promises.specs.GivenWhen.{Case, GivesCode}
 use Rattle.promises.specs.Codes.{AccessCases, casesOf}
 use Rattle.promises.proofs.GivenWhen.{rung, clear}
 use Rattle.promises.proofs.CodesTests.{equal-numbers, above, at-least, denies, either, lacks-right, unread}
@@ -28,8 +28,8 @@ use Rattle.promises.proofs.CodesFiles.{file-code}
 
 -- the right, the kind and the open that such a request needs
 access-code : (right : Right) (other : ℕ) (x : Entry) (caller : ℕ) (shut : Bool) (Open : Type 0) → shut ≡ true ↔ (Open → ⊥) → (more : List Row) (own : List Case)
-    → Gives own (firstOf more)
-    → Gives (AccessCases right other Open x caller ++ own)
+    → GivesCode own (firstOf more)
+    → GivesCode (AccessCases right other Open x caller ++ own)
     (firstOf (row (not (may right caller (x .uic) (x .protect))) 0o6 ∷ (row (eqb (x .kind) other) 0o43 ∷ (row shut 0o45 ∷ more))))
 access-code right other x caller shut Open decides more own rest =
     rung _ 0o6 _ (lacks-right right caller _ _) (λ r. rung _ 0o43 _ (equal-numbers _ other) (λ k. rung _ 0o45 _ decides (λ o. rest)))
@@ -39,7 +39,7 @@ sized : (a b : ℕ) → not (eqb a b) ≡ true ↔ (a ≡ b → ⊥)
 sized a b = denies (eqb a b) (equal-numbers a b)
 
 module _ (img : List ℕ) (key : Key) (caller place : ℕ) (buffer : List ℕ) where
-  pub block-in-code : Gives (casesOf (BLOCK-INPUT key caller place buffer) img) (blockIn img key caller place buffer .code)
+  pub block-in-code : GivesCode (casesOf (BLOCK-INPUT key caller place buffer) img) (blockIn img key caller place buffer .code)
   unfolding blockIn blockInRows settled
   block-in-code =
       file-code img key _ _ (sized (length buffer) (blockBytes (geometryOf img))) _ _ (λ right.
@@ -47,21 +47,21 @@ module _ (img : List ℕ) (key : Key) (caller place : ℕ) (buffer : List ℕ) w
       (denies _ (either (ltb 0 (fileOf img key .readers)) (eqb (fileOf img key .writer) 1) (above 0 _) (equal-numbers _ 1))) _ _
       (rung _ 0o44 _ (at-least _ place) (λ p. clear)))
 
-  pub block-out-code : Gives (casesOf (BLOCK-OUTPUT key caller place buffer) img) (blockOut img key caller place buffer .code)
+  pub block-out-code : GivesCode (casesOf (BLOCK-OUTPUT key caller place buffer) img) (blockOut img key caller place buffer .code)
   unfolding blockOut blockOutRows settled
   block-out-code =
       file-code img key _ _ (sized (length buffer) (blockBytes (geometryOf img))) _ _ (λ right.
       access-code _ 2 (fileOf img key) caller _ _ (denies _ (equal-numbers (fileOf img key .writer) 1)) _ _
       (rung _ 0o44 _ (at-least _ place) (λ p. clear)))
 
-  pub linked-read-code : Gives (casesOf (LINKED-READ key caller place buffer) img) (linkedRead img key caller place buffer .code)
+  pub linked-read-code : GivesCode (casesOf (LINKED-READ key caller place buffer) img) (linkedRead img key caller place buffer .code)
   unfolding linkedRead linkedReadRows settled
   linked-read-code =
       file-code img key _ _ (sized (length buffer) (payloadBytes (geometryOf img))) _ _ (λ right.
       access-code _ 1 (fileOf img key) caller _ _ (unread (fileOf img key .readers)) _ _ (rung _ 0o44 _ (at-least _ place) (λ p. clear)))
 
 pub linked-add-code : (img : List ℕ) (key : Key) (caller : ℕ) (payload : List ℕ)
-    → Gives (casesOf (LINKED-ADD key caller payload) img) (linkedAdd img key caller payload .code)
+    → GivesCode (casesOf (LINKED-ADD key caller payload) img) (linkedAdd img key caller payload .code)
 unfolding linkedAdd linkedAddRows settled
 linked-add-code img key caller payload =
     file-code img key _ _ (sized (length payload) (payloadBytes (geometryOf img))) _ _ (λ right.

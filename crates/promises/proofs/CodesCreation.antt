@@ -20,21 +20,21 @@ use Rattle.creation.specs.Openo.{openo}
 use Rattle.creation.specs.Alloc.{alloc, allocRows}
 use Rattle.creation.proofs.Formatting.{format-iff}
 use Rattle.requests.specs.Request.{FORMAT, ALLOC, OPENO}
-use Rattle.promises.specs.GivenWhen.{Case, Gives}
+use Rattle.promises.specs.GivenWhen.{Case, GivesCode}
 use Rattle.promises.specs.Codes.{CreatingCases, casesOf}
 use Rattle.promises.proofs.GivenWhen.{rung, clear}
 use Rattle.promises.proofs.CodesTests.{equal-numbers, above, denies, no-argument, inconsistent, illegal, present-key, full, crowded}
 
 pub format-code : (img : List ℕ) (form blocks contents : ℕ) (uics : List ℕ)
-    → Gives (casesOf (FORMAT form blocks contents uics) img) (format img form blocks contents uics .code)
+    → GivesCode (casesOf (FORMAT form blocks contents uics) img) (format img form blocks contents uics .code)
 unfolding format formatRows settled
 format-code img form blocks contents uics =
     rung _ 0o41 _ (denies (formatTest (length img) form blocks contents uics) (format-iff (length img) form blocks contents uics)) (λ f. clear)
 
 -- the rows that creating shares
 module _ (img : List ℕ) (key : Key) (caller protect : ℕ) (wrong : Bool) (Wrong : Type 0) (decides : wrong ≡ true ↔ Wrong) (more : List Row) (room : List Case)
-    (rest : Consistent img → wrong ≡ false → Gives room (firstOf more)) where
-  creating-code : Gives (CreatingCases img key caller protect Wrong ++ room) (firstOf (creatingRows img key caller protect wrong ++ more))
+    (rest : Consistent img → wrong ≡ false → GivesCode room (firstOf more)) where
+  creating-code : GivesCode (CreatingCases img key caller protect Wrong ++ room) (firstOf (creatingRows img key caller protect wrong ++ more))
   unfolding creatingRows
   creating-code =
       rung _ 0o40 _ (inconsistent img) (λ c.
@@ -46,12 +46,12 @@ module _ (img : List ℕ) (key : Key) (caller protect : ℕ) (wrong : Bool) (Wro
       rung _ 0o6 _ (denies (eqb (key .uic) caller) (equal-numbers (key .uic) caller)) (λ r.
       rung _ 0o12 _ (full img) (λ e. rest (consistent-iff img .0 (not-false _ c)) w))))))))
 
-pub openo-code : (img : List ℕ) (key : Key) (caller protect : ℕ) → Gives (casesOf (OPENO key caller protect) img) (openo img key caller protect .code)
+pub openo-code : (img : List ℕ) (key : Key) (caller protect : ℕ) → GivesCode (casesOf (OPENO key caller protect) img) (openo img key caller protect .code)
 unfolding openo settled creatingRows
 openo-code img key caller protect = creating-code img key caller protect false ⊥ no-argument [] [] (λ right none. clear)
 
 pub alloc-code : (img : List ℕ) (key : Key) (caller protect segments : ℕ)
-    → Gives (casesOf (ALLOC key caller protect segments) img) (alloc img key caller protect segments .code)
+    → GivesCode (casesOf (ALLOC key caller protect segments) img) (alloc img key caller protect segments .code)
 unfolding alloc allocRows settled
 alloc-code img key caller protect segments =
     creating-code img key caller protect (eqb segments 0) (segments ≡ 0) (equal-numbers segments 0) _ _

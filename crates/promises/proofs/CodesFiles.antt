@@ -25,7 +25,7 @@ use Rattle.directory.specs.Keep.{keep, keepRows}
 use Rattle.directory.specs.Renam.{renam, renamRows}
 use Rattle.growth.specs.Appnd.{appnd, appndRows}
 use Rattle.requests.specs.Request.{OPEN, CLOSE, DELET, APPND, LOOK, KEEP, OWNER}
-use Rattle.promises.specs.GivenWhen.{Case, behind, Gives}
+use Rattle.promises.specs.GivenWhen.{Case, behind, GivesCode}
 use Rattle.promises.specs.Codes.{LegalKey, Exists, NoMode, FileCases, RenamCases, casesOf}
 use Rattle.promises.proofs.GivenWhen.{denied, rung, passed, clear}
 use Rattle.promises.proofs.CodesTests.{equal-numbers, above, at-least, denies, no-argument, inconsistent, illegal, mode-iff, one-key}
@@ -33,8 +33,8 @@ use Rattle.promises.proofs.CodesTests.{absent-key, present-key, lacks-r
 
 -- the rows that all requests on a file share
 module _ (img : List ℕ) (key : Key) (wrong : Bool) (Wrong : Type 0) (decides : wrong ≡ true ↔ Wrong) (more : List Row) (own : List Case)
-    (rest : Consistent img → Gives own (firstOf more)) where
-  pub file-code : Gives (FileCases img key Wrong ++ own) (firstOf (fileRows img key wrong ++ more))
+    (rest : Consistent img → GivesCode own (firstOf more)) where
+  pub file-code : GivesCode (FileCases img key Wrong ++ own) (firstOf (fileRows img key wrong ++ more))
   unfolding fileRows
   file-code =
       rung _ 0o40 _ (inconsistent img) (λ c.
@@ -44,18 +44,18 @@ module _ (img : List ℕ) (key : Key) (wrong : Bool) (Wrong : Type 0) (decides :
 
 -- a file with nothing against it at these rows
 pub file-behind : {img : List ℕ} {key : Key} {Wrong : Type 0} (own : List Case) {code : ℕ} → Consistent img → LegalKey key → (Wrong → ⊥) → Exists img key
-    → Gives own code → Gives (FileCases img key Wrong ++ own) code
+    → GivesCode own code → GivesCode (FileCases img key Wrong ++ own) code
 file-behind own right legal good there rest = behind (denied right) (behind (denied legal) (behind good (behind (denied there) rest)))
 
-pub owner-code : (img : List ℕ) (block : ℕ) → Gives (casesOf (OWNER block) img) (owner img block .code)
+pub owner-code : (img : List ℕ) (block : ℕ) → GivesCode (casesOf (OWNER block) img) (owner img block .code)
 unfolding owner ownerRows settled
 owner-code img block = rung _ 0o40 _ (inconsistent img) (λ c. rung _ 0o44 _ (at-least (geometryOf img .blocks) block) (λ b. clear))
 
-pub look-code : (img : List ℕ) (key : Key) → Gives (casesOf (LOOK key) img) (look img key .code)
+pub look-code : (img : List ℕ) (key : Key) → GivesCode (casesOf (LOOK key) img) (look img key .code)
 unfolding look lookRows settled fileRows
 look-code img key = file-code img key false ⊥ no-argument [] [] (λ right. clear)
 
-pub open-code : (mode : Opening) (img : List ℕ) (key : Key) (caller : ℕ) → Gives (casesOf (OPEN mode key caller) img) (opened mode img key caller .code)
+pub open-code : (mode : Opening) (img : List ℕ) (key : Key) (caller : ℕ) → GivesCode (casesOf (OPEN mode key caller) img) (opened mode img key caller .code)
 unfolding opened openRows settled
 open-code Input img key caller =
     file-code img key false ⊥ no-argument _ _ (λ right.
@@ -72,24 +72,24 @@ open-code Extension img key caller =
     rung _ 0o6 _ (lacks-right _ caller _ _) (λ r.
     rung _ 0o5 _ (equal-numbers _ 1) (λ k. passed 0o43 _ (rung _ 0o4 _ (above 0 _) (λ n. rung _ 0o3 _ (full-iff _) (λ o. clear)))))))
 
-pub close-code : (img : List ℕ) (key : Key) (mode : ℕ) → Gives (casesOf (CLOSE key mode) img) (close img key mode .code)
+pub close-code : (img : List ℕ) (key : Key) (mode : ℕ) → GivesCode (casesOf (CLOSE key mode) img) (close img key mode .code)
 unfolding close closeRows settled
 close-code img key mode =
     file-code img key (wrongMode mode) (NoMode mode) (mode-iff mode) _ _
     (λ right. rung _ 0o45 _ (denies (isOpenAs mode (fileOf img key)) (as-iff mode (fileOf img key))) (λ o. clear))
 
-pub delet-code : (img : List ℕ) (key : Key) (caller : ℕ) → Gives (casesOf (DELET key caller) img) (delet img key caller .code)
+pub delet-code : (img : List ℕ) (key : Key) (caller : ℕ) → GivesCode (casesOf (DELET key caller) img) (delet img key caller .code)
 unfolding delet deletRows settled
 delet-code img key caller =
     file-code img key false ⊥ no-argument _ _ (λ right. rung _ 0o6 _ (lacks-right _ caller _ _) (λ r. rung _ 0o14 _ (open-iff _) (λ o. clear)))
 
-pub keep-code : (img : List ℕ) (key : Key) (caller : ℕ) → Gives (casesOf (KEEP key caller) img) (keep img key caller .code)
+pub keep-code : (img : List ℕ) (key : Key) (caller : ℕ) → GivesCode (casesOf (KEEP key caller) img) (keep img key caller .code)
 unfolding keep keepRows settled
 keep-code img key caller =
     file-code img key false ⊥ no-argument _ _
     (λ right. rung _ 0o6 _ (denies (eqb caller (fileOf img key .uic)) (equal-numbers caller (fileOf img key .uic))) (λ r. clear))
 
-pub renam-code : (img : List ℕ) (old new : Key) (protect caller : ℕ) → Gives (RenamCases img old new protect caller) (renam img old new protect caller .code)
+pub renam-code : (img : List ℕ) (old new : Key) (protect caller : ℕ) → GivesCode (RenamCases img old new protect caller) (renam img old new protect caller .code)
 unfolding renam renamRows settled
 renam-code img old new protect caller =
     rung _ 0o40 _ (inconsistent img) (λ c.
@@ -100,7 +100,7 @@ renam-code img old new protect caller =
     rung _ 0o2 _ (present-key (consistent-iff img .0 (not-false _ c)) new (not-false _ m)) (λ g.
     rung _ 0o6 _ (lacks-right _ caller _ _) (λ r. rung _ 0o14 _ (open-iff _) (λ o. clear))))))))
 
-pub appnd-code : (img : List ℕ) (first second : Key) (caller : ℕ) → Gives (casesOf (APPND first second caller) img) (appnd img first second caller .code)
+pub appnd-code : (img : List ℕ) (first second : Key) (caller : ℕ) → GivesCode (casesOf (APPND first second caller) img) (appnd img first second caller .code)
 unfolding appnd appndRows settled
 appnd-code img first second caller =
     rung _ 0o40 _ (inconsistent img) (λ c.

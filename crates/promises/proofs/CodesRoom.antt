@@ -11,12 +11,12 @@ use Rattle.creation.specs.Alloc.{alloc, lengthFor}
 use Rattle.creation.specs.Choice.{FreeRun}
 use Rattle.growth.specs.Adding.{linkedAdd}
 use Rattle.requests.specs.Request.{ALLOC, LINKED-ADD}
-use Rattle.promises.specs.GivenWhen.{Gives}
+use Rattle.promises.specs.GivenWhen.{GivesCode}
 use Rattle.promises.specs.Codes.{FileCases, CreatingCases, AccessCases, OtherPayload}
 use Rattle.promises.proofs.GivenWhen.{last-given}
 use Rattle.promises.proofs.Codes.{code-given, cases-ordered}
 
-module _ (img : List ℕ) (key : Key) (caller protect segments : ℕ) (clear : Gives (CreatingCases img key caller protect (segments ≡ 0)) 0) where
+module _ (img : List ℕ) (key : Key) (caller protect segments : ℕ) (clear : GivesCode (CreatingCases img key caller protect (segments ≡ 0)) 0) where
   room : (alloc img key caller protect segments .code ≡ 0o42 ↔ ((s : ℕ) → FreeRun img (lengthFor img segments) s → ⊥))
       × ((((s : ℕ) → FreeRun img (lengthFor img segments) s → ⊥) → ⊥) → alloc img key caller protect segments .code ≡ 0)
   room = last-given _ 0o42 (CreatingCases img key caller protect (segments ≡ 0))
@@ -29,7 +29,7 @@ module _ (img : List ℕ) (key : Key) (caller protect segments : ℕ) (clear : G
   room-given s free = room .1 (λ none. none s free)
 
 module _ (img : List ℕ) (key : Key) (caller : ℕ) (payload : List ℕ)
-    (clear : Gives (FileCases img key (OtherPayload img payload)
+    (clear : GivesCode (FileCases img key (OtherPayload img payload)
     ++ AccessCases Write 1 ((fileOf img key .writer ≡ 2) ⊎ (fileOf img key .writer ≡ 3)) (fileOf img key) caller) 0) where
   block : (linkedAdd img key caller payload .code ≡ 0o42 ↔ ((b : ℕ) → FreeBlock img b → ⊥))
       × ((((b : ℕ) → FreeBlock img b → ⊥) → ⊥) → linkedAdd img key caller payload .code ≡ 0)

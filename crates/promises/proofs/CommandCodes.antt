@@ -21,7 +21,7 @@ use Rattle.command.specs.Csi1.{condensingAnswer, Csi1, Csi1Answered}
 use Rattle.command.specs.Csi1 as First
 use Rattle.command.specs.Csi2.{askingAnswer, Csi2, Csi2Answered}
 use Rattle.command.specs.Csi2 as Second
-use Rattle.promises.specs.GivenWhen.{Gives, success, here, behind}
+use Rattle.promises.specs.GivenWhen.{GivesCode, success, here, behind}
 use Rattle.promises.specs.CommandCodes.{Csi1Cases, NoSpecification, ShortFor, Csi2Cases}
 use Rattle.promises.proofs.GivenWhen.{exactly}
 
@@ -37,19 +37,19 @@ said-right line said says wrong = wrong said says
 read-right : (line : List ℕ) (reading : Reading) → Reads line reading → Wrong line → ⊥
 read-right line reading (reads {said} says) = said-right line said says
 
-csi1-code : (line buffer : List ℕ) (answer : Condensing) (after : List ℕ) → Csi1 line buffer answer after → Gives (Csi1Cases line buffer) (condensingAnswer answer .code)
+csi1-code : (line buffer : List ℕ) (answer : Condensing) (after : List ℕ) → Csi1 line buffer answer after → GivesCode (Csi1Cases line buffer) (condensingAnswer answer .code)
 csi1-code line buffer answer after (First.Csi1.long over) = here over
 csi1-code line buffer answer after (First.Csi1.short fits few) = behind fits (here few)
 csi1-code line buffer answer after (First.Csi1.wrong fits room at) = behind fits (behind (fits-within room) (here (at .wrong)))
 csi1-code line buffer answer after (First.Csi1.accepted fits room {said} says) =
     behind fits (behind (fits-within room) (behind (said-right (condensed line) said says) success))
 
-csi1-answered-code : (line buffer : List ℕ) (answer : Answer) (after : List ℕ) → Csi1Answered line buffer answer after → Gives (Csi1Cases line buffer) (answer .code)
+csi1-answered-code : (line buffer : List ℕ) (answer : Answer) (after : List ℕ) → Csi1Answered line buffer answer after → GivesCode (Csi1Cases line buffer) (answer .code)
 csi1-answered-code line buffer answer after (First.Csi1Answered.answered {answer = x} is) = csi1-code line buffer x after is
 
 -- 1.2 for CSI1
 pub csi1-code-iff : (line buffer : List ℕ) (answer : Answer) (after : List ℕ) → Csi1Answered line buffer answer after
-    → (code : ℕ) → answer .code ≡ code ↔ Gives (Csi1Cases line buffer) code
+    → (code : ℕ) → answer .code ≡ code ↔ GivesCode (Csi1Cases line buffer) code
 csi1-code-iff line buffer answer after is = exactly (Csi1Cases line buffer) (csi1-answered-code line buffer answer after is)
 
 -- 1.3 for CSI1
@@ -83,7 +83,7 @@ module _ (line : List ℕ) (side k : ℕ) (buffer : List ℕ) where
       let same : s .specification ≡ v = there-one (s .reading) a (s .specification) v (s .reads) x (s .there) is in
       omega (arith, s .short, room, ap (λ (w : Specification). length (encoded (w .switches))) same)
 
-  csi2-code : (answer : Asking) (after : List ℕ) → Csi2 line side k buffer answer after → Gives (Csi2Cases line side k buffer) (askingAnswer answer .code)
+  csi2-code : (answer : Asking) (after : List ℕ) → Csi2 line side k buffer answer after → GivesCode (Csi2Cases line side k buffer) (askingAnswer answer .code)
   csi2-code answer after (Second.Csi2.long over) = here over
   csi2-code answer after (Second.Csi2.wrong fits at) = behind (fits-within fits) (here (at .wrong))
   csi2-code answer after (Second.Csi2.missing fits {reading} read is) =
@@ -95,12 +95,12 @@ module _ (line : List ℕ) (side k : ℕ) (buffer : List ℕ) where
       behind (fits-within fits)
       (behind (read-right line reading read) (behind (there-not-none reading v read is) (behind (not-short reading v read is room) success)))
 
-  csi2-answered-code : (answer : SpecificationAnswer) (after : List ℕ) → Csi2Answered line side k buffer answer after → Gives (Csi2Cases line side k buffer) (answer .code)
+  csi2-answered-code : (answer : SpecificationAnswer) (after : List ℕ) → Csi2Answered line side k buffer answer after → GivesCode (Csi2Cases line side k buffer) (answer .code)
   csi2-answered-code answer after (Second.Csi2Answered.answered {answer = x} is) = csi2-code x after is
 
   -- 1.2 for CSI2
   pub csi2-code-iff : (answer : SpecificationAnswer) (after : List ℕ) → Csi2Answered line side k buffer answer after
-      → (code : ℕ) → answer .code ≡ code ↔ Gives (Csi2Cases line side k buffer) code
+      → (code : ℕ) → answer .code ≡ code ↔ GivesCode (Csi2Cases line side k buffer) code
   csi2-code-iff answer after is = exactly (Csi2Cases line side k buffer) (csi2-answered-code answer after is)
 
   -- 1.3 for CSI2

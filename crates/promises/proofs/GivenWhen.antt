@@ -10,10 +10,10 @@ use lib.ListN.{length}
 use borrow.Author.Tests.{ltb-true}
 use Rattle.answers.specs.Refusals.{Row, row, firstOf, tableOrder, placeIn, inOrder}
 use Rattle.pack.proofs.Tests.{true-not-false, and-left, and-right}
-use Rattle.promises.specs.GivenWhen.{Case, _when_, Gives, success, here, behind, codeRows, InTableOrder}
+use Rattle.promises.specs.GivenWhen.{Case, _when_, GivesCode, success, here, behind, codeRows, InTableOrder}
 
 -- what is given has one code
-gives-one : (cases : List Case) (a b : ℕ) → Gives cases a → Gives cases b → a ≡ b
+gives-one : (cases : List Case) (a b : ℕ) → GivesCode cases a → GivesCode cases b → a ≡ b
 gives-one [] a b success success = refl
 gives-one (c ∷ cases) a b (here holds) (here again) = refl
 gives-one (c ∷ cases) a b (here holds) (behind never x) = absurd (never holds)
@@ -21,8 +21,8 @@ gives-one (c ∷ cases) a b (behind never x) (here holds) = absurd (never holds)
 gives-one (c ∷ cases) a b (behind never x) (behind again y) = gives-one cases a b x y
 
 -- the code given is this one exactly in its case
-pub exactly : (cases : List Case) {given : ℕ} → Gives cases given → (code : ℕ) → given ≡ code ↔ Gives cases code
-exactly cases {given} has code = (λ is. subst (Gives cases) is has, λ other. gives-one cases given code has other)
+pub exactly : (cases : List Case) {given : ℕ} → GivesCode cases given → (code : ℕ) → given ≡ code ↔ GivesCode cases code
+exactly cases {given} has code = (λ is. subst (GivesCode cases) is has, λ other. gives-one cases given code has other)
 
 -- a test that fails denies what it decides
 pub fails : {A : Type 0} (b : Bool) → (b ≡ true ↔ A) → b ≡ false → A → ⊥
@@ -33,19 +33,19 @@ pub denied : {A : Type 0} → A → (A → ⊥) → ⊥
 denied holds never = never holds
 
 -- a row whose test decides its proposition
-pub rung : (b : Bool) {When : Type 0} {cases : List Case} (code : ℕ) (rows : List Row) → b ≡ true ↔ When → (b ≡ false → Gives cases (firstOf rows))
-    → Gives (code when When ∷ cases) (firstOf (row b code ∷ rows))
+pub rung : (b : Bool) {When : Type 0} {cases : List Case} (code : ℕ) (rows : List Row) → b ≡ true ↔ When → (b ≡ false → GivesCode cases (firstOf rows))
+    → GivesCode (code when When ∷ cases) (firstOf (row b code ∷ rows))
 unfolding firstOf
 rung true code rows iff rest = here (iff .0 refl)
 rung false code rows iff rest = behind (fails false iff refl) (rest refl)
 
 -- a row that is never given
-pub passed : (code : ℕ) (rows : List Row) {cases : List Case} → Gives cases (firstOf rows) → Gives cases (firstOf (row false code ∷ rows))
+pub passed : (code : ℕ) (rows : List Row) {cases : List Case} → GivesCode cases (firstOf rows) → GivesCode cases (firstOf (row false code ∷ rows))
 unfolding firstOf
 passed code rows given = given
 
 -- no row is left
-pub clear : Gives [] (firstOf [])
+pub clear : GivesCode [] (firstOf [])
 unfolding firstOf
 clear = success
 
@@ -68,19 +68,19 @@ module _ (c : Case) (cases : List Case) (place : ℕ) (ordered : inOrder tableOr
   first-not-zero zero = let h : Known 0 = subst Known zero first-known in omega (arith, h)
 
 -- a code that a table gives is 0 or stands in the paper's
-known-from : (cases : List Case) (place code : ℕ) → inOrder tableOrder place (codeRows cases) ≡ true → Gives cases code → (code ≡ 0) ⊎ Known code
+known-from : (cases : List Case) (place code : ℕ) → inOrder tableOrder place (codeRows cases) ≡ true → GivesCode cases code → (code ≡ 0) ⊎ Known code
 known-from [] place code ordered success = inl refl
 known-from (c ∷ cases) place code ordered (here holds) = inr (first-known c cases place ordered)
 known-from (c ∷ cases) place code ordered (behind never rest) =
     known-from cases (placeIn tableOrder (c .code)) code (rest-ordered c cases place ordered) rest
 
-pub gives-known : (cases : List Case) {code : ℕ} → InTableOrder cases → Gives cases code → (code ≡ 0) ⊎ (placeIn tableOrder code < length tableOrder)
+pub gives-known : (cases : List Case) {code : ℕ} → InTableOrder cases → GivesCode cases code → (code ≡ 0) ⊎ (placeIn tableOrder code < length tableOrder)
 gives-known cases {code} ordered given = known-from cases 0 code ordered given
 
 -- with nothing against it in the rows before the last, the last one's code is given exactly if the last holds, and else success
 module _ (When : Type 0) (last : ℕ) where
   last-from : (front : List Case) (place given none : ℕ) → inOrder tableOrder place (codeRows (front ++ last when When ∷ [])) ≡ true
-      → Gives (front ++ last when When ∷ []) given → Gives front none → none ≡ 0 → (given ≡ last ↔ When) × ((When → ⊥) → given ≡ 0)
+      → GivesCode (front ++ last when When ∷ []) given → GivesCode front none → none ≡ 0 → (given ≡ last ↔ When) × ((When → ⊥) → given ≡ 0)
   last-from [] place given none ordered (here holds) success zero = ((λ is. holds, λ again. refl), λ never. absurd (never holds))
   last-from [] place given none ordered (behind never success) success zero =
       ((λ is. absurd (first-not-zero (last when When) [] place ordered (sym is)), λ holds. absurd (never holds)), λ again. refl)
@@ -90,6 +90,6 @@ module _ (When : Type 0) (last : ℕ) where
   last-from (c ∷ front) place given none ordered (behind again whole) (behind never rest) zero =
       last-from front (placeIn tableOrder (c .code)) given none (rest-ordered c (front ++ last when When ∷ []) place ordered) whole rest zero
 
-  pub last-given : (front : List Case) {given : ℕ} → InTableOrder (front ++ last when When ∷ []) → Gives (front ++ last when When ∷ []) given → Gives front 0
+  pub last-given : (front : List Case) {given : ℕ} → InTableOrder (front ++ last when When ∷ []) → GivesCode (front ++ last when When ∷ []) given → GivesCode front 0
       → (given ≡ last ↔ When) × ((When → ⊥) → given ≡ 0)
   last-given front {given} ordered whole clear = last-from front 0 given 0 ordered whole clear refl

@@ -58,7 +58,7 @@ use Rattle.requests.proofs.RequestConsistent
 use Rattle.requests.proofs.RequestRefused
 use Rattle.requests.proofs.RequestUntouched
 use Rattle.requests.proofs.ContractSingle
-use Rattle.promises.specs.GivenWhen.{Gives, InTableOrder}
+use Rattle.promises.specs.GivenWhen.{GivesCode, InTableOrder}
 use Rattle.promises.specs.Codes.{FileCases, CreatingCases, AccessCases, OtherPayload, casesOf}
 use Rattle.promises.specs.CommandCodes.{Csi1Cases, Csi2Cases}
 use Rattle.promises.specs.AddedAgain.{openedImage}
@@ -78,7 +78,7 @@ code-known = Codes.code-known
 
 -- 1.2 "What cannot be done is refused with the code that the build document orders first,"
 -- Each request on an image gives each code exactly in its case (`specs/Codes.antt`), and the cases stand in the order of the paper's table.
-pub code-iff : (r : Request) (img : List ℕ) (code : ℕ) → outcome r img .code ≡ code ↔ Gives (casesOf r img) code
+pub code-iff : (r : Request) (img : List ℕ) (code : ℕ) → outcome r img .code ≡ code ↔ GivesCode (casesOf r img) code
 code-iff = Codes.code-iff
 
 pub cases-ordered : (r : Request) (img : List ℕ) → InTableOrder (casesOf r img)
@@ -86,11 +86,11 @@ cases-ordered = Codes.cases-ordered
 
 -- so do CSI1 and CSI2
 pub csi1-code-iff : (line buffer : List ℕ) (answer : Answer) (after : List ℕ) → Csi1Answered line buffer answer after
-    → (code : ℕ) → answer .code ≡ code ↔ Gives (Csi1Cases line buffer) code
+    → (code : ℕ) → answer .code ≡ code ↔ GivesCode (Csi1Cases line buffer) code
 csi1-code-iff = CommandCodes.csi1-code-iff
 
 pub csi2-code-iff : (line : List ℕ) (side k : ℕ) (buffer : List ℕ) (answer : SpecificationAnswer) (after : List ℕ) → Csi2Answered line side k buffer answer after
-    → (code : ℕ) → answer .code ≡ code ↔ Gives (Csi2Cases line side k buffer) code
+    → (code : ℕ) → answer .code ≡ code ↔ GivesCode (Csi2Cases line side k buffer) code
 csi2-code-iff = CommandCodes.csi2-code-iff
 
 -- and the conversions; a field of these is for 1.1, one for 1.3
@@ -193,7 +193,7 @@ unfolding storedLengths
 blocks-summed right = sum-of-words right
 
 -- 2.3 "A request for room with nothing else against it is refused exactly if no such room is free."
-module _ (img : List ℕ) (key : Key) (caller protect segments : ℕ) (clear : Gives (CreatingCases img key caller protect (segments ≡ 0)) 0) where
+module _ (img : List ℕ) (key : Key) (caller protect segments : ℕ) (clear : GivesCode (CreatingCases img key caller protect (segments ≡ 0)) 0) where
   pub room-refused : alloc img key caller protect segments .code ≡ 0o42 ↔ ((s : ℕ) → FreeRun img (lengthFor img segments) s → ⊥)
   room-refused = CodesRoom.room-refused img key caller protect segments clear
 
@@ -201,7 +201,7 @@ module _ (img : List ℕ) (key : Key) (caller protect segments : ℕ) (clear : G
   room-given = CodesRoom.room-given img key caller protect segments clear
 
 module _ (img : List ℕ) (key : Key) (caller : ℕ) (payload : List ℕ)
-    (clear : Gives (FileCases img key (OtherPayload img payload)
+    (clear : GivesCode (FileCases img key (OtherPayload img payload)
     ++ AccessCases Write 1 ((fileOf img key .writer ≡ 2) ⊎ (fileOf img key .writer ≡ 3)) (fileOf img key) caller) 0) where
   pub block-refused : linkedAdd img key caller payload .code ≡ 0o42 ↔ ((b : ℕ) → FreeBlock img b → ⊥)
   block-refused = CodesRoom.block-refused img key caller payload clear

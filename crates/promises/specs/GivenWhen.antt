@@ -15,10 +15,10 @@ abbrev pub _when_ : ℕ → Type 0 → Case
 code when When = record { code = code; When = When }
 
 -- "Of several, the first in this table is given.": a row holds and its code is given, or it does not and the rows behind it decide; "Success returns 0"
-pub data Gives : List Case → ℕ → Type 1 where
-  success : Gives [] 0
-  here : {c : Case} {cases : List Case} → c .When → Gives (c ∷ cases) (c .code)
-  behind : {c : Case} {cases : List Case} {code : ℕ} → (c .When → ⊥) → Gives cases code → Gives (c ∷ cases) code
+pub data GivesCode : List Case → ℕ → Type 1 where
+  success : GivesCode [] 0
+  here : {c : Case} {cases : List Case} → c .When → GivesCode (c ∷ cases) (c .code)
+  behind : {c : Case} {cases : List Case} {code : ℕ} → (c .When → ⊥) → GivesCode cases code → GivesCode (c ∷ cases) code
 
 -- do the codes stand in the order of the paper's table, which has them all? One code may stand in several rows.
 abbrev pub codeRows : List Case → List Row
