@@ -2,7 +2,7 @@
 #include <stdio.h>
 #include "abezolit.h"
 
-static uint8_t pack[16 * 512];
+static uint8_t pack[16 * ABZ_BLOCK_BYTES];
 
 int main(void)
 {

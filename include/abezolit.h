@@ -153,6 +153,21 @@ size_t abz_bin2o(size_t number, uint8_t *chars, size_t chars_len);
  * before all else where they are no consistent pack. No call makes a consistent pack inconsistent.
  */
 
+/* The measures of a pack, as told above. */
+enum {
+    ABZ_FORM           = 1,
+    ABZ_BLOCK_BYTES    = 512,
+    ABZ_PAYLOAD_BYTES  = 510,  /* of a block of a linked file: all behind its link */
+    ABZ_BLOCK_SEGMENTS = 4,
+    ABZ_BLOCKS_LEAST   = 16,
+    ABZ_BLOCKS_MOST    = 1024,
+    ABZ_CONTENTS_LEAST = 1,    /* blocks of contents */
+    ABZ_CONTENTS_MOST  = 8,
+    ABZ_BLOCK_ENTRIES  = 16,   /* of a block of contents */
+    ABZ_ENTRY_BYTES    = 32,
+    ABZ_UICS_MOST      = 64
+};
+
 /* The kinds of files. */
 enum {
     ABZ_CONTIGUOUS = 1,

@@ -1,7 +1,7 @@
 /* What an image says of itself, read from its words. */
 #include "contents.h"
 
-enum { BLOCK_ENTRIES = 16, ENTRY_BYTES = 32 };
+#include "abezolit.h"
 
 /* The word of block 0, and the words of an entry. */
 enum { CONTENTS = 2 };
@@ -14,12 +14,12 @@ size_t word_at(const uint8_t *bytes)
 
 size_t contents_entries(const uint8_t *image)
 {
-    return BLOCK_ENTRIES * word_at(image + 2 * CONTENTS);
+    return ABZ_BLOCK_ENTRIES * word_at(image + 2 * CONTENTS);
 }
 
 bool contents_read(const uint8_t *image, size_t number, contents_entry *entry)
 {
-    const uint8_t *start = image + BLOCK + ENTRY_BYTES * number;
+    const uint8_t *start = image + ABZ_BLOCK_BYTES + ABZ_ENTRY_BYTES * number;
 
     entry->name1 = word_at(start + 2 * NAME1);
     entry->name2 = word_at(start + 2 * NAME2);

@@ -9,8 +9,6 @@
 #include <stddef.h>
 #include <stdint.h>
 
-enum { BLOCK = 512, BLOCKS_MOST = 1024 };
-
 typedef struct {
     size_t name1, name2, extension, uic, protect, kind, length;
 } contents_entry;

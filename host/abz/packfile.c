@@ -90,7 +90,8 @@ bool pack_begin(pack_file *pack, const char *path, size_t blocks)
     int descriptor;
 
     pack->path = path;
-    pack->length = BLOCK * (blocks < BLOCKS_MOST ? blocks : BLOCKS_MOST); /* the service refuses what is more */
+    /* The service refuses what is more. */
+    pack->length = ABZ_BLOCK_BYTES * (blocks < ABZ_BLOCKS_MOST ? blocks : ABZ_BLOCKS_MOST);
     memset(pack->image, 0, pack->length);
     return stat(path, &there) != 0 || open_locked(path, &descriptor);
 }

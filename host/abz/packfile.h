@@ -5,7 +5,7 @@
 #ifndef PACKFILE_H
 #define PACKFILE_H
 
-#include "contents.h"
+#include "abezolit.h"
 
 #include <stdbool.h>
 #include <stddef.h>
@@ -14,7 +14,8 @@
 typedef struct {
     const char *path;
     size_t length;
-    uint8_t image[BLOCK * BLOCKS_MOST + 1]; /* one byte more than any pack, so that a file too long is seen to be so */
+    /* One byte more than any pack has, so that a file too long is seen to be so. */
+    uint8_t image[ABZ_BLOCK_BYTES * ABZ_BLOCKS_MOST + 1];
 } pack_file;
 
 /*

@@ -10,7 +10,7 @@
 #include <stdio.h>
 
 static pack_file pack;
-static abz_owner_answer owners[BLOCKS_MOST];
+static abz_owner_answer owners[ABZ_BLOCKS_MOST];
 static size_t blocks;
 
 /*
@@ -21,7 +21,7 @@ static size_t ask_owners(void)
 {
     abz_owner_answer answer;
 
-    for (blocks = 0; blocks < BLOCKS_MOST; blocks++) {
+    for (blocks = 0; blocks < ABZ_BLOCKS_MOST; blocks++) {
         answer = abz_owner(pack.image, pack.length, blocks);
         if (answer.code == ABZ_NO_BLOCK)
             break;

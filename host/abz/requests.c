@@ -13,8 +13,6 @@
 #include <stdio.h>
 #include <string.h>
 
-enum { FORM = 1, UICS_MOST = 64 };
-
 static pack_file pack;
 
 /* The end of a request that changes the pack. */
@@ -28,14 +26,14 @@ static int finish(const char *command, size_t code)
 /* ---- Packs ---- */
 
 /* UICs as words, low byte first. Of more than a pack takes one is enough for the service to see that. */
-static bool read_uics(char **texts, uint8_t uics[2 * (UICS_MOST + 1)], size_t *length)
+static bool read_uics(char **texts, uint8_t uics[2 * (ABZ_UICS_MOST + 1)], size_t *length)
 {
     size_t uic;
 
     for (*length = 0; *texts; texts++) {
         if (!read_uic(*texts, &uic))
             return false;
-        if (*length <= 2 * UICS_MOST) {
+        if (*length <= 2 * ABZ_UICS_MOST) {
             uics[(*length)++] = (uint8_t)(uic % 256);
             uics[(*length)++] = (uint8_t)(uic / 256);
         }
@@ -46,14 +44,14 @@ static bool read_uics(char **texts, uint8_t uics[2 * (UICS_MOST + 1)], size_t *l
 int command_format(char **arguments)
 {
     size_t blocks, contents, length;
-    uint8_t uics[2 * (UICS_MOST + 1)];
+    uint8_t uics[2 * (ABZ_UICS_MOST + 1)];
 
     if (!read_decimal("BLOCKS", arguments[1], &blocks) || !read_decimal("CONTENTS", arguments[2], &contents)
         || !read_uics(arguments + 3, uics, &length))
         return STATUS_USAGE;
     if (!pack_begin(&pack, arguments[0], blocks))
         return STATUS_FAILED;
-    return finish("format", abz_format(pack.image, pack.length, FORM, blocks, contents, uics, length));
+    return finish("format", abz_format(pack.image, pack.length, ABZ_FORM, blocks, contents, uics, length));
 }
 
 /* ---- Files ---- */

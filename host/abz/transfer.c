@@ -15,10 +15,10 @@
 #include <string.h>
 #include <unistd.h>
 
-enum { PAYLOAD = 510 };
-
 static pack_file pack;
-static uint8_t bytes[PAYLOAD * BLOCKS_MOST]; /* more than the files of any pack hold: some blocks are the system's */
+
+/* Room for more than the files of any pack hold: some blocks are the system's. */
+static uint8_t bytes[ABZ_PAYLOAD_BYTES * ABZ_BLOCKS_MOST];
 static size_t length;
 
 static bool is_standard(const char *host)
@@ -47,8 +47,8 @@ static size_t add_all(size_t caller, file_name file)
 {
     size_t code = ABZ_OK;
 
-    for (size_t at = 0; at < length && code == ABZ_OK; at += PAYLOAD)
-        code = abz_linked_add(pack.image, pack.length, caller, FOUR(file), bytes + at, PAYLOAD).code;
+    for (size_t at = 0; at < length && code == ABZ_OK; at += ABZ_PAYLOAD_BYTES)
+        code = abz_linked_add(pack.image, pack.length, caller, FOUR(file), bytes + at, ABZ_PAYLOAD_BYTES).code;
     return code;
 }
 
@@ -85,8 +85,9 @@ static size_t read_all(size_t caller, file_name file)
 {
     size_t code;
 
-    for (length = 0; length < sizeof bytes; length += PAYLOAD) {
-        code = abz_linked_read(pack.image, pack.length, caller, FOUR(file), length / PAYLOAD, bytes + length, PAYLOAD);
+    for (length = 0; length < sizeof bytes; length += ABZ_PAYLOAD_BYTES) {
+        code = abz_linked_read(pack.image, pack.length, caller, FOUR(file), length / ABZ_PAYLOAD_BYTES,
+                               bytes + length, ABZ_PAYLOAD_BYTES);
         if (code != ABZ_OK)
             return code == ABZ_NO_BLOCK ? ABZ_OK : code;
     }

@@ -50,7 +50,7 @@ static void block_examples(void)
     EXPECT(abz_block_in(image, length, ME, freq.name1, freq.name2, freq.extension, 0, 0, bytes, BLOCK), 0);
     CHECK_BYTES(bytes, image + BLOCK * 2, BLOCK, "example: BLOCK input of place 0");
 
-    /* The 512 bytes of one block, and no others. */
+    /* The bytes of one block, and no others. */
     memcpy(pack, image, length);
     memcpy(pack + BLOCK * 3, filled, BLOCK);
     EXPECT(abz_block_out(image, length, ME, FILE4(freq), 1, filled, BLOCK), 0);
@@ -220,7 +220,7 @@ static void causes(void)
     }
 }
 
-/* Every size up to 1024, and those that are right in their low 16 bits. */
+/* Every size up to two blocks, and those that are right in their low 16 bits. */
 static void sizes(void)
 {
     static const size_t more[] = { 65535, 65536, 65535 + PAYLOAD, 65536 + PAYLOAD, 65535 + BLOCK, 65536 + BLOCK };
@@ -228,9 +228,9 @@ static void sizes(void)
     const size_t length = make_open(pack);
 
     for (size_t what = BLOCK_IN; what < ALLOC; what++)
-        for (size_t i = 0; i <= 1024 + COUNT(more); i++) {
+        for (size_t i = 0; i <= 2 * BLOCK + COUNT(more); i++) {
             request it = request_on(pack, what, entry_for(what), 0);
-            const size_t size = i <= 1024 ? i : more[i - 1025], code = size == it.buffer_len ? 0 : 041;
+            const size_t size = i <= 2 * BLOCK ? i : more[i - 2 * BLOCK - 1], code = size == it.buffer_len ? 0 : 041;
             it.buffer_len = size;
             memcpy(image, pack, length);
             CHECK_NUMBER(try_request("size", i, length, it), code, "size %zu", size);
@@ -239,7 +239,7 @@ static void sizes(void)
 
 /*
  * Files of every length a small pack can hold, at every place, behind their end, and at such as are in order in their
- * low bits, when multiplied by 512, or when the first block is added to them.
+ * low bits, when multiplied by the bytes of a block, or when the first block is added to them.
  */
 static void places(void)
 {
@@ -421,7 +421,7 @@ static void huge_everywhere(void)
 static void large_packs(void)
 {
     for (size_t pack = 0; pack < 3; pack++) {
-        size_t length = chance_pack(image, BLOCKS_MAX - pack, 8, 96);
+        size_t length = chance_pack(image, BLOCKS_MAX - pack, CONTENTS_MAX, 96);
         for (size_t i = 0; i < 60; i++)
             try_request("large pack", pack, length, chance_request(BLOCK_IN + i % (ALLOC - BLOCK_IN), image));
     }

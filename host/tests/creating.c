@@ -187,7 +187,7 @@ static void huge_everywhere(void)
 static void large_packs(void)
 {
     for (size_t pack = 0; pack < 3; pack++) {
-        size_t length = chance_pack(image, BLOCKS_MAX - pack, 8, 90);
+        size_t length = chance_pack(image, BLOCKS_MAX - pack, CONTENTS_MAX, 90);
         for (size_t i = 0; i < 40; i++)
             try_request("large pack", pack, length, chance_request(ALLOC + i % 2, image));
     }

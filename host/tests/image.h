@@ -1,6 +1,7 @@
 /*
  * Packs as document 01 describes them, with nothing taken from the library: put together entry by entry, judged, and
- * each block's owner told. The judgement is for reading beside document 01, so it is plain before it is quick.
+ * each block's owner told. The judgement is for reading beside document 01, so it is plain before it is quick. The
+ * measures are the header's, which pack.c holds to the numbers of document 01.
  */
 #ifndef IMAGE_H
 #define IMAGE_H
@@ -10,7 +11,14 @@
 #include <stdint.h>
 #include <string.h>
 
-enum { BLOCK = 512, BLOCK_WORDS = 256, ENTRY_WORDS = 16, BLOCK_ENTRIES = 16, BLOCKS_MAX = 1024, UICS_MAX = 64 };
+#include "abezolit.h"
+
+enum {
+    BLOCK = ABZ_BLOCK_BYTES, BLOCK_WORDS = BLOCK / 2, PAYLOAD = ABZ_PAYLOAD_BYTES, SEGMENTS = ABZ_BLOCK_SEGMENTS,
+    BLOCK_ENTRIES = ABZ_BLOCK_ENTRIES, ENTRY_WORDS = ABZ_ENTRY_BYTES / 2,
+    BLOCKS_MIN = ABZ_BLOCKS_LEAST, BLOCKS_MAX = ABZ_BLOCKS_MOST,
+    CONTENTS_MIN = ABZ_CONTENTS_LEAST, CONTENTS_MAX = ABZ_CONTENTS_MOST, UICS_MAX = ABZ_UICS_MOST
+};
 
 /* The words of block 0, and those of an entry. */
 enum { FORM, BLOCKS, CONTENTS, UICS, UIC_LIST };
@@ -162,12 +170,14 @@ static inline bool listed(const uint8_t *image, size_t uic)
 
 static inline bool header_right(const uint8_t *image, size_t length)
 {
-    if (length < BLOCK) /* n is 16 at least; and this much must be there to be read */
+    if (length < BLOCK) /* n is more than 1; and this much must be there to be read */
         return false;
 
     size_t n = get_word(image, BLOCKS), c = get_word(image, CONTENTS), u = get_word(image, UICS);
 
-    if (length != BLOCK * n || get_word(image, FORM) != 1 || n < 16 || n > 1024 || c < 1 || c > 8 || u > 64)
+    if (length != BLOCK * n || get_word(image, FORM) != ABZ_FORM || n < BLOCKS_MIN || n > BLOCKS_MAX)
+        return false;
+    if (c < CONTENTS_MIN || c > CONTENTS_MAX || u > UICS_MAX)
         return false;
     for (size_t i = 0; i < u; i++) {
         if (get_word(image, UIC_LIST + i) == 0)

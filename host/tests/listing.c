@@ -3,13 +3,15 @@
 
 #include <string.h>
 
+#include "abezolit.h"
 #include "check.h"
 #include "listing.h"
 
 enum {
-    BLOCK = 512,
+    BLOCK = ABZ_BLOCK_BYTES,
     WORDS = BLOCK / 2,
-    ENTRY = 16, /* words of an entry, and entries of a block */
+    ENTRY = ABZ_ENTRY_BYTES / 2, /* words */
+    FILES = ABZ_CONTENTS_MOST * ABZ_BLOCK_ENTRIES, /* the most that a pack has */
     LONGEST = 65536,
     ROOM = LONGEST + 3 * BLOCK
 };
@@ -207,17 +209,20 @@ static void other_lengths(void)
     }
 }
 
-/* Each entry of 8 blocks of contents has a file, so that the text is as long as it can be. */
+/*
+ * Each entry of the most blocks of contents has a file, so that the text is as long as it can be. Of the blocks those
+ * below FILES are taken.
+ */
 static void build_largest(size_t blocks, char *text)
 {
-    format(blocks, 8, 1, (size_t[]){ uic(2, 3) });
-    text += sprintf(text, "BLOCKS %05zu FREE %05zu\n", blocks, blocks - 128);
-    for (size_t e = 0; e < 128; e++) {
+    format(blocks, ABZ_CONTENTS_MOST, 1, (size_t[]){ uic(2, 3) });
+    text += sprintf(text, "BLOCKS %05zu FREE %05zu\n", blocks, blocks - FILES);
+    for (size_t e = 0; e < FILES; e++) {
         char name[16];
 
         sprintf(name, "N%05zuEXT", e);
-        if (e < 119) {
-            set_contiguous(e, name, uic(2, 3), 0, 127 - e, 1);
+        if (e < FILES - (1 + ABZ_CONTENTS_MOST)) {
+            set_contiguous(e, name, uic(2, 3), 0, FILES - 1 - e, 1);
             text += sprintf(text, "%.6s.EXT C 00001 [002,003] 000\n", name);
         } else {
             set_linked(e, name, uic(2, 3), 0, (size_t[]){ 0 });

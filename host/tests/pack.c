@@ -14,11 +14,12 @@ enum {
 
 #define COUNT(array) (sizeof(array) / sizeof *(array))
 
-/* Among them numbers that are in order in their low 16 or 32 bits, or when multiplied by 32 or 512. */
+/* Among them numbers that are in order in their low 16 or 32 bits, or when multiplied by a measure of the pack. */
 static const size_t huge[] = {
     65535, 65536, 65537, 65536 + 16, UINT32_MAX, (size_t)UINT32_MAX + 1, (size_t)UINT32_MAX + 2,
-    (size_t)UINT32_MAX + 17, SIZE_MAX / 512, SIZE_MAX / 512 + 1, SIZE_MAX / 512 + 2, SIZE_MAX / 512 + 17,
-    SIZE_MAX / 32 + 1, SIZE_MAX / 32 + 17, SIZE_MAX / 2, SIZE_MAX / 2 + 1, SIZE_MAX - 1, SIZE_MAX
+    (size_t)UINT32_MAX + 17, SIZE_MAX / BLOCK, SIZE_MAX / BLOCK + 1, SIZE_MAX / BLOCK + 2, SIZE_MAX / BLOCK + 17,
+    SIZE_MAX / ABZ_ENTRY_BYTES + 1, SIZE_MAX / ABZ_ENTRY_BYTES + 17, SIZE_MAX / 2, SIZE_MAX / 2 + 1, SIZE_MAX - 1,
+    SIZE_MAX
 };
 
 /* A lent slice has guards on both sides and is compared with them. What to expect is told from the kept copy. */
@@ -191,9 +192,9 @@ static bool format_right(size_t length, size_t form, size_t blocks, size_t conte
 {
     size_t u = uics_len / 2;
 
-    if (form != 1 || blocks < 16 || blocks > 1024 || contents < 1 || contents > 8 || length != BLOCK * blocks)
+    if (form != ABZ_FORM || blocks < BLOCKS_MIN || blocks > BLOCKS_MAX || length != BLOCK * blocks)
         return false;
-    if (uics_len % 2 == 1 || u > 64)
+    if (contents < CONTENTS_MIN || contents > CONTENTS_MAX || uics_len % 2 == 1 || u > UICS_MAX)
         return false;
     for (size_t i = 0; i < u; i++) {
         if (get_word(uics, i) == 0)
@@ -257,7 +258,7 @@ static void format_sizes(void)
 {
     fill_uics(66);
     for (size_t n = 0; n <= 1030; n++) {
-        size_t contents = 1 + n % 8, uics_len = 2 * (n % 65), right = BLOCK * n;
+        size_t contents = 1 + n % CONTENTS_MAX, uics_len = 2 * (n % (UICS_MAX + 1)), right = BLOCK * n;
         size_t wrong[] = { 0, n, right - 1, right + 1, right - BLOCK, right + BLOCK, right / 2, right % 65536 };
 
         if (try_format(right, 1, n, contents, uics_len))
@@ -270,7 +271,7 @@ static void format_sizes(void)
 
 static void format_counts(void)
 {
-    static const size_t sizes[] = { 15, 16, 17, 100, 1024, 1025 };
+    static const size_t sizes[] = { BLOCKS_MIN - 1, BLOCKS_MIN, BLOCKS_MIN + 1, 100, BLOCKS_MAX, BLOCKS_MAX + 1 };
 
     fill_uics(66);
     for (size_t contents = 0; contents <= 10; contents++)
@@ -292,7 +293,7 @@ static void format_uics(void)
 {
     static const size_t near[] = { 1, 2, 0x0100, 0x0101, 0x0201, 0x0102, 0x7FFF, 0x8000, 0xFF00, 0x00FF, 0xFFFF };
 
-    for (size_t u = 1; u <= 64; u += 21)
+    for (size_t u = 1; u <= UICS_MAX; u += 21)
         for (size_t i = 0; i < u; i++) {
             fill_uics(u);
             set_word(uics, i, 0);
@@ -309,8 +310,8 @@ static void format_uics(void)
     CHECK_NUMBER(try_format(BLOCK * 16, 1, 16, 1, 2 * COUNT(near)), true, "format with UICs that are alike in a byte");
 
     /* What lies behind the list does not matter, whether it is 0 or a UIC again. */
-    for (size_t u = 0; u < 64; u++) {
-        fill_uics(64);
+    for (size_t u = 0; u < UICS_MAX; u++) {
+        fill_uics(UICS_MAX);
         set_word(uics, u, u ? get_word(uics, 0) : 0);
         CHECK_NUMBER(try_format(BLOCK * 16, 1, 16, 1, 2 * u), true, "format with a wrong UIC behind %zu", u);
     }
@@ -449,18 +450,18 @@ static void headers(void)
         users[i] = 65535 - i;
     for (size_t n = 0; n <= BLOCKS_MAX + 6; n++) {
         call_it("empty pack of blocks", n);
-        expect_verdict(make_pack(image, n, 1, users, 1), n >= 16 && n <= 1024);
+        expect_verdict(make_pack(image, n, 1, users, 1), n >= BLOCKS_MIN && n <= BLOCKS_MAX);
     }
     for (size_t c = 0; c <= 20; c++) {
         call_it("empty pack with contents", c);
-        expect_verdict(make_pack(image, 21, c, users, 1), c >= 1 && c <= 8);
+        expect_verdict(make_pack(image, 21, c, users, 1), c >= CONTENTS_MIN && c <= CONTENTS_MAX);
     }
     for (size_t u = 0; u <= COUNT(users); u++) {
         call_it("empty pack with UICs", u);
-        expect_verdict(make_pack(image, 16, 1, users, u), u <= 64);
+        expect_verdict(make_pack(image, 16, 1, users, u), u <= UICS_MAX);
     }
-    for (size_t i = 0; i < 64; i++) {
-        size_t length = make_pack(image, 16, 1, users, 64);
+    for (size_t i = 0; i < UICS_MAX; i++) {
+        size_t length = make_pack(image, 16, 1, users, UICS_MAX);
         call_it("empty pack with a wrong UIC", i);
         set_word(image, UIC_LIST + i, 0);
         expect_verdict(length, false);
@@ -477,13 +478,13 @@ static void made_packs(void)
     size_t list[BLOCKS_MAX], length;
 
     call_it("no users", 0);
-    expect_image(make_pack(image, 16, 8, NULL, 0), true);
+    expect_image(make_pack(image, 16, CONTENTS_MAX, NULL, 0), true);
 
     call_it("small pack", 0);
     expect_image(make_small(), true);
 
     /* Every entry used, with files that differ in one part only. */
-    for (size_t c = 1; c <= 8; c++) {
+    for (size_t c = 1; c <= CONTENTS_MAX; c++) {
         length = make_pack(image, 16, c, users, COUNT(users));
         for (size_t entry = 0; entry < BLOCK_ENTRIES * c; entry++) {
             static const char names[][7] = { "A     ", "B     ", "A0    ", "ABC   ", "ABCA  ", "ABCDEF", "0     " };
@@ -495,7 +496,7 @@ static void made_packs(void)
     }
 
     /* One file that has all bodies: one extent, a chain upwards, a chain downwards. */
-    for (size_t n = 16; n <= 1024; n += 252) {
+    for (size_t n = BLOCKS_MIN; n <= BLOCKS_MAX; n += 252) {
         size_t c = n / 252 + 1, bodies = n - c - 1;
         for (size_t i = 0; i < bodies; i++)
             list[i] = c + 1 + i;
@@ -984,10 +985,25 @@ static void damaged_packs(void)
 static void large_packs(void)
 {
     for (size_t pack = 0; pack < 4; pack++) {
-        size_t length = chance_pack(image, BLOCKS_MAX - pack % 2, 8, pack < 2 ? 128 : 100);
+        size_t length = chance_pack(image, BLOCKS_MAX - pack % 2, CONTENTS_MAX, pack < 2 ? 128 : 100);
         call_it("large pack by chance", pack);
         expect_image(length, true);
     }
+}
+
+/* The measures that the header names are the numbers of document 01. */
+static void header_numbers(void)
+{
+    static const struct {
+        size_t named, number;
+    } numbers[] = {
+        { ABZ_FORM, 1 },           { ABZ_BLOCK_BYTES, 512 },   { ABZ_PAYLOAD_BYTES, 510 }, { ABZ_BLOCK_SEGMENTS, 4 },
+        { ABZ_BLOCKS_LEAST, 16 },  { ABZ_BLOCKS_MOST, 1024 },  { ABZ_CONTENTS_LEAST, 1 },  { ABZ_CONTENTS_MOST, 8 },
+        { ABZ_BLOCK_ENTRIES, 16 }, { ABZ_ENTRY_BYTES, 32 },    { ABZ_UICS_MOST, 64 },
+    };
+
+    for (size_t i = 0; i < COUNT(numbers); i++)
+        CHECK_NUMBER(numbers[i].named, numbers[i].number, "header number %zu", i);
 }
 
 int main(void)
@@ -995,6 +1011,7 @@ int main(void)
     for (size_t i = 0; i < sizeof filling; i++)
         filling[i] = (uint8_t)(i * 31 + i / 256 * 7 + 0xA5);
 
+    header_numbers();
     example();
     format_sizes();
     format_counts();

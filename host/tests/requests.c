@@ -173,7 +173,7 @@ static void huge_everywhere(void)
 static void large_packs(void)
 {
     for (size_t pack = 0; pack < 3; pack++) {
-        size_t length = chance_pack(image, BLOCKS_MAX - pack, 8, 96);
+        size_t length = chance_pack(image, BLOCKS_MAX - pack, CONTENTS_MAX, 96);
         ease(image);
         for (size_t i = 0; i < 60; i++) {
             request it = chance_request(i % BLOCK_IN, image);

@@ -13,7 +13,7 @@
 #define COUNT(array) (sizeof(array) / sizeof *(array))
 
 enum { GUARD = 16, ROOM = BLOCK * BLOCKS_MAX, CODES = 0100 };
-enum { PAYLOAD = BLOCK - 2, BUFFER_ROOM = 65536 + BLOCK }; /* so that a size can be wrong in its high bits alone */
+enum { BUFFER_ROOM = 65536 + BLOCK }; /* so that a size can be wrong in its high bits alone */
 enum { ME = 023 * 256 + 010, GROUP = 023 * 256 + 011, OTHER = 012 * 256 + 04 };
 
 /* From BLOCK_IN they move bodies and have a buffer, from ALLOC they create; those before need a file that is there. */
@@ -36,11 +36,11 @@ typedef struct {
     size_t buffer_len; /* 0 where there is no buffer */
 } request;
 
-/* Among them numbers that are in order in their low 16 or 32 bits, or when multiplied by 4, 32 or 512. */
+/* Among them numbers that are in order in their low 16 or 32 bits, or when multiplied by a measure of the pack. */
 static const size_t huge[] = {
-    65535, 65536, 65537, 65536 + 16, UINT32_MAX, (size_t)UINT32_MAX + 1, (size_t)UINT32_MAX + 2, SIZE_MAX / 512 + 1,
-    SIZE_MAX / 512 + 17, SIZE_MAX / 32 + 1, SIZE_MAX / 4, SIZE_MAX / 4 + 1, SIZE_MAX / 4 + 2, SIZE_MAX / 2,
-    SIZE_MAX / 2 + 1, SIZE_MAX - 3, SIZE_MAX - 2, SIZE_MAX - 1, SIZE_MAX
+    65535, 65536, 65537, 65536 + 16, UINT32_MAX, (size_t)UINT32_MAX + 1, (size_t)UINT32_MAX + 2, SIZE_MAX / BLOCK + 1,
+    SIZE_MAX / BLOCK + 17, SIZE_MAX / ABZ_ENTRY_BYTES + 1, SIZE_MAX / SEGMENTS, SIZE_MAX / SEGMENTS + 1,
+    SIZE_MAX / SEGMENTS + 2, SIZE_MAX / 2, SIZE_MAX / 2 + 1, SIZE_MAX - 3, SIZE_MAX - 2, SIZE_MAX - 1, SIZE_MAX
 };
 
 /* ---- Document 01 ---- */
@@ -186,7 +186,7 @@ static inline abz_answer model(uint8_t *image, size_t length, uint8_t *buffer, c
     const file_key key = meant(it->file, caller);
     const file one = file_of(image, key);
     const size_t may = rights(caller, one), empty = empty_entry(image);
-    size_t start = 0, needed = it->segments / 4 + (it->segments % 4 != 0);
+    size_t start = 0, needed = it->segments / SEGMENTS + (it->segments % SEGMENTS != 0);
     file_key second_key = it->second;
     file two = { 0 };
 

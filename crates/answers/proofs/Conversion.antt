@@ -11,7 +11,8 @@ use lib.ListN.{length}
 use borrow.Author.Tests.{eq-eqb, ne-eqb}
 use Rattle.answers.proofs.Refusals.{refusal-is}
 use Rattle.answers.specs.Refusals.{tableOrder, inOrder, firstOf, onSuccess, answered, lent}
-use Rattle.answers.specs.Conversion.{orElse, conversionRows, toNumber, Written, toCharacters}
+use Rattle.answers.specs.Missing.{orElse}
+use Rattle.answers.specs.Conversion.{conversionRows, toNumber, Converted, toCharacters}
 
 -- 41 stands before 60 in the table
 pub conversion-ordered : {A : Type 0} (size : ℕ) (bytes : List ℕ) (result : Option A) → inOrder tableOrder 0 (conversionRows size bytes result) ≡ true
@@ -142,7 +143,7 @@ characters-refused size characters number buffer refused =
     refusal-is (orElse buffer (characters number)) buffer refused
 
 -- an answer of characters in its two parts, as a call gives them
-pub in-parts : {result : Written} {code : ℕ} {buffer : List ℕ} → result ≡ record { code = code; buffer = buffer } → (code ≡ result .code) × (buffer ≡ result .buffer)
+pub in-parts : {result : Converted} {code : ℕ} {buffer : List ℕ} → result ≡ record { code = code; buffer = buffer } → (code ≡ result .code) × (buffer ≡ result .buffer)
 in-parts is = (sym (ap (λ r. r .code) is), sym (ap (λ r. r .buffer) is))
 
 -- A pair of conversions: characters of the size convert to a number exactly if that number converts to them.

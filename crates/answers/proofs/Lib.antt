@@ -1,4 +1,5 @@
 -- The laws of answers.
 pub mod Refusals
+pub mod RefusalsTests
 pub mod Conversion
 pub mod Missing

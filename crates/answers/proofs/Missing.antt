@@ -5,7 +5,7 @@ use mathlib.Core.Bool.{false, not, true}
 use mathlib.Core.Option.{Option, none, some}
 use mathlib.Core.Logic.{_↔_}
 use native.Mathlib.Omega.{arith}
-use Rattle.answers.specs.Conversion.{missing, orElse}
+use Rattle.answers.specs.Missing.{missing, orElse}
 
 pub present : (o : Option ℕ) → missing o ≡ false → o ≡ some (orElse 0 o)
 present none is = let z : _≡_ {A = ℕ} 0 1 = cc in absurd (omega arith)

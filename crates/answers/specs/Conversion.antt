@@ -1,22 +1,13 @@
--- What may be missing; and a conversion, either way: characters to a number, and a number to characters in a lent buffer.
+-- A conversion, either way: characters to a number, and a number to characters in a lent buffer.
 use Prim.Native.Nat.{ℕ}
-use mathlib.Core.Bool.{Bool, true, false, not}
+use mathlib.Core.Bool.{not}
 use mathlib.Core.List.{List, [], _∷_}
-use mathlib.Core.Option.{Option, none, some}
+use mathlib.Core.Option.{Option}
 use lib.Dec.{eqb}
 use lib.ListN.{length}
 use Rattle.answers.specs.declared.Answer.{Answer}
 use Rattle.answers.specs.Refusals.{Row, row, firstOf, answered, lent}
-
--- is there nothing?
-abbrev pub missing : {A : Type 0} → Option A → Bool
-missing none = true
-missing (some a) = false
-
--- what there is, or another thing
-abbrev pub orElse : {A : Type 0} → A → Option A → A
-orElse other none = other
-orElse other (some a) = a
+use Rattle.answers.specs.Missing.{missing, orElse}
 
 -- "Character buffers are of exactly 3, 5 or 6 bytes, else 41." "60: a conversion's input is not of its set, or too large."
 -- The table has 41 before 60. `size` is the number of bytes asked, `result` what the input converts to, if it does.
@@ -28,11 +19,11 @@ unfoldable pub toNumber : ℕ → (List ℕ → Option ℕ) → List ℕ → Ans
 toNumber size number characters = answered (conversionRows size characters (number characters)) (orElse 0 (number characters))
 
 -- the code, and what the lent buffer then holds
-pub record Written : Type 0 where
+pub record Converted : Type 0 where
   pub code : ℕ
   pub buffer : List ℕ
 
-unfoldable pub toCharacters : ℕ → (ℕ → Option (List ℕ)) → ℕ → List ℕ → Written
+unfoldable pub toCharacters : ℕ → (ℕ → Option (List ℕ)) → ℕ → List ℕ → Converted
 toCharacters size characters number buffer =
     record {
       code = firstOf (conversionRows size buffer (characters number));

@@ -1,3 +1,4 @@
--- What every call's answer obeys: refusals in their order, and the two ways of a conversion.
+-- What every call's answer obeys: refusals in their order, what may be missing, and the two ways of a conversion.
 pub mod Refusals
+pub mod Missing
 pub mod Conversion

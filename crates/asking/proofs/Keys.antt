@@ -7,19 +7,19 @@ use mathlib.Core.List.{List}
 use mathlib.Core.Option.{Option, none, some}
 use native.Mathlib.Omega.{arith}
 use native.Mathlib.Decide.{ℕ-discrete, decLt}
-use lib.Dec.{eqb}
-use borrow.Author.Tests.{eq-eqb, ne-eqb, eqb-true}
-use Rattle.radix.specs.Names.{LegalName, LegalExtension, legalName, legalExtension}
+use borrow.Author.Tests.{eq-eqb, ne-eqb}
+use Rattle.radix.specs.Names.{LegalName, LegalExtension}
+use Rattle.radix.specs.NamesTest.{legalName, legalExtension}
 use Rattle.radix.proofs.Names.{name-iff, extension-iff, name-not-zero}
 use Rattle.pack.specs.declared.Geometry.{Geometry}
-use Rattle.pack.specs.declared.Entry.{Entry}
 use Rattle.pack.specs.declared.Key.{Key}
 use Rattle.pack.specs.Geometry.{geometryOf, slots}
 use Rattle.pack.specs.Entry.{entryOf, Empty, Used, RightEntry}
 use Rattle.pack.specs.Consistent.{Consistent}
-use Rattle.pack.specs.Untouched.{Keyed}
-use Rattle.pack.proofs.Tests.{and-left, and-right, and-both, go-on, stop, true-not-false}
-use Rattle.asking.specs.Keys.{keyOf, legalKey, matches, findFrom, found}
+use Rattle.pack.specs.Key.{keyIn, SameKey, sameKey}
+use Rattle.pack.proofs.KeySame.{same-key-iff}
+use Rattle.answers.proofs.RefusalsTests.{and-left, and-right, and-both, go-on, stop, true-not-false}
+use Rattle.asking.specs.Keys.{keyOf, legalKey, findFrom, found}
 
 -- UIC 0 is the caller's
 module _ (caller name1 name2 extension uic : ℕ) where
@@ -47,53 +47,18 @@ pub legal-then : (key : Key) (answer : Bool) → legalName (key .name1) (key .na
 unfolding legalKey
 legal-then key answer h e = go-on h e
 
--- a match, word by word
-pub matches-iff : (key : Key) (x : Entry) → matches key x ≡ true ↔ Keyed key x
-unfolding matches
-matches-iff key x = (
-  λ t.
-      let a = and-right (eqb (x .name1) (key .name1)) _ t in
-      let b = and-right (eqb (x .name2) (key .name2)) _ a in
-      record {
-        name1 = eqb-true _ _ (and-left (eqb (x .name1) (key .name1)) _ t);
-        name2 = eqb-true _ _ (and-left (eqb (x .name2) (key .name2)) _ a);
-        extension = eqb-true _ _ (and-left (eqb (x .extension) (key .extension)) _ b);
-        uic = eqb-true _ _ (and-right (eqb (x .extension) (key .extension)) _ b);
-      },
-  λ k. and-both (eq-eqb _ _ (k .name1)) (and-both (eq-eqb _ _ (k .name2)) (and-both (eq-eqb _ _ (k .extension)) (eq-eqb _ _ (k .uic)))),
-)
-
-module _ (key : Key) (x : Entry) where
-  pub other-name1 : (x .name1 ≡ key .name1 → ⊥) → false ≡ matches key x
-  unfolding matches
-  other-name1 h = stop _ _ (ne-eqb _ _ h)
-
-  module _ (a : x .name1 ≡ key .name1) where
-    pub other-name2 : (x .name2 ≡ key .name2 → ⊥) → false ≡ matches key x
-    unfolding matches
-    other-name2 h = go-on (eq-eqb _ _ a) (stop _ _ (ne-eqb _ _ h))
-
-    module _ (b : x .name2 ≡ key .name2) where
-      pub other-extension : (x .extension ≡ key .extension → ⊥) → false ≡ matches key x
-      unfolding matches
-      other-extension h = go-on (eq-eqb _ _ a) (go-on (eq-eqb _ _ b) (stop _ _ (ne-eqb _ _ h)))
-
-      pub by-uic : x .extension ≡ key .extension → eqb (x .uic) (key .uic) ≡ matches key x
-      unfolding matches
-      by-uic h = go-on (eq-eqb _ _ a) (go-on (eq-eqb _ _ b) (go-on (eq-eqb _ _ h) refl))
-
 -- finding, step by step: among the entries that are left
 module _ (img : List ℕ) (g : Geometry) (key : Key) (e t : ℕ) (less : e < t) where
   left : t - e ≡ suc (t - (e + 1))
   left = omega arith
 
-  pub find-here : (x : Entry) → x ≡ entryOf img g e → matches key x ≡ true → findFrom img g key e (t - e) ≡ some e
+  pub find-here : (k : Key) → k ≡ keyIn (entryOf img g e) → sameKey k key ≡ true → findFrom img g key e (t - e) ≡ some e
   unfolding findFrom
-  find-here x is m = ap (findFrom img g key e) left ∙ rw (rw is at m)
+  find-here k is m = ap (findFrom img g key e) left ∙ rw (rw is at m)
 
-  pub find-next : (x : Entry) → x ≡ entryOf img g e → matches key x ≡ false → findFrom img g key e (t - e) ≡ findFrom img g key (e + 1) (t - (e + 1))
+  pub find-next : (k : Key) → k ≡ keyIn (entryOf img g e) → sameKey k key ≡ false → findFrom img g key e (t - e) ≡ findFrom img g key (e + 1) (t - (e + 1))
   unfolding findFrom
-  find-next x is m = ap (findFrom img g key e) left ∙ rw (rw is at m)
+  find-next k is m = ap (findFrom img g key e) left ∙ rw (rw is at m)
 
 pub find-end : (img : List ℕ) (g : Geometry) (key : Key) (e t : ℕ) → t ≤ e → findFrom img g key e (t - e) ≡ none
 unfolding findFrom
@@ -103,63 +68,53 @@ find-end img g key e t over = let none-left : t - e ≡ 0 = omega arith in ap (f
 pub record FoundAt (img : List ℕ) (g : Geometry) (key : Key) (e k i : ℕ) : Type 0 where
   pub low : e ≤ i
   pub high : i < e + k
-  pub keyed : Keyed key (entryOf img g i)
+  pub keyed : SameKey (keyIn (entryOf img g i)) key
 
 pub found-keyed : (img : List ℕ) (g : Geometry) (key : Key) (e k i : ℕ) → findFrom img g key e k ≡ some i → FoundAt img g key e k i
 unfolding findFrom
 found-keyed img g key e zero i is = let z : _≡_ {A = ℕ} 0 1 = cc in absurd (omega arith)
-found-keyed img g key e (suc k) i is = by (matches key (entryOf img g e)) refl (found-keyed img g key (e + 1) k i)
+found-keyed img g key e (suc k) i is = by (sameKey (keyIn (entryOf img g e)) key) refl (found-keyed img g key (e + 1) k i)
   where
-    by : (b : Bool) → matches key (entryOf img g e) ≡ b → (findFrom img g key (e + 1) k ≡ some i → FoundAt img g key (e + 1) k i) → FoundAt img g key e (suc k) i
+    by : (b : Bool) → sameKey (keyIn (entryOf img g e)) key ≡ b → (findFrom img g key (e + 1) k ≡ some i → FoundAt img g key (e + 1) k i) → FoundAt img g key e (suc k) i
     by true m later =
         let at : _≡_ {A = Option ℕ} (some e) (some i) = rw m at is in
         let same : e ≡ i = cc in
-        record { low = omega arith; high = omega arith; keyed = subst (λ (j : ℕ). Keyed key (entryOf img g j)) same (matches-iff key (entryOf img g e) .0 m) }
+        record { low = omega arith; high = omega arith; keyed = subst (λ (j : ℕ). SameKey (keyIn (entryOf img g j)) key) same (same-key-iff (keyIn (entryOf img g e)) key .0 m) }
     by false m later =
         let f = later (rw m at is) in
         record { low = omega (arith, f .low); high = omega (arith, f .high); keyed = f .keyed }
 
 -- where nothing was found no entry has the key
-pub none-keyed : (img : List ℕ) (g : Geometry) (key : Key) (e k : ℕ) → findFrom img g key e k ≡ none → (i : ℕ) → e ≤ i → i < e + k → Keyed key (entryOf img g i) → ⊥
+pub none-keyed : (img : List ℕ) (g : Geometry) (key : Key) (e k : ℕ) → findFrom img g key e k ≡ none → (i : ℕ) → e ≤ i → i < e + k → SameKey (keyIn (entryOf img g i)) key → ⊥
 unfolding findFrom
 none-keyed img g key e zero is i low high m = absurd (omega arith)
-none-keyed img g key e (suc k) is i low high m = by (matches key (entryOf img g e)) refl (none-keyed img g key (e + 1) k) (ℕ-discrete e i)
+none-keyed img g key e (suc k) is i low high m = by (sameKey (keyIn (entryOf img g e)) key) refl (none-keyed img g key (e + 1) k) (ℕ-discrete e i)
   where
-    by : (b : Bool) → matches key (entryOf img g e) ≡ b
-        → (findFrom img g key (e + 1) k ≡ none → (j : ℕ) → e + 1 ≤ j → j < e + 1 + k → Keyed key (entryOf img g j) → ⊥)
+    by : (b : Bool) → sameKey (keyIn (entryOf img g e)) key ≡ b
+        → (findFrom img g key (e + 1) k ≡ none → (j : ℕ) → e + 1 ≤ j → j < e + 1 + k → SameKey (keyIn (entryOf img g j)) key → ⊥)
         → Dec (e ≡ i) → ⊥
     by true t later d = let at : _≡_ {A = Option ℕ} (some e) none = rw t at is in let z : _≡_ {A = ℕ} 0 1 = cc in omega arith
-    by false t later (yes same) = true-not-false (sym (matches-iff key (entryOf img g e) .1 (subst (λ (j : ℕ). Keyed key (entryOf img g j)) (sym same) m)) ∙ t)
+    by false t later (yes same) = true-not-false (sym (same-key-iff (keyIn (entryOf img g e)) key .1 (subst (λ (j : ℕ). SameKey (keyIn (entryOf img g j)) key) (sym same) m)) ∙ t)
     by false t later (no other) = later (rw t at is) i (omega (arith, other)) (omega arith) m
 
 -- an entry of a legal key is in use
-pub not-empty : (img : List ℕ) (g : Geometry) (key : Key) (e : ℕ) → legalKey key ≡ true → Keyed key (entryOf img g e) → Empty img g e → ⊥
+pub not-empty : (img : List ℕ) (g : Geometry) (key : Key) (e : ℕ) → legalKey key ≡ true → SameKey (keyIn (entryOf img g e)) key → Empty img g e → ⊥
 unfolding entryOf
 not-empty img g key e legal k empty = name-not-zero _ _ (legal-iff key .0 legal .0) (sym (k .name1) ∙ empty .zero 0 (omega arith))
 
-pub keyed-used : (img : List ℕ) (g : Geometry) (key : Key) (e : ℕ) → legalKey key ≡ true → Keyed key (entryOf img g e) → RightEntry img g e → Used img g e (entryOf img g e)
+pub keyed-used : (img : List ℕ) (g : Geometry) (key : Key) (e : ℕ) → legalKey key ≡ true → SameKey (keyIn (entryOf img g e)) key → RightEntry img g e → Used img g e (entryOf img g e)
 keyed-used img g key e legal keyed (inl empty) = absurd (not-empty img g key e legal keyed empty)
 keyed-used img g key e legal keyed (inr used) = used
 
--- two keys of one entry
-pub key-single : {key key′ : Key} {x : Entry} → Keyed key x → Keyed key′ x → key′ ≡ key
-key-single k k′ =
-    λ i. record {
-      name1 = (sym (k′ .name1) ∙ k .name1) i;
-      name2 = (sym (k′ .name2) ∙ k .name2) i;
-      extension = (sym (k′ .extension) ∙ k .extension) i;
-      uic = (sym (k′ .uic) ∙ k .uic) i;
-    }
-
 -- of a legal key at most one entry of a consistent image has it
 module _ {img : List ℕ} (right : Consistent img) (key : Key) (legal : legalKey key ≡ true) where
-  at-most : (e f : ℕ) → e < f → f < slots (geometryOf img) → Keyed key (entryOf img (geometryOf img) e) → Keyed key (entryOf img (geometryOf img) f) → ⊥
+  at-most : (e f : ℕ) → e < f → f < slots (geometryOf img) → SameKey (keyIn (entryOf img (geometryOf img) e)) key → SameKey (keyIn (entryOf img (geometryOf img) f)) key → ⊥
   at-most e f less inside k l =
       right .differ e f less inside (not-empty img (geometryOf img) key e legal k)
       (record { name1 = k .name1 ∙ sym (l .name1); name2 = k .name2 ∙ sym (l .name2); extension = k .extension ∙ sym (l .extension); uic = k .uic ∙ sym (l .uic) })
 
   pub one-entry : (e f : ℕ) → e < slots (geometryOf img) → f < slots (geometryOf img)
-      → Keyed key (entryOf img (geometryOf img) e) → Keyed key (entryOf img (geometryOf img) f) → e ≡ f
+      → SameKey (keyIn (entryOf img (geometryOf img) e)) key → SameKey (keyIn (entryOf img (geometryOf img) f)) key → e ≡ f
   one-entry e f inside within k l = by (decLt e f) (decLt f e)
     where
       by : Dec (e < f) → Dec (f < e) → e ≡ f
@@ -168,22 +123,28 @@ module _ {img : List ℕ} (right : Consistent img) (key : Key) (legal : legalKey
       by (no low) (no high) = omega arith
 
   -- found exactly if an entry has the key, and then that entry
-  pub found-iff : (e : ℕ) → found img key ≡ some e ↔ ((e < slots (geometryOf img)) × Keyed key (entryOf img (geometryOf img) e))
+  pub found-iff : (e : ℕ) → found img key ≡ some e ↔ ((e < slots (geometryOf img)) × SameKey (keyIn (entryOf img (geometryOf img) e)) key)
   unfolding found
-  found-iff e = (λ is. let f = found-keyed img (geometryOf img) key 0 (slots (geometryOf img)) e is in (omega (arith, f .high), f .keyed), λ h. there h (findFrom img (geometryOf img) key 0 (slots (geometryOf img))) refl)
+  found-iff e = (
+    λ is. let f = found-keyed img (geometryOf img) key 0 (slots (geometryOf img)) e is in (omega (arith, f .high), f .keyed),
+    λ h. there h (findFrom img (geometryOf img) key 0 (slots (geometryOf img))) refl,
+  )
     where
-      there : (e < slots (geometryOf img)) × Keyed key (entryOf img (geometryOf img) e) → (o : Option ℕ) → findFrom img (geometryOf img) key 0 (slots (geometryOf img)) ≡ o
+      there : (e < slots (geometryOf img)) × SameKey (keyIn (entryOf img (geometryOf img) e)) key → (o : Option ℕ) → findFrom img (geometryOf img) key 0 (slots (geometryOf img)) ≡ o
           → findFrom img (geometryOf img) key 0 (slots (geometryOf img)) ≡ some e
       there h none is = absurd (none-keyed img (geometryOf img) key 0 (slots (geometryOf img)) is e (omega arith) (omega (arith, h .0)) (h .1))
       there h (some f) is =
           let k = found-keyed img (geometryOf img) key 0 (slots (geometryOf img)) f is in
           is ∙ ap some (one-entry f e (omega (arith, k .high)) (h .0) (k .keyed) (h .1))
 
-  pub absent-iff : found img key ≡ none ↔ ((e : ℕ) → e < slots (geometryOf img) → Keyed key (entryOf img (geometryOf img) e) → ⊥)
+  pub absent-iff : found img key ≡ none ↔ ((e : ℕ) → e < slots (geometryOf img) → SameKey (keyIn (entryOf img (geometryOf img) e)) key → ⊥)
   unfolding found
-  absent-iff = (λ is e inside. none-keyed img (geometryOf img) key 0 (slots (geometryOf img)) is e (omega arith) (omega arith), λ never. nowhere never (findFrom img (geometryOf img) key 0 (slots (geometryOf img))) refl)
+  absent-iff = (
+    λ is e inside. none-keyed img (geometryOf img) key 0 (slots (geometryOf img)) is e (omega arith) (omega arith),
+    λ never. nowhere never (findFrom img (geometryOf img) key 0 (slots (geometryOf img))) refl,
+  )
     where
-      nowhere : ((e : ℕ) → e < slots (geometryOf img) → Keyed key (entryOf img (geometryOf img) e) → ⊥) → (o : Option ℕ) → findFrom img (geometryOf img) key 0 (slots (geometryOf img)) ≡ o
+      nowhere : ((e : ℕ) → e < slots (geometryOf img) → SameKey (keyIn (entryOf img (geometryOf img) e)) key → ⊥) → (o : Option ℕ) → findFrom img (geometryOf img) key 0 (slots (geometryOf img)) ≡ o
           → findFrom img (geometryOf img) key 0 (slots (geometryOf img)) ≡ none
       nowhere never none is = is
       nowhere never (some e) is = let k = found-keyed img (geometryOf img) key 0 (slots (geometryOf img)) e is in absurd (never e (omega (arith, k .high)) (k .keyed))

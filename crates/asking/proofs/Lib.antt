@@ -1,8 +1,10 @@
 -- The laws of keys and finding, of rights, opens, outcomes and stages, and of words written into an entry.
 pub mod Keys
-pub mod Legal
+pub mod KeysLegal
 pub mod Rights
 pub mod Outcome
-pub mod Stage
+pub mod AskedStage
 pub mod Opens
-pub mod Writing
+pub mod AskedCleared
+pub mod AccessRows
+pub mod AccessStage

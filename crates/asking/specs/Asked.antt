@@ -1,17 +1,15 @@
--- The stages of a request on a file: the rows of the first (a consistent image, a legal name, right arguments, the file's entry), and what a stage answers.
+-- The file that a request names: the rows of the first stage (a consistent image, a legal name, right arguments, the file's entry), and the entry.
 use Prim.Native.Nat.{ℕ}
 use mathlib.Core.Bool.{Bool, not}
 use mathlib.Core.List.{List, [], _∷_}
-use Rattle.answers.specs.Refusals.{Row, row, firstOf, onSuccess}
-use Rattle.answers.specs.Conversion.{missing, orElse}
+use Rattle.answers.specs.Refusals.{Row, row}
+use Rattle.answers.specs.Missing.{missing, orElse}
 use Rattle.pack.specs.declared.Entry.{Entry}
 use Rattle.pack.specs.declared.Key.{Key}
 use Rattle.pack.specs.Geometry.{geometryOf}
 use Rattle.pack.specs.Entry.{entryOf}
-use Rattle.consistency.specs.Test.{consistent}
+use Rattle.consistency.specs.ConsistentTest.{consistent}
 use Rattle.asking.specs.Keys.{legalKey, found}
-use Rattle.asking.specs.declared.Asked.{Asked}
-use Rattle.asking.specs.declared.Asked.the-variants.{File, Refused}
 
 -- "40: image not consistent", "15: a name or extension is not legal", "41: argument: ..", "2: .. absent", in the order of the table.
 -- `wrong` says that an argument of the request is wrong; a request without such an argument says false.
@@ -25,11 +23,3 @@ entryNo img key = orElse 0 (found img key)
 
 unfoldable pub fileOf : List ℕ → Key → Entry
 fileOf img key = entryOf img (geometryOf img) (entryNo img key)
-
--- what a stage answers: the file, or the code of the first row that refuses
-unfoldable pub stageOf : List Row → List ℕ → Key → Asked
-stageOf rows img key = onSuccess (firstOf rows) (File (geometryOf img) (entryNo img key) (fileOf img key)) (Refused (firstOf rows))
-
--- the first stage's answer
-abbrev pub askedOf : List ℕ → Key → Bool → Asked
-askedOf img key wrong = stageOf (fileRows img key wrong) img key

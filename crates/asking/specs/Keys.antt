@@ -4,14 +4,12 @@ use mathlib.Core.Bool.{Bool, cond, _&&_}
 use mathlib.Core.List.{List}
 use mathlib.Core.Option.{Option, none, some}
 use lib.Dec.{eqb}
-use Rattle.radix.specs.Names.{legalName, legalExtension}
+use Rattle.radix.specs.NamesTest.{legalName, legalExtension}
 use Rattle.pack.specs.declared.Geometry.{Geometry}
-use Rattle.pack.specs.declared.Entry.{Entry}
 use Rattle.pack.specs.declared.Key.{Key}
 use Rattle.pack.specs.Geometry.{geometryOf, slots}
+use Rattle.pack.specs.Key.{keyIn, sameKey}
 use Rattle.pack.specs.Entry.{entryOf}
-use Rattle.asking.specs.declared.Found.{Found}
-use Rattle.asking.specs.declared.Found.the-variants.{At, Nothing}
 
 -- "UIC 0 in a request means the caller's."
 unfoldable pub keyOf : ℕ → ℕ → ℕ → ℕ → ℕ → Key
@@ -21,19 +19,11 @@ keyOf caller name1 name2 extension uic = record { name1 = name1; name2 = name2; 
 unfoldable pub legalKey : Key → Bool
 legalKey key = legalName (key .name1) (key .name2) && legalExtension (key .extension)
 
--- an entry of the key's name, extension and UIC
-unfoldable pub matches : Key → Entry → Bool
-matches key x = eqb (x .name1) (key .name1) && (eqb (x .name2) (key .name2) && (eqb (x .extension) (key .extension) && eqb (x .uic) (key .uic)))
-
 -- the first of `k` entries from e on that has the key
 unfoldable pub findFrom : List ℕ → Geometry → Key → ℕ → ℕ → Option ℕ
 findFrom img g key e zero = none
-findFrom img g key e (suc k) = cond (matches key (entryOf img g e)) (some e) (findFrom img g key (e + 1) k)
+findFrom img g key e (suc k) = cond (sameKey (keyIn (entryOf img g e)) key) (some e) (findFrom img g key (e + 1) k)
 
 -- the entry of a key in an image
 unfoldable pub found : List ℕ → Key → Option ℕ
 found img key = findFrom img (geometryOf img) key 0 (slots (geometryOf img))
-
-abbrev pub foundIn : Found → Option ℕ
-foundIn (At e) = some e
-foundIn Nothing = none

@@ -3,5 +3,7 @@ pub mod Outcome
 pub mod Keys
 pub mod Rights
 pub mod Asked
+pub mod AskedStage
 pub mod Opens
-pub mod Written
+pub mod Access
+pub mod AccessStage

@@ -1,12 +1,10 @@
 -- Rights, as document 01 gives Figure 2-7.
 use Prim.Native.Nat.{ℕ, _/_, _%_, _≤_}
 use mathlib.Core.Path.{_≡_}
-use mathlib.Core.Bool.{Bool, true, false, cond}
+use mathlib.Core.Bool.{Bool, true, cond}
 use lib.Dec.{eqb, leb}
 use Rattle.asking.specs.declared.Right.{Right}
 use Rattle.asking.specs.declared.Right.the-variants.{Delete, Write, Read}
-use Rattle.asking.specs.declared.Grant.{Grant}
-use Rattle.asking.specs.declared.Grant.the-variants.{Granted, Denied}
 
 -- "Protect bits 0-2 are for all others, 3-5 for the same group"
 abbrev pub othersField : ℕ → ℕ
@@ -32,10 +30,6 @@ unfoldable pub may : Right → ℕ → ℕ → ℕ → Bool
 may right caller uic protect =
     cond (eqb caller uic) (owners right protect)
     (cond (eqb (caller / 256) (uic / 256)) (inField right (groupField protect)) (inField right (othersField protect)))
-
-abbrev pub granted : Grant → Bool
-granted Granted = true
-granted Denied = false
 
 -- The same as a proposition: who may do what, case by case of the figure. `proofs/Rights.antt` has that the test says exactly this.
 pub data InField : Right → ℕ → Type 0 where

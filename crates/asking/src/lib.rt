@@ -1,17 +1,19 @@
-// What all requests share: the key of a file, finding its entry, rights, opens, and the words of an entry that are written.
+// What all requests share: the key of a file, finding its entry, rights, opens.
+pub mod access;
+
 ghost use mathlib.Core.Path.{_≡_};
 ghost use mathlib.Core.Bool.{true};
-ghost use Prim.Native.Nat.{ℕ, _+_, _<_};
+ghost use Prim.Native.Nat.{ℕ, _<_};
 ghost use lib.ListN.{getD, replicate};
 ghost use Rattle.pack.specs.Form.{mostBlocks};
 ghost use Rattle.pack.specs.Consistent.{held};
-ghost use Rattle.consistency.specs.Test.{consistent};
-ghost use Rattle.pack.specs.Geometry.{Sized, slots};
+ghost use Rattle.consistency.specs.ConsistentTest.{consistent};
+ghost use Rattle.pack.specs.GeometrySized.{Sized};
+ghost use Rattle.pack.specs.Geometry.{slots};
 ghost use Rattle.asking.specs.Opens.{isOpen, isFull};
-ghost use Rattle.asking.specs.Written.{setEntryWord, clearEntry};
-ghost use Rattle.asking.specs.Keys.{keyOf, legalKey, matches, findFrom, foundIn};
-ghost use Rattle.asking.specs.Asked.{askedOf};
-ghost use Rattle.asking.specs.Rights.{inField, owners, may, granted};
+ghost use Rattle.asking.specs.Keys.{keyOf, legalKey, findFrom};
+ghost use Rattle.asking.specs.AskedStage.{foundIn, askedOf, granted};
+ghost use Rattle.asking.specs.Rights.{inField, owners, may};
 use consistency::Opened;
 use pack::Entry;
 use pack::Geometry;
@@ -69,21 +71,6 @@ pub fn is_legal(key: Key) -> bool
     Radix50(key.extension).is_legal_extension()
 }
 
-pub fn is_match(x: Entry, key: Key) -> bool
-    ensures { λ r. ⌜ r ≡ matches key x ⌝ }
-{
-    if x.name1 != key.name1 {
-        return false;
-    }
-    if x.name2 != key.name2 {
-        return false;
-    }
-    if x.extension != key.extension {
-        return false;
-    }
-    x.uic == key.uic
-}
-
 pub fn find(img: &[u8], g: Geometry, key: Key) -> Found
     requires { ⌜ Sized (now img) g ⌝ }
     ensures { λ r. ⌜ foundIn r ≡ findFrom (now (img .entry)) g key 0 (slots g) ⌝ }
@@ -91,8 +78,7 @@ pub fn find(img: &[u8], g: Geometry, key: Key) -> Found
     let total = pack::slot_count(g);
     let mut e = 0;
     while e < total {
-        let x = pack::read_entry(img, g, e);
-        if is_match(x, key) {
+        if pack::is_same_key(pack::read_key(img, g, e), key) {
             return Found::At(e);
         }
         e += 1;
@@ -181,24 +167,4 @@ pub fn is_full(x: Entry) -> bool
         return 61 <= x.readers;
     }
     62 <= x.readers
-}
-
-pub fn set_entry_word(img: &mut [u8], g: Geometry, e: usize, i: usize, word: usize)
-    requires { ⌜ Sized (now img) g ⌝ }
-    requires { ⌜ (e < slots g) × (i < 16) × (word < 65536) ⌝ }
-    ensures { λ r. ⌜ now (img .exit) ≡ setEntryWord (now (img .entry)) g e i word ⌝ }
-{
-    words::set_word(img, 64 * g.segments.0 + 16 * e + i, word);
-}
-
-pub fn clear_entry(img: &mut [u8], g: Geometry, e: usize)
-    requires { ⌜ Sized (now img) g ⌝ }
-    requires { ⌜ e < slots g ⌝ }
-    ensures { λ r. ⌜ now (img .exit) ≡ clearEntry (now (img .entry)) g e ⌝ }
-{
-    let mut i = 0;
-    while i < 16 {
-        set_entry_word(img, g, e, i, 0);
-        i += 1;
-    }
 }

@@ -1,10 +1,10 @@
 -- The laws of the check.
-pub mod Taking
-pub mod Walking
-pub mod Fields
-pub mod Entries
-pub mod Differ
-pub mod Scan
-pub mod Answers
-pub mod Consistent
-pub mod Opening
+pub mod WalkTaking
+pub mod WalkSteps
+pub mod EntryTestFields
+pub mod EntryTestWhole
+pub mod DifferTest
+pub mod ConsistentTestScan
+pub mod EntryTestAnswers
+pub mod ConsistentTestIff
+pub mod ConsistentTestOpened

@@ -1,5 +1,5 @@
--- The check of an image, as the tests that the code makes; proofs/Consistent.antt has that together they are true exactly if the image is consistent.
+-- The check of an image, as the tests that the code makes; proofs/ConsistentTestIff.antt has that together they are true exactly if the image is consistent.
 pub mod Walk
-pub mod Entry
-pub mod Differ
-pub mod Test
+pub mod EntryTest
+pub mod DifferTest
+pub mod ConsistentTest

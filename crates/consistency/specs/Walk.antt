@@ -1,4 +1,4 @@
--- A walk over the blocks of a file, which takes each on a map. The map has 1 at a block that is taken and 0 at another.
+-- Means: a walk over the blocks of a file, which takes each on a map. The map has 1 at a block that is taken and 0 at another.
 use Prim.Native.Nat.{ℕ}
 use mathlib.Core.Bool.{Bool, true, false, cond, _&&_}
 use mathlib.Core.List.{List, [], _∷_}

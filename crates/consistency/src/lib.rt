@@ -4,15 +4,16 @@ ghost use mathlib.Core.Bool.{true};
 ghost use Prim.Native.Nat.{ℕ, _+_, _*_, _-_, _<_, _≤_};
 ghost use lib.ListN.{length, getD, replicate};
 ghost use Rattle.pack.specs.Form.{mostBlocks};
-ghost use Rattle.pack.specs.Geometry.{Sized, slots};
+ghost use Rattle.pack.specs.GeometrySized.{Sized};
+ghost use Rattle.pack.specs.Geometry.{slots};
 ghost use Rattle.pack.specs.Header.{RightHeader};
 ghost use Rattle.pack.specs.File.{blocksOf};
 ghost use Rattle.pack.specs.Entry.{blocksAt};
 ghost use Rattle.pack.specs.Consistent.{held};
 ghost use Rattle.consistency.specs.Walk.{mark, blocksFrom, walkOf, ended};
-ghost use Rattle.consistency.specs.Entry.{keyTest, kindTest, opensTest, fieldsTest, bodyTest, restTest, entryTest};
-ghost use Rattle.consistency.specs.Differ.{sameTest, remainders, keyRemainder, uniqueTest, differTest};
-ghost use Rattle.consistency.specs.Test.{scanTest, markAll, consistent, openedOf};
+ghost use Rattle.consistency.specs.EntryTest.{keyTest, kindTest, opensTest, fieldsTest, bodyTest, restTest, entryTest};
+ghost use Rattle.consistency.specs.DifferTest.{sameTest, remainders, keyRemainder, uniqueTest, differTest};
+ghost use Rattle.consistency.specs.ConsistentTest.{scanTest, markAll, consistent, openedOf};
 use pack::BlockNo;
 use pack::Entry;
 use pack::Geometry;
@@ -132,7 +133,8 @@ fn is_rest_zero(img: &[u8], g: Geometry, e: usize, i: usize) -> bool
     requires { ⌜ (e < slots g) × (i < 16) ⌝ }
     ensures { λ r. ⌜ r ≡ restTest (now (img .entry)) g e i ⌝ }
 {
-    pack::are_words_zero(img, 64 * g.segments.0 + 16 * e + i, 16 - i)
+    let segments = g.segments;
+    pack::are_words_zero(img, segments.words() + 16 * e + i, 16 - i)
 }
 
 // Do the blocks of a file end as its entry says? They are taken on the map.
@@ -199,16 +201,7 @@ fn is_same_file(img: &[u8], g: Geometry, e: usize, f: usize) -> bool
     requires { ⌜ (e < slots g) × (f < slots g) ⌝ }
     ensures { λ r. ⌜ r ≡ sameTest (now (img .entry)) g e f ⌝ }
 {
-    if pack::entry_word(img, g, e, 0) != pack::entry_word(img, g, f, 0) {
-        return false;
-    }
-    if pack::entry_word(img, g, e, 1) != pack::entry_word(img, g, f, 1) {
-        return false;
-    }
-    if pack::entry_word(img, g, e, 2) != pack::entry_word(img, g, f, 2) {
-        return false;
-    }
-    pack::entry_word(img, g, e, 3) == pack::entry_word(img, g, f, 3)
+    pack::is_same_key(pack::read_key(img, g, e), pack::read_key(img, g, f))
 }
 
 // Is entry e empty, or does its file differ from all later ones?

@@ -72,32 +72,32 @@ fn print_written(code: usize, buffer: &[u8]) {
 }
 
 fn radpk(characters: &[u8]) {
-    print_answer(b"RADPK ", characters, radix::radpk(characters));
+    print_answer(b"RADPK ", characters, radix::radpk::radpk(characters));
 }
 
 fn radup(word: usize, buffer: &mut [u8]) {
     print_request(b"RADUP ", word, buffer);
-    let code = radix::radup(word, buffer);
+    let code = radix::radup::radup(word, buffer);
     print_written(code, buffer);
 }
 
 fn d2bin(characters: &[u8]) {
-    print_answer(b"D2BIN ", characters, numerals::d2bin(characters));
+    print_answer(b"D2BIN ", characters, numerals::decimal::d2bin(characters));
 }
 
 fn bin2d(number: usize, buffer: &mut [u8]) {
     print_request(b"BIN2D ", number, buffer);
-    let code = numerals::bin2d(number, buffer);
+    let code = numerals::decimal::bin2d(number, buffer);
     print_written(code, buffer);
 }
 
 fn o2bin(characters: &[u8]) {
-    print_answer(b"O2BIN ", characters, numerals::o2bin(characters));
+    print_answer(b"O2BIN ", characters, numerals::octal::o2bin(characters));
 }
 
 fn bin2o(number: usize, buffer: &mut [u8]) {
     print_request(b"BIN2O ", number, buffer);
-    let code = numerals::bin2o(number, buffer);
+    let code = numerals::octal::bin2o(number, buffer);
     print_written(code, buffer);
 }
 

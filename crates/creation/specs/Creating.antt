@@ -1,30 +1,30 @@
--- What ALLOC and OPENO share: creating an entry.
-use Prim.Native.Nat.{ℕ, suc, zero, _+_}
-use mathlib.Core.Bool.{Bool, not, cond}
+-- What ALLOC and OPENO share: what speaks against a new file, the entry that it gets, and what is written there.
+use Prim.Native.Nat.{ℕ, _<_}
+use mathlib.Core.Bool.{Bool, not}
 use mathlib.Core.List.{List, [], _∷_}
-use mathlib.Core.Option.{Option, none, some}
 use lib.Dec.{eqb, ltb}
 use Rattle.answers.specs.Refusals.{Row, row}
-use Rattle.answers.specs.Conversion.{missing, orElse}
-use Rattle.pack.specs.declared.Geometry.{Geometry}
+use Rattle.answers.specs.Missing.{missing, orElse}
 use Rattle.pack.specs.declared.Key.{Key}
-use Rattle.pack.specs.Geometry.{geometryOf, slots, entryAt}
-use Rattle.pack.specs.Test.{zeros, listed}
-use Rattle.consistency.specs.Test.{consistent}
+use Rattle.pack.specs.declared.Entry.{Entry}
+use Rattle.pack.specs.Geometry.{geometryOf, slots}
+use Rattle.pack.specs.Entry.{Empty}
+use Rattle.pack.specs.HeaderTest.{listed}
+use Rattle.consistency.specs.ConsistentTest.{consistent}
 use Rattle.asking.specs.Keys.{legalKey, found}
-use Rattle.asking.specs.Written.{setEntryWord}
+use Rattle.pack.specs.EntryWords.{setEntryWords, wordsOf}
+use Rattle.creation.specs.declared.creating.Shape.{Shape}
+use Rattle.creation.specs.CreatingLowest.{lowestEmpty}
 
--- "An empty entry is all zero."
-abbrev pub isEmpty : List ℕ → Geometry → ℕ → Bool
-isEmpty img g e = zeros img (entryAt g e) 16
+-- "the lowest empty entry"; `empty-lowest` and `empty-none` (proofs/CreatingLowest.antt) say that `lowestEmpty` is just this
+pub record LowestEmpty (img : List ℕ) (e : ℕ) : Type 0 where
+  pub inside : e < slots (geometryOf img)
+  pub empty : Empty img (geometryOf img) e
+  pub lowest : (f : ℕ) → f < e → Empty img (geometryOf img) f → ⊥
 
--- "the lowest empty entry": the first of `k` entries from e on
-unfoldable pub emptyFrom : List ℕ → Geometry → ℕ → ℕ → Option ℕ
-emptyFrom img g e zero = none
-emptyFrom img g e (suc k) = cond (isEmpty img g e) (some e) (emptyFrom img g (e + 1) k)
-
-unfoldable pub lowestEmpty : List ℕ → Option ℕ
-lowestEmpty img = emptyFrom img (geometryOf img) 0 (slots (geometryOf img))
+-- the entry that a new file gets
+abbrev pub entryFor : List ℕ → ℕ
+entryFor img = orElse 0 (lowestEmpty img)
 
 -- "41: argument: .. protect above 255" and what else is wrong; "13: creating: UIC not in the list", "2: creating ..: exists",
 -- "6: .. creating under another's UIC", "12: creating: no empty entry"
@@ -37,19 +37,23 @@ creatingRows img key caller protect wrong =
     ∷ (row (not (listed img (key .uic))) 0o13
     ∷ (row (not (missing (found img key))) 0o2 ∷ (row (not (eqb (key .uic) caller)) 0o6 ∷ (row (missing (lowestEmpty img)) 0o12 ∷ [])))))))
 
--- the words of an entry from word i on
-unfoldable pub setEntryWords : List ℕ → Geometry → ℕ → ℕ → List ℕ → List ℕ
-setEntryWords img g e i [] = img
-setEntryWords img g e i (word ∷ more) = setEntryWords (setEntryWord img g e i word) g e (i + 1) more
+-- the entry of a new file, of what it has besides its key and its protect code; "readers 0"
+abbrev pub newFile : Key → ℕ → Shape → Entry
+newFile key protect shape =
+    record {
+      name1 = key .name1;
+      name2 = key .name2;
+      extension = key .extension;
+      uic = key .uic;
+      protect = protect;
+      kind = shape .kind;
+      first = shape .first;
+      length = shape .length;
+      last = shape .last;
+      writer = shape .writer;
+      readers = 0;
+    }
 
--- the sixteen words of a new entry: name, extension, UIC, protect code, kind, first block, length, last block, writer, no reader, zeros
-abbrev pub newEntry : Key → ℕ → ℕ → ℕ → ℕ → ℕ → ℕ → List ℕ
-newEntry key protect kind first length last writer =
-    key .name1
-    ∷ (key .name2
-    ∷ (key .extension
-    ∷ (key .uic ∷ (protect ∷ (kind ∷ (first ∷ (length ∷ (last ∷ (writer ∷ (0 ∷ (0 ∷ (0 ∷ (0 ∷ (0 ∷ (0 ∷ [])))))))))))))))
-
--- the image with a new entry in the lowest empty one
-unfoldable pub created : List ℕ → List ℕ → List ℕ
-created img words = setEntryWords img (geometryOf img) (orElse 0 (lowestEmpty img)) 0 words
+-- the image with the words of that entry in the lowest empty one
+unfoldable pub created : List ℕ → Entry → List ℕ
+created img x = setEntryWords img (geometryOf img) (entryFor img) 0 (wordsOf x)

@@ -1,14 +1,16 @@
 -- Format: an empty pack.
-use Prim.Native.Nat.{ℕ, _+_, _*_, _-_, _/_, _%_, _≤_, _<_}
+use Prim.Native.Nat.{ℕ, _+_, _*_, _-_, _/_, _%_}
 use mathlib.Core.Path.{_≡_}
 use mathlib.Core.Bool.{Bool, not, _&&_}
 use mathlib.Core.List.{List, [], _∷_, _++_}
 use lib.Dec.{eqb}
 use lib.ListN.{length, drop, replicate}
 use Rattle.answers.specs.Refusals.{Row, row}
-use Rattle.words.specs.Word.{wordAt}
-use Rattle.pack.specs.Form.{segmentsOf, leastBlocks, mostBlocksOf, leastContents, mostContentsOf, bodiesOf, mostUicsOf}
-use Rattle.pack.specs.Test.{measured, distinct}
+use Rattle.words.specs.Word.{bytesOf}
+use Rattle.pack.specs.Form.{segmentsOf, bodiesOf}
+use Rattle.pack.specs.Geometry.{segmentBytes}
+use Rattle.pack.specs.Header.{Measured, DistinctWords}
+use Rattle.pack.specs.HeaderTest.{measured, distinct}
 use Rattle.asking.specs.Outcome.{Outcome, settled}
 
 -- the UICs come as bytes, two for each, low byte first
@@ -20,35 +22,18 @@ unfoldable pub formatTest : ℕ → ℕ → ℕ → ℕ → List ℕ → Bool
 formatTest long form blocks contents uics =
     eqb (length uics % 2) 0 && (measured long form blocks contents (uicsIn uics) && distinct uics 0 (uicsIn uics))
 
--- the same as a rule; proofs/Formatting.antt has that the test is true exactly if it holds (`format-iff`)
+-- the same as a rule; proofs/FormatRows.antt has that the test is true exactly if it holds (`format-iff`)
 pub record Formattable (long form blocks contents : ℕ) (uics : List ℕ) : Type 0 where
   -- the bytes of the UICs are whole words
   pub whole : length uics % 2 ≡ 0
-  -- "word 0 is 1;"
-  pub known : 0 < segmentsOf form
-  -- "word 1 is n, the blocks in all, 16 to 1024;"
-  pub blocksLeast : leastBlocks ≤ blocks
-  pub blocksMost : blocks ≤ mostBlocksOf form
-  -- "word 2 is c, 1 to 8;"
-  pub contentsLeast : leastContents ≤ contents
-  pub contentsMost : contents ≤ mostContentsOf form
-  -- there is a body
-  pub room : bodiesOf form contents < blocks
-  -- "word 3 is u, 0 to 64;"
-  pub uicsMost : uicsIn uics ≤ mostUicsOf form
-  -- "the image is 512n bytes"
-  pub size : long ≡ blocks * (128 * segmentsOf form)
+  -- n and c are in the form's bounds, there is a body, and "the image is 512n bytes", as of block 0
+  pub measured : Measured long form blocks contents (uicsIn uics)
   -- "then u UICs, distinct and not 0;"
-  pub uicsNotZero : (i : ℕ) → i < uicsIn uics → wordAt uics i ≡ 0 → ⊥
-  pub uicsDistinct : (i j : ℕ) → i < j → j < uicsIn uics → wordAt uics i ≡ wordAt uics j → ⊥
-
--- a word as its two bytes
-abbrev pub bytesOf : ℕ → List ℕ
-bytesOf word = word % 256 ∷ (word / 256 ∷ [])
+  pub distinct : DistinctWords uics 0 (uicsIn uics)
 
 -- the bytes before the bodies
 abbrev pub systemBytes : ℕ → ℕ → ℕ
-systemBytes form contents = bodiesOf form contents * (128 * segmentsOf form)
+systemBytes form contents = bodiesOf form contents * segmentBytes (segmentsOf form)
 
 -- "writes blocks 0 to c, bodies untouched": "word 0 is 1; word 1 is n ..; word 2 is c ..; word 3 is u ..; then u UICs ..; the rest 0", empty entries, and the bodies as they were
 unfoldable pub formatted : List ℕ → ℕ → ℕ → ℕ → List ℕ → List ℕ
@@ -56,11 +41,7 @@ formatted image form blocks contents uics =
     (bytesOf form ++ (bytesOf blocks ++ (bytesOf contents ++ bytesOf (uicsIn uics))))
     ++ (uics ++ (replicate (systemBytes form contents - (8 + length uics)) 0 ++ drop (systemBytes form contents) image))
 
--- no rule of the paper: the step of the code that writes words 0 to 3 and the UICs into an image, and nothing behind them
-unfoldable pub headed : List ℕ → ℕ → ℕ → ℕ → List ℕ → List ℕ
-headed image form blocks contents uics =
-    (bytesOf form ++ (bytesOf blocks ++ (bytesOf contents ++ bytesOf (uicsIn uics)))) ++ (uics ++ drop (8 + length uics) image)
-
+-- "41 unless .."
 unfoldable pub formatRows : List ℕ → ℕ → ℕ → ℕ → List ℕ → List Row
 formatRows image form blocks contents uics = row (not (formatTest (length image) form blocks contents uics)) 0o41 ∷ []
 

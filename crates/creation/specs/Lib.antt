@@ -1,9 +1,9 @@
 -- Requests that make something.
 pub mod Format
+pub mod FormatSteps
+pub mod CreatingLowest
 pub mod Creating
+pub mod CreatingStage
 pub mod Alloc
+pub mod AllocStage
 pub mod Openo
-pub mod Choice
-pub mod Run
-pub mod Filled
-pub mod Stages

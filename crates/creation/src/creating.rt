@@ -1,20 +1,23 @@
 // What ALLOC and OPENO share: whether a file may be made and which entry it gets, and the words of its entry.
 ghost use mathlib.Core.Path.{_≡_};
 ghost use mathlib.Core.Bool.{true};
-ghost use mathlib.Core.List.{[], _∷_};
-ghost use Prim.Native.Nat.{ℕ, _≤_, _<_};
+ghost use Prim.Native.Nat.{ℕ, _<_};
 ghost use lib.ListN.{getD, replicate};
 ghost use Rattle.pack.specs.Form.{mostBlocks};
-ghost use Rattle.pack.specs.Geometry.{Sized, slots};
+ghost use Rattle.pack.specs.GeometrySized.{Sized};
+ghost use Rattle.pack.specs.Geometry.{slots};
 ghost use Rattle.pack.specs.Entry.{RightEntry};
 ghost use Rattle.pack.specs.Consistent.{held};
-ghost use Rattle.consistency.specs.Test.{consistent};
-ghost use Rattle.asking.specs.Keys.{foundIn};
-ghost use Rattle.creation.specs.Creating.{emptyFrom, setEntryWords};
-ghost use Rattle.creation.specs.Filled.{wordsOf, Writable};
-ghost use Rattle.creation.specs.Stages.{creatingOf};
+ghost use Rattle.consistency.specs.ConsistentTest.{consistent};
+ghost use Rattle.asking.specs.AskedStage.{foundIn};
+ghost use Rattle.pack.specs.EntryWords.{wordsOf, setEntryWords};
+ghost use Rattle.pack.specs.EntryFields.{WordFields};
+ghost use Rattle.creation.specs.CreatingLowest.{emptyFrom};
+ghost use Rattle.creation.specs.Creating.{newFile};
+ghost use Rattle.creation.specs.CreatingStage.{creatingOf};
 use asking::Found;
 use consistency::Opened;
+use pack::BlockNo;
 use pack::Entry;
 use pack::Geometry;
 use pack::Key;
@@ -23,6 +26,15 @@ use pack::Key;
 pub enum Creating {
     At(Geometry, usize),
     Refused(usize),
+}
+
+// What a new file has besides its key and its protect code.
+pub struct Shape {
+    pub kind: usize,
+    pub first: BlockNo,
+    pub length: usize,
+    pub last: BlockNo,
+    pub writer: usize,
 }
 
 // The map is lent all zero, and where the image is consistent it then says how often each block is held.
@@ -82,35 +94,30 @@ fn lowest_empty(img: &[u8], g: Geometry) -> Found
     Found::Nothing
 }
 
-pub fn write_entry(img: &mut [u8], g: Geometry, e: usize, x: Entry)
+// The new file's entry, which no reader has open.
+pub fn enter(img: &mut [u8], g: Geometry, e: usize, key: Key, protect: usize, shape: Shape)
     requires { ⌜ Sized (now img) g ⌝ }
-    requires { ⌜ (e < slots g) × Writable x ⌝ }
-    ensures { λ r. ⌜ now (img .exit) ≡ setEntryWords (now (img .entry)) g e 0 (wordsOf x) ⌝ }
+    requires { ⌜ (e < slots g) × WordFields (newFile key protect shape) ⌝ }
+    ensures { λ r. ⌜ now (img .exit) ≡ setEntryWords (now (img .entry)) g e 0 (wordsOf (newFile key protect shape)) ⌝ }
 {
-    write_four(img, g, e, 0, x.name1, x.name2, x.extension, x.uic);
-    write_four(img, g, e, 4, x.protect, x.kind, x.first.0, x.length);
-    write_four(img, g, e, 8, x.last.0, x.writer, x.readers, 0);
-    write_four(img, g, e, 12, 0, 0, 0, 0);
-}
-
-// Four words of entry e, the first of them word i.
-fn write_four(
-    img: &mut [u8],
-    g: Geometry,
-    e: usize,
-    i: usize,
-    first: usize,
-    second: usize,
-    third: usize,
-    fourth: usize,
-)
-    requires { ⌜ Sized (now img) g ⌝ }
-    requires { ⌜ (e < slots g) × (i ≤ 12) ⌝ }
-    requires { ⌜ (first < 65536) × (second < 65536) × (third < 65536) × (fourth < 65536) ⌝ }
-    ensures { λ r. ⌜ now (img .exit) ≡ setEntryWords (now (img .entry)) g e i (first ∷ (second ∷ (third ∷ (fourth ∷ [])))) ⌝ }
-{
-    asking::set_entry_word(img, g, e, i, first);
-    asking::set_entry_word(img, g, e, i + 1, second);
-    asking::set_entry_word(img, g, e, i + 2, third);
-    asking::set_entry_word(img, g, e, i + 3, fourth);
+    let first = shape.first;
+    let last = shape.last;
+    pack::write_entry(
+        img,
+        g,
+        e,
+        Entry {
+            name1: key.name1,
+            name2: key.name2,
+            extension: key.extension,
+            uic: key.uic,
+            protect,
+            kind: shape.kind,
+            first,
+            length: shape.length,
+            last,
+            writer: shape.writer,
+            readers: 0,
+        },
+    );
 }

@@ -10,7 +10,7 @@ use native.Mathlib.Nat.{add-zero}
 use borrow.Author.Tests.{lt-ltb, le-ltb}
 use lib.ListN.{length, take, drop, getD, length-drop, drop-of-length-le, List·getD-eq-default}
 use lib.Seq.{length-take-le, take-all, take-take, drop-drop, take-add, drop-at, drop-cons, getD-take, getD-drop}
-use Rattle.answers.specs.Conversion.{orElse}
+use Rattle.answers.specs.Missing.{orElse}
 use Rattle.radix.specs.Characters.{codeOf}
 use Rattle.radix.specs.Packing.{packed, wordOf}
 use Rattle.radix.specs.Names.{isLetterOrDigit, blank, blankFilled}

@@ -4,7 +4,7 @@ use mathlib.Core.List.{List}
 use mathlib.Core.Bool.{cond}
 use lib.Dec.{ltb}
 use lib.ListN.{take, drop, getD}
-use Rattle.answers.specs.Conversion.{orElse}
+use Rattle.answers.specs.Missing.{orElse}
 use Rattle.radix.specs.Packing.{wordOf}
 use Rattle.radix.specs.Names.{blank, blankFilled}
 

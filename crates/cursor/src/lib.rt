@@ -4,7 +4,7 @@ pub mod characters;
 ghost use mathlib.Core.Path.{_≡_};
 ghost use Prim.Native.Nat.{_+_, _-_, _<_, _≤_};
 ghost use lib.ListN.{length, take, drop};
-ghost use Rattle.answers.specs.Conversion.{orElse};
+ghost use Rattle.answers.specs.Missing.{orElse};
 ghost use Rattle.radix.specs.Characters.{codeOf};
 ghost use Rattle.radix.specs.Names.{isLetter, isLetterOrDigit};
 ghost use Rattle.grammar.specs.Characters.{is};

@@ -1,11 +1,10 @@
 -- The laws of the requests that change one entry at most.
-pub mod Looking
-pub mod Lacking
-pub mod Chosen
-pub mod Relabelled
-pub mod Deleting
-pub mod Deleted
-pub mod Keeping
-pub mod Kept
-pub mod Renaming
-pub mod Renamed
+pub mod LookStage
+pub mod DeletLacking
+pub mod RenamRelabelled
+pub mod DeletStage
+pub mod DeletEffect
+pub mod KeepStage
+pub mod KeepEffect
+pub mod RenamStage
+pub mod RenamEffect

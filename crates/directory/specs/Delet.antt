@@ -10,7 +10,7 @@ use Rattle.asking.specs.Outcome.{Outcome, settled}
 use Rattle.asking.specs.Asked.{fileRows, entryNo, fileOf}
 use Rattle.asking.specs.Rights.{may}
 use Rattle.asking.specs.Opens.{isOpen}
-use Rattle.asking.specs.Written.{clearEntry}
+use Rattle.pack.specs.EntryWords.{clearEntry}
 
 -- "6: right lacking", "14: DELET ..: a file is open"
 unfoldable pub deletRows : List ℕ → Key → ℕ → List Row

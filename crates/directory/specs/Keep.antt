@@ -8,7 +8,7 @@ use Rattle.pack.specs.declared.Key.{Key}
 use Rattle.pack.specs.Geometry.{geometryOf}
 use Rattle.asking.specs.Outcome.{Outcome, settled}
 use Rattle.asking.specs.Asked.{fileRows, entryNo, fileOf}
-use Rattle.asking.specs.Written.{setEntryWord}
+use Rattle.pack.specs.EntryWords.{setEntryWord}
 
 -- "KEEP: owner only"
 unfoldable pub keepRows : List ℕ → Key → ℕ → List Row

@@ -7,7 +7,7 @@ use Rattle.pack.specs.declared.Entry.{Entry}
 use Rattle.pack.specs.declared.Key.{Key}
 use Rattle.asking.specs.Outcome.{Outcome, settled}
 use Rattle.asking.specs.Asked.{fileRows, fileOf}
-use Rattle.directory.specs.declared.LookAnswer.{LookAnswer}
+use Rattle.directory.specs.declared.look.LookAnswer.{LookAnswer}
 
 -- "LOOK: kind, first block, length, protect code, writer, readers;"
 abbrev pub lookNumbers : Entry → List ℕ

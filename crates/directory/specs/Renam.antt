@@ -4,18 +4,18 @@ use mathlib.Core.Bool.{not}
 use mathlib.Core.List.{List, [], _∷_}
 use lib.Dec.{ltb}
 use Rattle.answers.specs.Refusals.{Row, row}
-use Rattle.answers.specs.Conversion.{missing}
+use Rattle.answers.specs.Missing.{missing}
 use Rattle.pack.specs.declared.Geometry.{Geometry}
 use Rattle.pack.specs.declared.Key.{Key}
 use Rattle.pack.specs.Geometry.{geometryOf}
-use Rattle.consistency.specs.Test.{consistent}
+use Rattle.consistency.specs.ConsistentTest.{consistent}
 use Rattle.asking.specs.declared.Right.the-variants.{Write}
 use Rattle.asking.specs.Outcome.{Outcome, settled}
 use Rattle.asking.specs.Keys.{legalKey, found}
 use Rattle.asking.specs.Asked.{entryNo, fileOf}
 use Rattle.asking.specs.Rights.{may}
 use Rattle.asking.specs.Opens.{isOpen}
-use Rattle.asking.specs.Written.{setEntryWord}
+use Rattle.pack.specs.EntryWords.{setEntryWord, setEntryWords}
 
 -- "the UIC stays": the new name's key has the old one's UIC
 abbrev pub newKey : Key → ℕ → ℕ → ℕ → Key
@@ -36,7 +36,7 @@ renamRows img old new protect caller =
 -- "changes name, extension and protect code"
 abbrev pub renamed : List ℕ → Geometry → ℕ → Key → ℕ → List ℕ
 renamed img g e new protect =
-    setEntryWord (setEntryWord (setEntryWord (setEntryWord img g e 0 (new .name1)) g e 1 (new .name2)) g e 2 (new .extension)) g e 4 protect
+    setEntryWord (setEntryWords img g e 0 (new .name1 ∷ (new .name2 ∷ (new .extension ∷ [])))) g e 4 protect
 
 unfoldable pub renam : List ℕ → Key → Key → ℕ → ℕ → Outcome
 renam img old new protect caller =

@@ -1,6 +1,6 @@
 // DELET.
 ghost use mathlib.Core.Path.{_≡_};
-ghost use Rattle.asking.specs.Asked.{stageOf};
+ghost use Rattle.asking.specs.AskedStage.{stageOf};
 ghost use Rattle.directory.specs.Delet.{deletRows, delet};
 use asking::Asked;
 use asking::Grant;
@@ -31,7 +31,7 @@ pub fn delete(img: &mut [u8], key: Key, caller: usize) -> usize
     match decide_delete(img, key, caller) {
         Asked::Refused(code) => code,
         Asked::File(g, e, _) => {
-            asking::clear_entry(img, g, e);
+            pack::clear_entry(img, g, e);
             0
         }
     }

@@ -1,7 +1,7 @@
 // KEEP.
 ghost use mathlib.Core.Path.{_≡_};
 ghost use Prim.Native.Nat.{_≤_};
-ghost use Rattle.asking.specs.Asked.{stageOf};
+ghost use Rattle.asking.specs.AskedStage.{stageOf};
 ghost use Rattle.directory.specs.Keep.{keepRows, keptCode, keep};
 use asking::Asked;
 use pack::Key;
@@ -38,7 +38,7 @@ pub fn keep(img: &mut [u8], key: Key, caller: usize) -> usize
     match decide_keep(img, key, caller) {
         Asked::Refused(code) => code,
         Asked::File(g, e, x) => {
-            asking::set_entry_word(img, g, e, 4, kept_code(x.protect));
+            pack::set_entry_word(img, g, e, 4, kept_code(x.protect));
             0
         }
     }

@@ -1,8 +1,9 @@
 // RENAM.
 ghost use mathlib.Core.Path.{_≡_};
 ghost use Prim.Native.Nat.{_<_};
-ghost use Rattle.pack.specs.Geometry.{Sized, slots};
-ghost use Rattle.asking.specs.Asked.{stageOf};
+ghost use Rattle.pack.specs.GeometrySized.{Sized};
+ghost use Rattle.pack.specs.Geometry.{slots};
+ghost use Rattle.asking.specs.AskedStage.{stageOf};
 ghost use Rattle.directory.specs.Renam.{renamRows, renamed, renam};
 use asking::Asked;
 use asking::Found;
@@ -51,10 +52,10 @@ fn write_name(img: &mut [u8], g: Geometry, e: usize, new: Key, protect: usize)
     requires { ⌜ (new .name1 < 65536) × (new .name2 < 65536) × (new .extension < 65536) × (protect < 65536) ⌝ }
     ensures { λ r. ⌜ now (img .exit) ≡ renamed (now (img .entry)) g e new protect ⌝ }
 {
-    asking::set_entry_word(img, g, e, 0, new.name1);
-    asking::set_entry_word(img, g, e, 1, new.name2);
-    asking::set_entry_word(img, g, e, 2, new.extension);
-    asking::set_entry_word(img, g, e, 4, protect);
+    pack::set_entry_word(img, g, e, 0, new.name1);
+    pack::set_entry_word(img, g, e, 1, new.name2);
+    pack::set_entry_word(img, g, e, 2, new.extension);
+    pack::set_entry_word(img, g, e, 4, protect);
 }
 
 pub fn rename(img: &mut [u8], old: Key, new: Key, protect: usize, caller: usize) -> usize

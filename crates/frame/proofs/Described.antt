@@ -10,17 +10,19 @@ use Rattle.pack.specs.Geometry.{geometryOf, slots}
 use Rattle.pack.specs.File.{nextOf, chain, after, lastOf, blocksOf, count}
 use Rattle.pack.specs.Entry.{entryOf, blocksAt, Empty, Contiguous, Linked, Used, RightEntry}
 use Rattle.pack.specs.Consistent.{Consistent}
-use Rattle.pack.proofs.Counting.{count-nil}
-use Rattle.pack.proofs.Files.{empty-blocks, next-contiguous}
-use Rattle.frame.specs.Framed.{Only, Never, Framed, Distinct}
-use Rattle.frame.specs.Framed.Distinct.{emptied}
+use Rattle.pack.proofs.FileCount.{count-nil}
+use Rattle.pack.proofs.EntryRead.{empty-blocks}
+use Rattle.pack.proofs.FileChain.{next-contiguous}
+use Rattle.frame.specs.Framed.{Only, Never}
+use Rattle.frame.specs.Framing.{Framed, Distinct}
+use Rattle.frame.specs.Framing.Distinct.{emptied}
 use Rattle.frame.specs.Described.{Described, Description}
-use Rattle.frame.proofs.Chain.{next-same, chain-same, after-same, last-same}
-use Rattle.frame.proofs.Same.{right-bodies}
-use Rattle.frame.proofs.Framing.{link-kept}
-use Rattle.frame.proofs.Frame.{header-segments, entries-at}
-use Rattle.frame.proofs.Held.{held-once}
-use Rattle.frame.proofs.Consistency.{consistent-one}
+use Rattle.frame.proofs.FileChainWays.{next-same, chain-same, after-same, last-same}
+use Rattle.frame.proofs.EntrySame.{right-bodies}
+use Rattle.frame.proofs.FramedCompose.{link-kept}
+use Rattle.frame.proofs.FramedStays.{header-segments, entries-at}
+use Rattle.frame.proofs.FramedHeld.{held-once}
+use Rattle.frame.proofs.FramedConsistent.{consistent-one}
 
 -- the way from block to block stays where no body is written, and in a contiguous file in any case
 pub next-unwritten : {Named : ℕ → Type 0} {img img′ : List ℕ} {g : Geometry} → g ≡ geometryOf img → Consistent img → Framed Named Never img img′ g

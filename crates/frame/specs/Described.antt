@@ -1,4 +1,4 @@
--- An entry that keeps its file: its kind, its first block, its length and its last block, and the way from each block to the next.
+-- Means: an entry that keeps its file: its kind, its first block, its length and its last block, and the way from each block to the next.
 use Prim.Native.Nat.{ℕ, _+_, _≤_, _<_}
 use mathlib.Core.Path.{_≡_}
 use mathlib.Core.List.{List}

@@ -1,4 +1,4 @@
--- A linked file that a block is joined to, and two linked files that become one: what of their words and links is known afterwards,
+-- Means: a linked file that a block is joined to, and two linked files that become one: what of their words and links is known afterwards,
 -- whatever the order in which they were written.
 use Prim.Native.Nat.{ℕ, _+_, _<_}
 use mathlib.Core.Path.{_≡_}
@@ -7,10 +7,11 @@ use mathlib.Core.Logic.{_⊎_}
 use Rattle.pack.specs.declared.Geometry.{Geometry}
 use Rattle.pack.specs.File.{linkOf, chain, after, lastOf, count}
 use Rattle.pack.specs.Entry.{entryWord, entryOf, blocksAt, Empty}
-use Rattle.frame.specs.Framed.{Only, Either, Kept}
+use Rattle.frame.specs.Framed.{Only, Kept}
+use Rattle.frame.specs.Framing.{Either}
 
 -- a chain of so many blocks from the first on: these blocks, 0 behind them, and the last of them (0 where there is none)
-pub record Walked (next : ℕ → ℕ) (first size final : ℕ) (walked : List ℕ) : Type 0 where
+pub record EndedChain (next : ℕ → ℕ) (first size final : ℕ) (walked : List ℕ) : Type 0 where
   pub blocks : chain next size first ≡ walked
   pub end : after next size first ≡ 0
   pub last : lastOf next 0 size first ≡ final

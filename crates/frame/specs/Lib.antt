@@ -1,4 +1,5 @@
 -- What a request may change, and what it keeps.
 pub mod Framed
+pub mod Framing
 pub mod Described
 pub mod Growth

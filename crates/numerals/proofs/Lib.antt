@@ -1,9 +1,9 @@
 -- The laws of numbers in digits.
-pub mod Cases
-pub mod Limits
-pub mod Reading
-pub mod Writing
-pub mod Values
-pub mod Pairs
-pub mod Again
-pub mod Refused
+pub mod DigitsLimits
+pub mod DigitsValues
+pub mod DigitsPairs
+pub mod DigitsRefused
+pub mod RemainingReading
+pub mod RemainingWriting
+pub mod DecimalAgain
+pub mod OctalAgain

@@ -6,12 +6,12 @@ use mathlib.Core.Option.{Option, none, some}
 use lib.Dec.{leb, ltb}
 
 -- the digits of a base are so many characters from 0, whose ASCII number is 48, on
-abbrev pub isDigit : ℕ → ℕ → Bool
-isDigit base x = leb 48 x && ltb x (48 + base)
+abbrev pub isDigitOf : ℕ → ℕ → Bool
+isDigitOf base x = leb 48 x && ltb x (48 + base)
 
 abbrev pub allDigits : ℕ → List ℕ → Bool
 allDigits base [] = true
-allDigits base (x ∷ xs) = isDigit base x && allDigits base xs
+allDigits base (x ∷ xs) = isDigitOf base x && allDigits base xs
 
 -- the number that digits write behind a number that those before them wrote
 abbrev pub valueFrom : ℕ → ℕ → List ℕ → ℕ
@@ -19,8 +19,8 @@ valueFrom base before [] = before
 valueFrom base before (x ∷ xs) = valueFrom base (before * base + (x - 48)) xs
 
 -- the number that digits write, the highest first
-unfoldable pub value : ℕ → List ℕ → ℕ
-value base digits = valueFrom base 0 digits
+unfoldable pub valueOf : ℕ → List ℕ → ℕ
+valueOf base digits = valueFrom base 0 digits
 
 -- so many digits of a number, the highest first: those of its quotient by the base, and one for the remainder
 abbrev pub digits : ℕ → ℕ → ℕ → List ℕ
@@ -33,7 +33,7 @@ largest = 65535
 
 -- the number that characters write, if they are digits and it is not too large
 unfoldable pub numberOf : ℕ → List ℕ → Option ℕ
-numberOf base characters = cond (allDigits base characters && leb (value base characters) largest) (some (value base characters)) none
+numberOf base characters = cond (allDigits base characters && leb (valueOf base characters) largest) (some (valueOf base characters)) none
 
 -- the digits of a number, if it is not too large
 unfoldable pub digitsOf : ℕ → ℕ → ℕ → Option (List ℕ)

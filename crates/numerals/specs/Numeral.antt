@@ -1,4 +1,4 @@
--- What a `Numeral` says: the number, or that there is none.
+-- Means: what a `Numeral` says: the number, or that there is none.
 use Prim.Native.Nat.{ℕ}
 use mathlib.Core.Option.{Option, none, some}
 use Rattle.numerals.specs.declared.Numeral.{Numeral}

@@ -1,11 +1,13 @@
-// Numbers in decimal and octal digits: D2BIN, BIN2D, O2BIN, BIN2O. One reader and one writer over the base.
+// Numbers in digits: one reader and one writer over the base. The decimal and the octal pair stand each in a file of its own.
+pub mod decimal;
+pub mod octal;
+
 ghost use mathlib.Core.Path.{_≡_};
 ghost use Prim.Native.Nat.{_≤_};
 ghost use lib.ListN.{length};
 ghost use Rattle.answers.specs.Conversion.{toNumber, toCharacters};
 ghost use Rattle.numerals.specs.Digits.{numberOf, digits, digitsOf};
 ghost use Rattle.numerals.specs.Numeral.{numberIn};
-ghost use Rattle.numerals.specs.Conversions.{d2bin, bin2d, o2bin, bin2o};
 use answers::Answer;
 
 // The largest number of a word.
@@ -86,30 +88,4 @@ fn to_characters(number: usize, base: usize, size: usize, characters: &mut [u8])
     }
     write_digits(number, base, characters);
     0
-}
-
-pub fn d2bin(characters: &[u8]) -> Answer
-    ensures { λ r. ⌜ r ≡ d2bin (now (characters .entry)) ⌝ }
-{
-    to_number(characters, 10, 5)
-}
-
-pub fn bin2d(number: usize, characters: &mut [u8]) -> usize
-    ensures { λ r. ⌜ r ≡ bin2d number (now (characters .entry)) .code ⌝ }
-    ensures { λ r. ⌜ now (characters .exit) ≡ bin2d number (now (characters .entry)) .buffer ⌝ }
-{
-    to_characters(number, 10, 5, characters)
-}
-
-pub fn o2bin(characters: &[u8]) -> Answer
-    ensures { λ r. ⌜ r ≡ o2bin (now (characters .entry)) ⌝ }
-{
-    to_number(characters, 8, 6)
-}
-
-pub fn bin2o(number: usize, characters: &mut [u8]) -> usize
-    ensures { λ r. ⌜ r ≡ bin2o number (now (characters .entry)) .code ⌝ }
-    ensures { λ r. ⌜ now (characters .exit) ≡ bin2o number (now (characters .entry)) .buffer ⌝ }
-{
-    to_characters(number, 8, 6, characters)
 }

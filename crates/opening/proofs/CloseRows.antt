@@ -12,20 +12,21 @@ use Rattle.pack.specs.declared.Entry.{Entry}
 use Rattle.pack.specs.declared.Key.{Key}
 use Rattle.asking.specs.declared.Asked.{Asked}
 use Rattle.asking.specs.declared.Asked.the-variants.{File, Refused}
-use Rattle.asking.specs.Asked.{fileRows, fileOf, askedOf}
-use Rattle.asking.proofs.Stage.{FileAsked, asked-is-file, asked-is-refused, asked-entry, file-refused, file-clear}
-use Rattle.opening.specs.declared.Decision.the-variants.{Set, Refused as No}
+use Rattle.asking.specs.Asked.{fileRows, fileOf}
+use Rattle.asking.specs.AskedStage.{askedOf}
+use Rattle.asking.proofs.AskedStage.{FileAsked, asked-is-file, asked-is-refused, asked-entry, file-refused, file-clear}
+use Rattle.opening.specs.declared.change.EntryChange.the-variants.{Set, Refused as No}
 use Rattle.opening.specs.Close.{wrongMode, isOpenAs, closeRows}
-use Rattle.opening.specs.Decision.{closeDecided}
-use Rattle.opening.proofs.Deciding.{decided-refused, decided-set}
+use Rattle.opening.specs.EntryChange.{closeChange}
+use Rattle.opening.proofs.EntryChangeDecided.{decided-refused, decided-set}
 
 pub close-ordered : (img : List ℕ) (key : Key) (mode : ℕ) → inOrder tableOrder 0 (closeRows img key mode) ≡ true
 unfolding closeRows fileRows
 close-ordered img key mode = refl
 
 -- a refusal of the first stage
-pub close-stage : (mode : ℕ) (img : List ℕ) (key : Key) (code : ℕ) → askedOf img key (wrongMode mode) ≡ Refused code → No code ≡ closeDecided img key mode
-unfolding closeDecided closeRows
+pub close-stage : (mode : ℕ) (img : List ℕ) (key : Key) (code : ℕ) → askedOf img key (wrongMode mode) ≡ Refused code → No code ≡ closeChange img key mode
+unfolding closeChange closeRows
 close-stage mode img key code asked =
     let r = asked-is-refused img key (wrongMode mode) code asked in
     decided-refused _ img key _ _ (file-refused img key (wrongMode mode) _ r) (r .not-zero)
@@ -46,17 +47,17 @@ module _ (mode : ℕ) (g : Geometry) (e : ℕ) (x : Entry) (img : List ℕ) (key
       by true h = rw h
       by false h = rw h
 
-  pub close-other : isOpenAs mode x ≡ false → No 0o45 ≡ closeDecided img key mode
-  unfolding closeDecided
+  pub close-other : isOpenAs mode x ≡ false → No 0o45 ≡ closeChange img key mode
+  unfolding closeChange
   close-other is = decided-refused _ img key _ _ (row-is false is) (λ zero. omega (arith, zero))
 
   module _ (is : isOpenAs mode x ≡ true) where
-    pub close-reader : mode ≡ 4 → (word : ℕ) → word ≡ x .readers - 1 → Set g e 10 word ≡ closeDecided img key mode
-    unfolding closeDecided
+    pub close-reader : mode ≡ 4 → (word : ℕ) → word ≡ x .readers - 1 → Set g e 10 word ≡ closeChange img key mode
+    unfolding closeChange
     close-reader four word word-is = rw (eq-eqb mode 4 four, word-is, same-file) (decided-set _ img key _ _ closing (row-is true is))
 
-    pub close-writer : (mode ≡ 4 → ⊥) → Set g e 9 0 ≡ closeDecided img key mode
-    unfolding closeDecided
+    pub close-writer : (mode ≡ 4 → ⊥) → Set g e 9 0 ≡ closeChange img key mode
+    unfolding closeChange
     close-writer other = rw (ne-eqb mode 4 other) (decided-set _ img key _ _ closing (row-is true is))
 
 -- the tests of a close, return by return

@@ -1,9 +1,9 @@
 -- The laws of opening and closing.
-pub mod Deciding
-pub mod Cleared
+pub mod EntryChangeDecided
 pub mod OpenRows
 pub mod CloseRows
-pub mod Success
-pub mod EntryWord
-pub mod Opened
-pub mod Closed
+pub mod OpenCarried
+pub mod CloseCarried
+pub mod EntryChangeWord
+pub mod OpenEffect
+pub mod CloseEffect

@@ -15,24 +15,25 @@ use Rattle.asking.specs.declared.Asked.the-variants.{File, Refused}
 use Rattle.asking.specs.declared.Right.{Right}
 use Rattle.asking.specs.declared.Grant.{Grant}
 use Rattle.asking.specs.declared.Grant.the-variants.{Granted, Denied}
-use Rattle.asking.specs.Asked.{fileRows, fileOf, askedOf}
-use Rattle.asking.specs.Rights.{may, granted}
+use Rattle.asking.specs.Asked.{fileRows, fileOf}
+use Rattle.asking.specs.AskedStage.{askedOf, granted}
+use Rattle.asking.specs.Rights.{may}
 use Rattle.asking.specs.Opens.{opens, isFull}
-use Rattle.asking.proofs.Stage.{FileAsked, asked-is-file, asked-is-refused, asked-entry, file-refused, file-clear}
+use Rattle.asking.proofs.AskedStage.{FileAsked, asked-is-file, asked-is-refused, asked-entry, file-refused, file-clear}
 use Rattle.opening.specs.declared.Opening.{Opening}
 use Rattle.opening.specs.declared.Opening.the-variants.{Input, Update, Extension}
-use Rattle.opening.specs.declared.Decision.the-variants.{Set, Refused as No}
+use Rattle.opening.specs.declared.change.EntryChange.the-variants.{Set, Refused as No}
 use Rattle.opening.specs.Open.{rightFor, isUpdate, isExtension, isWriting, openRows, openWord, openValue}
-use Rattle.opening.specs.Decision.{openDecided}
-use Rattle.opening.proofs.Deciding.{decided-refused, decided-set}
+use Rattle.opening.specs.EntryChange.{openChange}
+use Rattle.opening.proofs.EntryChangeDecided.{decided-refused, decided-set}
 
 pub open-ordered : (mode : Opening) (img : List ℕ) (key : Key) (caller : ℕ) → inOrder tableOrder 0 (openRows mode img key caller) ≡ true
 unfolding openRows fileRows
 open-ordered mode img key caller = refl
 
 -- a refusal of the first stage
-pub open-stage : (mode : Opening) (caller : ℕ) (img : List ℕ) (key : Key) (code : ℕ) → askedOf img key false ≡ Refused code → No code ≡ openDecided mode img key caller
-unfolding openDecided openRows
+pub open-stage : (mode : Opening) (caller : ℕ) (img : List ℕ) (key : Key) (code : ℕ) → askedOf img key false ≡ Refused code → No code ≡ openChange mode img key caller
+unfolding openChange openRows
 open-stage mode caller img key code asked =
     let r = asked-is-refused img key false code asked in
     decided-refused _ img key _ _ (file-refused img key false _ r) (r .not-zero)
@@ -45,11 +46,11 @@ module _ (mode : Opening) (caller : ℕ) (g : Geometry) (e : ℕ) (x : Entry) (i
   at-file : (P : Entry → Type 0) → P x → P (fileOf img key)
   at-file P = subst P (asked-entry img key false g e x asked)
 
-  refuses : {code : ℕ} → firstOf (openRows mode img key caller) ≡ code → (code ≡ 0 → ⊥) → No code ≡ openDecided mode img key caller
-  unfolding openDecided
+  refuses : {code : ℕ} → firstOf (openRows mode img key caller) ≡ code → (code ≡ 0 → ⊥) → No code ≡ openChange mode img key caller
+  unfolding openChange
   refuses first never = decided-refused _ img key _ _ first never
 
-  pub open-created : x .writer ≡ 2 → No 0o2 ≡ openDecided mode img key caller
+  pub open-created : x .writer ≡ 2 → No 0o2 ≡ openChange mode img key caller
   unfolding openRows
   open-created is =
       refuses (file-clear img key false _ file ∙ refuse _ (at-file (λ (y : Entry). eqb (y .writer) 2 ≡ true) (eq-eqb _ _ is))) (λ zero. omega (arith, zero))
@@ -58,7 +59,7 @@ module _ (mode : Opening) (caller : ℕ) (g : Geometry) (e : ℕ) (x : Entry) (i
     whole-row : eqb (fileOf img key .writer) 2 ≡ false
     whole-row = at-file (λ (y : Entry). eqb (y .writer) 2 ≡ false) (ne-eqb _ _ whole)
 
-    pub open-denied : may (rightFor mode) caller (x .uic) (x .protect) ≡ false → No 0o6 ≡ openDecided mode img key caller
+    pub open-denied : may (rightFor mode) caller (x .uic) (x .protect) ≡ false → No 0o6 ≡ openChange mode img key caller
     unfolding openRows
     open-denied denied =
         refuses
@@ -70,7 +71,7 @@ module _ (mode : Opening) (caller : ℕ) (g : Geometry) (e : ℕ) (x : Entry) (i
       right-row : not (may (rightFor mode) caller (fileOf img key .uic) (fileOf img key .protect)) ≡ false
       right-row = at-file (λ (y : Entry). not (may (rightFor mode) caller (y .uic) (y .protect)) ≡ false) (ap not allowed)
 
-      pub open-contiguous : (isExtension mode && eqb (x .kind) 1) ≡ true → No 0o5 ≡ openDecided mode img key caller
+      pub open-contiguous : (isExtension mode && eqb (x .kind) 1) ≡ true → No 0o5 ≡ openChange mode img key caller
       unfolding openRows
       open-contiguous is =
           refuses
@@ -82,7 +83,7 @@ module _ (mode : Opening) (caller : ℕ) (g : Geometry) (e : ℕ) (x : Entry) (i
         extension-row : (isExtension mode && eqb (fileOf img key .kind) 1) ≡ false
         extension-row = at-file (λ (y : Entry). (isExtension mode && eqb (y .kind) 1) ≡ false) extensible
 
-        pub open-linked : (isUpdate mode && eqb (x .kind) 2) ≡ true → No 0o43 ≡ openDecided mode img key caller
+        pub open-linked : (isUpdate mode && eqb (x .kind) 2) ≡ true → No 0o43 ≡ openChange mode img key caller
         unfolding openRows
         open-linked is =
             refuses
@@ -95,7 +96,7 @@ module _ (mode : Opening) (caller : ℕ) (g : Geometry) (e : ℕ) (x : Entry) (i
           update-row : (isUpdate mode && eqb (fileOf img key .kind) 2) ≡ false
           update-row = at-file (λ (y : Entry). (isUpdate mode && eqb (y .kind) 2) ≡ false) updatable
 
-          pub open-written : (isWriting mode && ltb 0 (x .writer)) ≡ true → No 0o4 ≡ openDecided mode img key caller
+          pub open-written : (isWriting mode && ltb 0 (x .writer)) ≡ true → No 0o4 ≡ openChange mode img key caller
           unfolding openRows
           open-written is =
               refuses
@@ -116,11 +117,11 @@ module _ (mode : Opening) (caller : ℕ) (g : Geometry) (e : ℕ) (x : Entry) (i
                 file-clear img key false _ file
                 ∙ (pass _ _ whole-row ∙ (pass _ _ right-row ∙ (pass _ _ extension-row ∙ (pass _ _ update-row ∙ pass _ _ writer-row))))
 
-            pub open-full : isFull x ≡ true → No 0o3 ≡ openDecided mode img key caller
+            pub open-full : isFull x ≡ true → No 0o3 ≡ openChange mode img key caller
             open-full is = refuses (last-row ∙ refuse _ (at-file (λ (y : Entry). isFull y ≡ true) is)) (λ zero. omega (arith, zero))
 
-            pub open-set : isFull x ≡ false → (i word : ℕ) → i ≡ openWord mode → word ≡ openValue mode x → Set g e i word ≡ openDecided mode img key caller
-            unfolding openDecided
+            pub open-set : isFull x ≡ false → (i word : ℕ) → i ≡ openWord mode → word ≡ openValue mode x → Set g e i word ≡ openChange mode img key caller
+            unfolding openChange
             open-set is i word i-is word-is =
                 rw (i-is, word-is, asked-entry img key false g e x asked)
                 (decided-set _ img key _ _ file (last-row ∙ (pass _ _ (at-file (λ (y : Entry). isFull y ≡ false) is) ∙ clear)))

@@ -9,7 +9,7 @@ use Rattle.pack.specs.declared.Key.{Key}
 use Rattle.pack.specs.Geometry.{geometryOf}
 use Rattle.asking.specs.Outcome.{Outcome, settled}
 use Rattle.asking.specs.Asked.{fileRows, entryNo, fileOf}
-use Rattle.asking.specs.Written.{setEntryWord}
+use Rattle.pack.specs.EntryWords.{setEntryWord}
 
 -- "41: .. mode not 1 to 4"
 abbrev pub wrongMode : ℕ → Bool

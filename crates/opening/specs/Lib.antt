@@ -1,4 +1,4 @@
 -- Opening and closing files.
 pub mod Open
 pub mod Close
-pub mod Decision
+pub mod EntryChange

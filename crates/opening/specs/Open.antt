@@ -13,7 +13,7 @@ use Rattle.asking.specs.Outcome.{Outcome, settled}
 use Rattle.asking.specs.Asked.{fileRows, entryNo, fileOf}
 use Rattle.asking.specs.Rights.{may}
 use Rattle.asking.specs.Opens.{isFull}
-use Rattle.asking.specs.Written.{setEntryWord}
+use Rattle.pack.specs.EntryWords.{setEntryWord}
 use Rattle.opening.specs.declared.Opening.{Opening}
 use Rattle.opening.specs.declared.Opening.the-variants.{Input, Update, Extension}
 

@@ -1,4 +1,4 @@
--- What a search over the blocks of one file says.
+-- Means: what a search over the blocks of one file says.
 use Prim.Native.Nat.{ℕ}
 use mathlib.Core.Option.{Option, none, some}
 use Rattle.owners.specs.declared.Seen.{Seen}

@@ -1,14 +1,13 @@
-// Whose a block of a pack is, and how many are nobody's.
-pub mod audit;
+// Whose a block of a pack is.
+pub mod owner_question;
 
 ghost use mathlib.Core.Path.{_≡_};
-ghost use Prim.Native.Nat.{ℕ, _-_, _<_, _≤_};
-ghost use lib.ListN.{length};
-ghost use Rattle.pack.specs.Geometry.{geometryOf, Sized, slots};
+ghost use Prim.Native.Nat.{ℕ, _<_};
+ghost use Rattle.pack.specs.Geometry.{geometryOf, slots};
+ghost use Rattle.pack.specs.GeometrySized.{Sized};
 ghost use Rattle.pack.specs.File.{blocksOf, count};
 ghost use Rattle.pack.specs.Consistent.{Consistent};
 ghost use Rattle.pack.specs.Owner.{placeFrom, holder, ownerOf};
-ghost use Rattle.owners.specs.Free.{freeOn};
 ghost use Rattle.owners.specs.Seen.{seenIn};
 use pack::BlockNo;
 use pack::Entry;
@@ -77,22 +76,4 @@ pub fn owner_of(img: &[u8], g: Geometry, b: BlockNo) -> Owner
         return Owner::System;
     }
     holder_of(img, g, b)
-}
-
-// The map says how often each block is held, as opening a pack leaves it.
-pub fn free_count(map: &[u8], g: Geometry) -> usize
-    requires { ⌜ g .blocks ≤ length (now map) ⌝ }
-    requires { ⌜ g .bodies .0 ≤ g .blocks ⌝ }
-    ensures { λ r. ⌜ r ≡ freeOn (now (map .entry)) (g .bodies .0) (g .blocks - g .bodies .0) ⌝ }
-{
-    let end = g.blocks;
-    let mut b = g.bodies.0;
-    let mut free = 0;
-    while b < end {
-        if map[b] == 0 {
-            free += 1;
-        }
-        b += 1;
-    }
-    free
 }

@@ -1,6 +1,13 @@
--- The laws of tests and counts, and of the pack's measures, header, files and entries.
-pub mod Tests
-pub mod Counting
-pub mod Measures
-pub mod Headers
-pub mod Files
+-- The laws of the pack: its forms, measures and header, its files, keys and entries, and the entries' words that are written.
+pub mod FormBounds
+pub mod GeometryRoom
+pub mod HeaderTestWords
+pub mod HeaderTestMeasures
+pub mod HeaderTestWhole
+pub mod HeaderRules
+pub mod FileCount
+pub mod FileChain
+pub mod KeySame
+pub mod EntryRead
+pub mod EntryWordsWritten
+pub mod ConsistentTotal

@@ -5,7 +5,8 @@ use Rattle.pack.specs.declared.Geometry.{Geometry}
 use Rattle.pack.specs.Geometry.{geometryOf, slots}
 use Rattle.pack.specs.Header.{RightHeader}
 use Rattle.pack.specs.File.{count}
-use Rattle.pack.specs.Entry.{entryOf, blocksAt, Empty, RightEntry, SameFile}
+use Rattle.pack.specs.Entry.{entryOf, blocksAt, Empty, RightEntry}
+use Rattle.pack.specs.Key.{keyIn, SameKey}
 
 -- the sum of a function over `k` numbers, the first of them `from`
 unfoldable pub total : (ℕ → ℕ) → ℕ → ℕ → ℕ
@@ -27,6 +28,6 @@ pub record Consistent (img : List ℕ) : Type 0 where
   pub entries : (e : ℕ) → e < slots (geometryOf img) → RightEntry img (geometryOf img) e
   -- "and differ in name, extension or UIC;"
   pub differ : (e f : ℕ) → e < f → f < slots (geometryOf img) → (Empty img (geometryOf img) e → ⊥)
-      → SameFile (entryOf img (geometryOf img) e) (entryOf img (geometryOf img) f) → ⊥
+      → SameKey (keyIn (entryOf img (geometryOf img) e)) (keyIn (entryOf img (geometryOf img) f)) → ⊥
   -- "no block is held twice;"
   pub once : (b : ℕ) → held img b ≤ 1

@@ -36,13 +36,6 @@ entryOf img g e =
 abbrev pub blocksAt : List ℕ → Geometry → ℕ → List ℕ
 blocksAt img g e = blocksOf img g (entryOf img g e)
 
--- no rule of the paper: numbers read from an image are words, so that no sum of two of them is too large for the code
-pub record Words (x : Entry) : Type 0 where
-  pub first : x .first .0 < 65536
-  pub length : x .length < 65536
-  pub last : x .last .0 < 65536
-  pub readers : x .readers < 65536
-
 -- "An empty entry is all zero."
 pub record Empty (img : List ℕ) (g : Geometry) (e : ℕ) : Type 0 where
   pub zero : (i : ℕ) → i < 16 → entryWord img g e i ≡ 0
@@ -81,10 +74,3 @@ pub record Used (img : List ℕ) (g : Geometry) (e : ℕ) (x : Entry) : Type 0 w
 
 abbrev pub RightEntry : List ℕ → Geometry → ℕ → Type 0
 RightEntry img g e = Empty img g e ⊎ Used img g e (entryOf img g e)
-
--- two entries of one name, extension and UIC
-pub record SameFile (x y : Entry) : Type 0 where
-  pub name1 : x .name1 ≡ y .name1
-  pub name2 : x .name2 ≡ y .name2
-  pub extension : x .extension ≡ y .extension
-  pub uic : x .uic ≡ y .uic

@@ -29,9 +29,12 @@ mostUicsOf form = 64
 unfoldable pub bodiesOf : ℕ → ℕ → ℕ
 bodiesOf form contents = contents + 1
 
--- the most blocks and the most segments in a block of any form
+-- the most blocks, the most segments in a block and the most blocks of contents of any form
 abbrev pub mostBlocks : ℕ
 mostBlocks = 1024
 
 abbrev pub mostSegments : ℕ
 mostSegments = 4
+
+abbrev pub mostContents : ℕ
+mostContents = 8

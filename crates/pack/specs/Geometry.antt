@@ -1,11 +1,9 @@
 -- The measures of a pack, and where its blocks and entries stand. All is said over the segments in a block.
-use Prim.Native.Nat.{ℕ, _+_, _*_, _-_, _≤_, _<_}
-use mathlib.Core.Path.{_≡_}
+use Prim.Native.Nat.{ℕ, _+_, _*_, _-_}
 use mathlib.Core.List.{List}
-use lib.ListN.{length}
 use Rattle.words.specs.Word.{wordAt}
 use Rattle.pack.specs.declared.Geometry.{Geometry}
-use Rattle.pack.specs.Form.{segmentsOf, bodiesOf, mostBlocks, mostSegments}
+use Rattle.pack.specs.Form.{segmentsOf, bodiesOf, mostSegments, mostContents}
 
 -- the measures that an image states
 unfoldable pub geometryOf : List ℕ → Geometry
@@ -17,12 +15,18 @@ geometryOf img =
       bodies = record { 0 = bodiesOf (wordAt img 0) (wordAt img 2) };
     }
 
--- "64-word segments": the words and the bytes of a block
+-- "64-word segments": the words and the bytes of so many, and of a block
+abbrev pub segmentWords : ℕ → ℕ
+segmentWords segments = 64 * segments
+
+abbrev pub segmentBytes : ℕ → ℕ
+segmentBytes segments = 128 * segments
+
 abbrev pub blockWords : Geometry → ℕ
-blockWords g = 64 * g .segments .0
+blockWords g = segmentWords (g .segments .0)
 
 abbrev pub blockBytes : Geometry → ℕ
-blockBytes g = 128 * g .segments .0
+blockBytes g = segmentBytes (g .segments .0)
 
 -- "its payload is the 510 bytes that start at byte 2 of a block": all of a linked block but its link
 abbrev pub payloadBytes : Geometry → ℕ
@@ -36,15 +40,10 @@ blockAt g b = b * blockWords g
 abbrev pub slots : Geometry → ℕ
 slots g = g .contents * (4 * g .segments .0)
 
+-- the most entries of a pack of any form
+abbrev pub mostEntries : ℕ
+mostEntries = mostContents * (4 * mostSegments)
+
 -- the first word of entry e, counted in stored order from 0
 abbrev pub entryAt : Geometry → ℕ → ℕ
 entryAt g e = blockWords g + 16 * e
-
--- what every reader of an image with a right header counts on (proofs/Headers.antt, `header-sized`)
-pub record Sized (img : List ℕ) (g : Geometry) : Type 0 where
-  pub long : length img ≡ g .blocks * blockBytes g
-  pub some : 0 < g .segments .0
-  pub few : g .segments .0 ≤ mostSegments
-  pub contents : g .contents < g .bodies .0
-  pub bodies : g .bodies .0 < g .blocks
-  pub most : g .blocks ≤ mostBlocks

@@ -5,7 +5,7 @@ use mathlib.Core.List.{List}
 use lib.ListN.{length}
 use Rattle.words.specs.Word.{wordAt}
 use Rattle.pack.specs.Form.{segmentsOf, leastBlocks, mostBlocksOf, leastContents, mostContentsOf, bodiesOf, mostUicsOf}
-use Rattle.pack.specs.Geometry.{geometryOf, blockWords, blockBytes}
+use Rattle.pack.specs.Geometry.{geometryOf, segmentBytes, blockWords}
 
 -- "word 3 is u, 0 to 64; then u UICs"
 abbrev pub uicCount : List ℕ → ℕ
@@ -20,23 +20,31 @@ pub record Listed (img : List ℕ) (uic : ℕ) : Type 0 where
   pub within : at < uicCount img
   pub is : uicAt img at ≡ uic
 
-pub record RightHeader (img : List ℕ) : Type 0 where
+-- what block 0 and the image's length say: `long` bytes, the form, n, c and u
+pub record Measured (long form blocks contents uics : ℕ) : Type 0 where
   -- "Block 0: word 0 is 1;"
-  pub known : 0 < segmentsOf (wordAt img 0)
+  pub known : 0 < segmentsOf form
   -- "word 1 is n, the blocks in all, 16 to 1024;"
-  pub blocksLeast : leastBlocks ≤ wordAt img 1
-  pub blocksMost : wordAt img 1 ≤ mostBlocksOf (wordAt img 0)
+  pub blocksLeast : leastBlocks ≤ blocks
+  pub blocksMost : blocks ≤ mostBlocksOf form
   -- "word 2 is c, 1 to 8;"
-  pub contentsLeast : leastContents ≤ wordAt img 2
-  pub contentsMost : wordAt img 2 ≤ mostContentsOf (wordAt img 0)
+  pub contentsLeast : leastContents ≤ contents
+  pub contentsMost : contents ≤ mostContentsOf form
   -- there is a body: in form 1 by the bounds of n and c, in a form with other bounds by its own rule
-  pub room : bodiesOf (wordAt img 0) (wordAt img 2) < wordAt img 1
+  pub room : bodiesOf form contents < blocks
   -- "word 3 is u, 0 to 64;"
-  pub uicsMost : uicCount img ≤ mostUicsOf (wordAt img 0)
+  pub uicsMost : uics ≤ mostUicsOf form
+  -- "the image is 512n bytes"
+  pub size : long ≡ blocks * segmentBytes (segmentsOf form)
+
+-- "u UICs, distinct and not 0": of `count` words, the first of them word `from`
+pub record DistinctWords (bytes : List ℕ) (from count : ℕ) : Type 0 where
+  pub some : (w : ℕ) → from ≤ w → w < from + count → wordAt bytes w ≡ 0 → ⊥
+  pub apart : (v w : ℕ) → from ≤ v → v < w → w < from + count → wordAt bytes v ≡ wordAt bytes w → ⊥
+
+pub record RightHeader (img : List ℕ) : Type 0 where
+  pub measured : Measured (length img) (wordAt img 0) (wordAt img 1) (wordAt img 2) (uicCount img)
   -- "then u UICs, distinct and not 0;"
-  pub uicsNotZero : (i : ℕ) → i < uicCount img → uicAt img i ≡ 0 → ⊥
-  pub uicsDistinct : (i j : ℕ) → i < j → j < uicCount img → uicAt img i ≡ uicAt img j → ⊥
+  pub uics : DistinctWords img 4 (uicCount img)
   -- "the rest 0."
   pub rest : (w : ℕ) → 4 + uicCount img ≤ w → w < blockWords (geometryOf img) → wordAt img w ≡ 0
-  -- "the image is 512n bytes"
-  pub size : length img ≡ wordAt img 1 * blockBytes (geometryOf img)

@@ -1,10 +1,14 @@
 -- The pack image, rule by rule as document 01 has it under 'The pack image'.
 pub mod Form
 pub mod Geometry
+pub mod GeometrySized
 pub mod Header
-pub mod Test
+pub mod HeaderTest
 pub mod File
+pub mod Key
 pub mod Entry
+pub mod EntryFields
+pub mod EntryWords
 pub mod Consistent
 pub mod Owner
 pub mod Untouched

@@ -1,7 +1,7 @@
--- The laws of the listing's text.
-pub mod Putting
-pub mod Spelling
-pub mod Lines
-pub mod Legal
-pub mod Whole
-pub mod Example
+-- The laws of the listing.
+pub mod Put
+pub mod PutSpelled
+pub mod PiecesLines
+pub mod Listing
+pub mod ListingLength
+pub mod ListingExample

@@ -4,7 +4,7 @@ use mathlib.Core.Bool.{cond, _&&_}
 use mathlib.Core.List.{List, [], _∷_, _++_}
 use lib.Dec.{eqb, leb}
 use lib.ListN.{length}
-use Rattle.answers.specs.Conversion.{orElse}
+use Rattle.answers.specs.Missing.{orElse}
 use Rattle.radix.specs.Packing.{charactersOf}
 use Rattle.numerals.specs.Digits.{digits}
 use Rattle.pack.specs.declared.Geometry.{Geometry}
@@ -12,7 +12,7 @@ use Rattle.pack.specs.declared.Entry.{Entry}
 use Rattle.pack.specs.Geometry.{geometryOf, slots}
 use Rattle.pack.specs.Entry.{entryOf}
 use Rattle.pack.specs.Owner.{freeCount}
-use Rattle.consistency.specs.Test.{consistent}
+use Rattle.consistency.specs.ConsistentTest.{consistent}
 use Rattle.words.specs.Text.{bytes}
 
 abbrev pub newline : List ℕ
@@ -57,8 +57,11 @@ abbrev pub longest : ℕ
 longest = 65536
 
 -- "an image not consistent, or a longer input, prints only `REFUSED 40`"
+abbrev pub refusedLine : List ℕ
+refusedLine = bytes "REFUSED 40" ++ newline
+
 unfoldable pub listing : List ℕ → List ℕ
 listing img =
     cond (leb (length img) longest && consistent img)
     (headLine (geometryOf img .blocks) (freeCount img) ++ linesFrom img (geometryOf img) 0 (slots (geometryOf img)))
-    (bytes "REFUSED 40" ++ newline)
+    refusedLine

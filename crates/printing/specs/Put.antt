@@ -1,4 +1,4 @@
--- A piece of text put into a buffer.
+-- Means: a piece of text put into a buffer.
 use Prim.Native.Nat.{ℕ, _+_}
 use mathlib.Core.Path.{_≡_}
 use mathlib.Core.List.{List}

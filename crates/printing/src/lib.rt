@@ -4,11 +4,11 @@ ghost use Prim.Native.Nat.{_+_, _*_, _<_, _≤_};
 ghost use mathlib.Core.List.{_++_};
 ghost use lib.ListN.{length, drop};
 ghost use Rattle.numerals.specs.Digits.{digits};
-ghost use Rattle.pack.specs.Geometry.{Sized, slots};
+ghost use Rattle.pack.specs.GeometrySized.{Sized};
+ghost use Rattle.pack.specs.Geometry.{slots};
 ghost use Rattle.pack.specs.Entry.{entryOf};
-ghost use Rattle.words.specs.Text.{bytes};
-ghost use Rattle.printing.specs.Listing.{newline, headLine, spelled, kindLetter, entryLine, lineOf, linesFrom, listing};
-ghost use Rattle.printing.specs.Parts.{nameText, mostName, sizeText, mostSize, uicText, mostUic, mostLine, mostHead, longestText};
+ghost use Rattle.printing.specs.Listing.{headLine, spelled, kindLetter, entryLine, lineOf, linesFrom, refusedLine, listing};
+ghost use Rattle.printing.specs.Pieces.{nameText, mostName, sizeText, mostSize, uicText, mostUic, mostLine, mostHead, longestText};
 ghost use Rattle.printing.specs.Put.{Put};
 use consistency::Opened;
 use pack::Entry;
@@ -18,8 +18,13 @@ use radix::Radix50;
 // The longest image that is listed, in bytes.
 pub const LONGEST_IMAGE: usize = 65536;
 
-// The room for the longest text: a head line of 24 bytes, and 128 lines of 33.
-pub const LONGEST_TEXT: usize = 4248;
+// A head line; and the line of an entry: name, size, UIC, protect code and line end.
+const HEAD: usize = 24;
+
+const LINE: usize = 10 + 8 + 11 + 3 + 1;
+
+// The room for the longest text.
+pub const LONGEST_TEXT: usize = HEAD + LINE * pack::MOST_ENTRIES;
 
 fn put_bytes(out: &mut [u8], at: usize, piece: &[u8]) -> usize
     requires { ⌜ at + length (now piece) ≤ length (now out) ⌝ }
@@ -50,7 +55,7 @@ fn put_word(out: &mut [u8], at: usize, word: Radix50) -> usize
     ensures { λ r. ⌜ r ≤ at + 3 ⌝ }
 {
     let end = at + 3;
-    let code = radix::radup(word.0, &mut out[at..end]);
+    let code = radix::radup::radup(word.0, &mut out[at..end]);
     if code == 0 {
         return end;
     }
@@ -163,7 +168,7 @@ fn put_head(out: &mut [u8], at: usize, blocks: usize, free: usize) -> usize
 
 fn put_refusal(out: &mut [u8], at: usize) -> usize
     requires { ⌜ at + mostHead ≤ length (now out) ⌝ }
-    ensures { λ r. ⌜ Put (now (out .entry)) (now (out .exit)) at r (bytes "REFUSED 40" ++ newline) ⌝ }
+    ensures { λ r. ⌜ Put (now (out .entry)) (now (out .exit)) at r refusedLine ⌝ }
 {
     put_bytes(out, at, b"REFUSED 40\n")
 }
@@ -182,6 +187,6 @@ pub fn print_listing(img: &[u8], out: &mut [u8]) -> usize
     let Opened::Good(g) = consistency::open_pack(img, &mut map) else {
         return put_refusal(out, 0);
     };
-    let at = put_head(out, 0, g.blocks, owners::free_count(&map, g));
+    let at = put_head(out, 0, g.blocks, room::free_count(&map, g));
     put_lines(out, at, img, g)
 }

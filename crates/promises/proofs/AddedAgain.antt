@@ -18,29 +18,31 @@ use Rattle.pack.specs.File.{one}
 use Rattle.pack.specs.Entry.{entryWord, entryOf, blocksAt}
 use Rattle.pack.specs.Consistent.{Consistent}
 use Rattle.pack.specs.Owner.{FreeBlock}
-use Rattle.pack.specs.Untouched.{Keyed}
+use Rattle.pack.specs.Key.{keyIn, SameKey}
+use Rattle.pack.proofs.KeySame.{same-through}
 use Rattle.asking.specs.declared.Right.the-variants.{Read, Write}
 use Rattle.asking.specs.Keys.{legalKey}
+use Rattle.asking.specs.Access.{accessRows}
 use Rattle.asking.specs.Asked.{entryNo, fileOf}
 use Rattle.asking.specs.Outcome.{settled}
 use Rattle.asking.specs.Rights.{May}
 use Rattle.asking.proofs.Rights.{may-iff, may-reads}
-use Rattle.frame.proofs.Frame.{stated-framed}
-use Rattle.frame.proofs.Resized.{resized-alike}
-use Rattle.frame.proofs.Grown.{grown-framed, grown-blocks, grown-consistent}
-use Rattle.owners.proofs.Blocks.{blocks-length}
+use Rattle.frame.proofs.FramedStays.{stated-framed}
+use Rattle.frame.proofs.GrowthResized.{resized-alike}
+use Rattle.frame.proofs.GrowthConsistent.{grown-framed, grown-blocks, grown-consistent}
+use Rattle.owners.proofs.EntryBlocks.{blocks-length}
 use Rattle.opening.specs.declared.Opening.the-variants.{Input}
 use Rattle.opening.specs.Open.{opened}
 use Rattle.opening.specs.Close.{close}
-use Rattle.opening.proofs.Cleared.{file-cleared}
-use Rattle.transfer.specs.Parts.{payloadOf}
-use Rattle.transfer.specs.Linked.{wrongPayload, linkedRead}
-use Rattle.growth.specs.Adding.{linkedAddRows, linkedAdd}
-use Rattle.growth.proofs.Enlarged.{Enlarged}
-use Rattle.growth.proofs.Added.{add-admitted, add-enlarged}
+use Rattle.asking.proofs.AskedCleared.{file-cleared, file-used}
+use Rattle.bodies.specs.BlockBytes.{payloadOf}
+use Rattle.bodies.specs.BufferSizes.{wrongPayload}
+use Rattle.transfer.specs.LinkedRead.{linkedRead}
+use Rattle.adding.specs.LinkedAdd.{linkedAddRows, linkedAdd}
+use Rattle.adding.proofs.LinkedAddEnlarged.{Enlarged}
+use Rattle.adding.proofs.LinkedAddEffect.{add-admitted, add-free, add-enlarged}
 use Rattle.promises.specs.AddedAgain.{addedImage, closedImage, openedImage}
-use Rattle.promises.proofs.AddedAgainStored.{Stored, keyed-alike, read-stored, close-stored, stored-closed, closed-writer, closed-readers}
-use Rattle.promises.proofs.AddedAgainStored.{open-stored, stored-opened, opened-readers}
+use Rattle.promises.proofs.AddedAgainStored.{Stored, read-stored, close-stored, stored-closed, closed-writer, closed-readers, open-stored, stored-opened, opened-readers}
 
 -- a block with the payload joined at the end of the file of entry x
 module _ {img img′ : List ℕ} {g : Geometry} {x b : ℕ} {payload : List ℕ} (larger : Enlarged img img′ g x b payload) where
@@ -74,7 +76,7 @@ module _
     (right : Consistent img)
     (legal : legalKey key ≡ true)
     (within : x < slots g)
-    (keyed : Keyed key (entryOf img g x))
+    (keyed : SameKey (keyIn (entryOf img g x)) key)
     (linked : entryOf img g x .kind ≡ 2)
     (free : FreeBlock img b)
     (readable : May caller (entryOf img g x .uic) (entryOf img g x .protect) Read)
@@ -94,7 +96,7 @@ module _
         right = grown-consistent stated right within linked free (larger .grown);
         legal = legal;
         within = within;
-        keyed = keyed-alike alike keyed;
+        keyed = same-through alike keyed;
         readable = subst₂ (λ (uic protect : ℕ). May caller uic protect Read) (sym (alike .uic)) (sym (protect-kept larger)) readable;
         linked = kind-kept larger ∙ linked;
         inside = omega (arith, larger .grown .size);
@@ -119,7 +121,7 @@ record Adding (img : List ℕ) (key : Key) (caller : ℕ) : Type 0 where
   few : fileOf img key .readers < 62
 
 adding : (img : List ℕ) (key : Key) (caller : ℕ) (payload : List ℕ) → linkedAdd img key caller payload .code ≡ 0 → Adding img key caller
-unfolding linkedAdd linkedAddRows settled
+unfolding linkedAdd linkedAddRows accessRows settled
 adding img key caller payload done =
     let f = file-cleared img key (wrongPayload img payload) _ done in
     let denied = none-given _ _ _ (λ z. omega (arith, z)) (f .1) in
@@ -131,7 +133,7 @@ adding img key caller payload done =
       readable = may-reads caller _ _ Write (may-iff Write caller _ _ .0 (not-false _ (denied .0)));
       least = writer .0;
       most = writer .1;
-      few = omega (arith, f .0 .used .opens, counted);
+      few = omega (arith, file-used (f .0) .opens, counted);
     }
 
 module _ (img : List ℕ) (key : Key) (caller : ℕ) (payload : List ℕ) where
@@ -152,7 +154,7 @@ module _ (img : List ℕ) (key : Key) (caller : ℕ) (payload : List ℕ) where
     unfolding fileOf
     stored-added =
         let a = add-admitted img key caller payload done in
-        stored-enlarged refl (a .right) (a .file .legal) (a .file .within) (a .file .keyed) (a .file .linked) (a .free)
+        stored-enlarged refl (a .file .right) (a .file .legal) (a .file .inside) (a .file .keyed) (a .linked) (add-free img key caller payload done)
         (opens .readable) (add-enlarged img key caller payload done)
 
     added-writer : entryOf img₁ (geometryOf img) (entryNo img key) .writer ≡ fileOf img key .writer

@@ -1,5 +1,5 @@
 -- A payload that is stored in a file stays there through CLOSE and OPENI, and a linked read gives it.
-use Prim.Native.Nat.{ℕ, _+_, _*_, _≤_, _<_}
+use Prim.Native.Nat.{ℕ, _+_, _≤_, _<_}
 use mathlib.Core.Path.{_≡_, refl, sym, ap, subst, subst₂, _∙_}
 use mathlib.Core.Logic.{⊎-elim}
 use mathlib.Core.Bool.{Bool, true, false}
@@ -12,38 +12,40 @@ use borrow.Author.Tests.{eq-eqb, ne-eqb}
 use Rattle.pack.specs.declared.Geometry.{Geometry}
 use Rattle.pack.specs.declared.Entry.{Entry}
 use Rattle.pack.specs.declared.Key.{Key}
-use Rattle.pack.specs.Geometry.{geometryOf, blockBytes, payloadBytes, slots}
+use Rattle.pack.specs.Geometry.{geometryOf, payloadBytes, slots}
 use Rattle.pack.specs.File.{blocksOf, one}
-use Rattle.pack.specs.Entry.{entryOf, blocksAt, Used, SameFile}
+use Rattle.pack.specs.Entry.{entryOf, blocksAt, Used}
+use Rattle.pack.specs.Key.{keyIn, SameKey}
 use Rattle.pack.specs.Consistent.{Consistent}
-use Rattle.pack.specs.Untouched.{Keyed}
-use Rattle.pack.proofs.Counting.{count-at}
-use Rattle.consistency.proofs.Consistent.{consistent-iff}
+use Rattle.pack.proofs.FileCount.{count-at}
+use Rattle.consistency.proofs.ConsistentTestIff.{consistent-iff}
+use Rattle.pack.proofs.KeySame.{same-through}
 use Rattle.asking.specs.declared.Right.the-variants.{Read}
 use Rattle.asking.specs.Keys.{legalKey, found}
 use Rattle.asking.specs.Asked.{entryNo, fileOf}
 use Rattle.asking.specs.Rights.{May}
-use Rattle.asking.specs.Written.{setEntryWord}
+use Rattle.pack.specs.EntryWords.{setEntryWord}
 use Rattle.asking.proofs.Keys.{legal-iff, found-iff}
 use Rattle.asking.proofs.Rights.{may-iff}
-use Rattle.asking.proofs.Stage.{FileAsked, asked-is-file, asked-file, file-at, number-found, file-found}
+use Rattle.asking.proofs.AskedStage.{FileAsked, asked-is-file, asked-file, file-at, number-found, file-found}
 use Rattle.asking.proofs.Outcome.{code-is, success-image}
 use Rattle.frame.specs.Framed.{Kept}
-use Rattle.frame.proofs.Frame.{stated-framed, entries-at}
+use Rattle.frame.proofs.FramedStays.{stated-framed, entries-at}
 use Rattle.frame.proofs.Described.{described-blocks}
-use Rattle.frame.proofs.Resized.{linked-used}
-use Rattle.owners.proofs.Blocks.{blocks-length}
+use Rattle.frame.proofs.GrowthResized.{linked-used}
+use Rattle.owners.proofs.EntryBlocks.{blocks-length}
 use Rattle.opening.specs.declared.Opening.the-variants.{Input}
 use Rattle.opening.specs.Open.{openRows, opened}
 use Rattle.opening.specs.Close.{closeRows, close}
-use Rattle.opening.proofs.EntryWord.{framed, described, same-file, protect-same, kind-same, writer-new, readers-kept, readers-new}
-use Rattle.opening.proofs.Closed.{close-consistent}
-use Rattle.opening.proofs.Opened.{open-consistent}
-use Rattle.transfer.specs.Parts.{payloadOf}
-use Rattle.transfer.specs.Linked.{wrongPayload, linkedRead}
-use Rattle.transfer.proofs.Stage.{Placed}
-use Rattle.transfer.proofs.Reading.{linked-read-given}
-use Rattle.growth.proofs.Payloads.{run-same}
+use Rattle.opening.proofs.EntryChangeWord.{framed, described, same-file, protect-same, kind-same, writer-new, readers-kept, readers-new}
+use Rattle.opening.proofs.CloseEffect.{close-consistent}
+use Rattle.opening.proofs.OpenEffect.{open-consistent}
+use Rattle.bodies.specs.BlockBytes.{payloadOf}
+use Rattle.bodies.specs.BufferSizes.{wrongPayload}
+use Rattle.transfer.specs.LinkedRead.{linkedRead}
+use Rattle.asking.proofs.AccessRows.{Accessed}
+use Rattle.transfer.proofs.LinkedReadStage.{linked-read-given}
+use Rattle.bodies.proofs.BlockBytes.{payload-same}
 use Rattle.asking.specs.Opens.{opens}
 use Rattle.requests.specs.Request.{OPEN, CLOSE}
 use Rattle.promises.specs.GivenWhen.{Case, GivesCode, success, behind}
@@ -52,26 +54,11 @@ use Rattle.promises.proofs.GivenWhen.{denied}
 use Rattle.promises.proofs.CodesFiles.{file-behind}
 use Rattle.promises.proofs.Codes.{code-iff}
 
--- an entry of the same name, extension and UIC has the same key
-pub keyed-alike : {key : Key} {x y : Entry} → SameFile x y → Keyed key y → Keyed key x
-keyed-alike alike keyed =
-    record {
-      name1 = alike .name1 ∙ keyed .name1;
-      name2 = alike .name2 ∙ keyed .name2;
-      extension = alike .extension ∙ keyed .extension;
-      uic = alike .uic ∙ keyed .uic;
-    }
-
 -- the payload of a block that is not written
 payload-kept : {Named Written : ℕ → Type 0} {img img′ : List ℕ} {g : Geometry} → Kept Named Written img img′ g
     → (b : ℕ) → g .bodies .0 ≤ b → b < g .blocks → (Written b → ⊥) → payloadOf img′ g b ≡ payloadOf img g b
 payload-kept {Named} {Written} {img} {img′} {g} kept b low high other =
-    run-same img img′ (b * blockBytes g + 2) (payloadBytes g) (kept .long) byte
-  where
-    byte : (i : ℕ) → i < payloadBytes g → getD img′ (b * blockBytes g + 2 + i) 0 ≡ getD img (b * blockBytes g + 2 + i) 0
-    byte i small =
-        let place : b * blockBytes g + 2 + i ≡ b * blockBytes g + (2 + i) = omega arith in
-        ap (λ (k : ℕ). getD img′ k 0) place ∙ kept .bodies b low high other (2 + i) (omega arith) ∙ ap (λ (k : ℕ). getD img k 0) (sym place)
+    payload-same img img′ g b (kept .long) (λ i past small. kept .bodies b low high other i small)
 
 -- the key's file is linked and the caller may read it, and its block at the place has the payload
 pub record Stored (img : List ℕ) (key : Key) (g : Geometry) (e caller place : ℕ) (payload : List ℕ) : Type 0 where
@@ -79,7 +66,7 @@ pub record Stored (img : List ℕ) (key : Key) (g : Geometry) (e caller place : 
   pub right : Consistent img
   pub legal : legalKey key ≡ true
   pub within : e < slots g
-  pub keyed : Keyed key (entryOf img g e)
+  pub keyed : SameKey (keyIn (entryOf img g e)) key
   pub readable : May caller (entryOf img g e .uic) (entryOf img g e .protect) Read
   pub linked : entryOf img g e .kind ≡ 2
   pub inside : place < entryOf img g e .length
@@ -90,8 +77,8 @@ module _ {img : List ℕ} {key : Key} {g : Geometry} {e caller place : ℕ} {pay
   used = linked-used img g e (entries-at img g (stored .stated) (stored .right) e (stored .within)) (stored .linked)
 
   -- the file as the requests find it
-  here : (e < slots (geometryOf img)) × Keyed key (entryOf img (geometryOf img) e)
-  here = subst (λ (h : Geometry). (e < slots h) × Keyed key (entryOf img h e)) (stored .stated) (stored .within, stored .keyed)
+  here : (e < slots (geometryOf img)) × SameKey (keyIn (entryOf img (geometryOf img) e)) key
+  here = subst (λ (h : Geometry). (e < slots h) × SameKey (keyIn (entryOf img h e)) key) (stored .stated) (stored .within, stored .keyed)
 
   -- the first rows have nothing against it
   first-behind : {Wrong : Type 0} (own : List Case) {code : ℕ} → (Wrong → ⊥) → GivesCode own code → GivesCode (FileCases img key Wrong ++ own) code
@@ -118,19 +105,18 @@ module _ {img : List ℕ} {key : Key} {g : Geometry} {e caller place : ℕ} {pay
   pub read-stored : 0 < entryOf img g e .readers → (lent : List ℕ) → length lent ≡ payloadBytes g
       → linkedRead img key caller place lent ≡ record { code = 0; numbers = []; image = img; buffer = payload }
   read-stored reader lent long =
-      linked-read-given img key caller place lent (asked (wrongPayload img lent) argument) (sym own) placed
+      linked-read-given img key caller place lent (record { file = asked (wrongPayload img lent) argument; entry = sym own; access = access }) (stored .inside)
       ∙ ap (λ (bytes : List ℕ). record { code = 0; numbers = []; image = img; buffer = bytes }) given
     where
       argument : wrongPayload img lent ≡ false
       argument = rw (eq-eqb (length lent) (payloadBytes (geometryOf img)) (long ∙ ap payloadBytes (stored .stated)))
 
-      placed : Placed (entryOf img g e) caller Read 1 (eqb (entryOf img g e .readers) 0) place
-      placed =
+      access : Accessed (entryOf img g e) caller Read 1 (eqb (entryOf img g e .readers) 0)
+      access =
           record {
             right-given = may-iff Read caller (entryOf img g e .uic) (entryOf img g e .protect) .1 (stored .readable);
             kind = λ is. omega (arith, is, stored .linked);
             opened = ne-eqb (entryOf img g e .readers) 0 (λ none. omega (arith, none, reader));
-            inside = stored .inside;
           }
 
       given : payloadOf img (geometryOf img) (getD (blocksOf img (geometryOf img) (fileOf img key)) place 0) ≡ payload
@@ -158,7 +144,7 @@ module _ {img : List ℕ} {key : Key} {g : Geometry} {e caller place : ℕ} {pay
           right = right;
           legal = stored .legal;
           within = stored .within;
-          keyed = keyed-alike alike (stored .keyed);
+          keyed = same-through alike (stored .keyed);
           readable = subst₂ (λ (uic protect : ℕ). May caller uic protect Read) (sym (alike .uic))
               (sym (protect-same (stored .stated) (stored .right) (stored .within) i word low high)) (stored .readable);
           linked = kind-same (stored .stated) (stored .right) (stored .within) i word low high ∙ stored .linked;

@@ -6,19 +6,22 @@ use mathlib.Core.Bool.{Bool, true, not}
 use mathlib.Core.List.{List, _∷_, _++_}
 use lib.Dec.{eqb, ltb}
 use lib.ListN.{length}
+use borrow.Author.Tests.{ltb-true, lt-ltb}
 use Rattle.answers.specs.Refusals.{Row, row, firstOf}
-use Rattle.answers.proofs.Missing.{missing-iff}
 use Rattle.pack.specs.declared.Key.{Key}
 use Rattle.pack.specs.declared.Entry.{Entry}
 use Rattle.pack.specs.Geometry.{geometryOf, blockBytes, payloadBytes}
+use Rattle.pack.specs.Consistent.{Consistent}
+use Rattle.pack.specs.Owner.{FreeBlock, freeCount}
 use Rattle.asking.specs.declared.Right.{Right}
+use Rattle.asking.specs.Access.{accessRows}
 use Rattle.asking.specs.Asked.{fileOf}
 use Rattle.asking.specs.Outcome.{settled}
 use Rattle.asking.specs.Rights.{may}
 use Rattle.transfer.specs.Block.{blockIn, blockInRows, blockOut, blockOutRows}
-use Rattle.transfer.specs.Linked.{linkedRead, linkedReadRows}
-use Rattle.growth.specs.Adding.{linkedAdd, linkedAddRows, highestFree}
-use Rattle.growth.proofs.AddingStage.{none-free, free-none}
+use Rattle.transfer.specs.LinkedRead.{linkedRead, linkedReadRows}
+use Rattle.adding.specs.LinkedAdd.{linkedAdd, linkedAddRows}
+use Rattle.room.proofs.RoomNeeds.{none-free}
 use Rattle.requests.specs.Request.{BLOCK-INPUT, BLOCK-OUTPUT, LINKED-READ, LINKED-ADD}
 use Rattle.promises.specs.GivenWhen.{Case, GivesCode}
 use Rattle.promises.specs.Codes.{AccessCases, casesOf}
@@ -40,7 +43,7 @@ sized a b = denies (eqb a b) (equal-numbers a b)
 
 module _ (img : List ℕ) (key : Key) (caller place : ℕ) (buffer : List ℕ) where
   pub block-in-code : GivesCode (casesOf (BLOCK-INPUT key caller place buffer) img) (blockIn img key caller place buffer .code)
-  unfolding blockIn blockInRows settled
+  unfolding blockIn blockInRows accessRows settled
   block-in-code =
       file-code img key _ _ (sized (length buffer) (blockBytes (geometryOf img))) _ _ (λ right.
       access-code _ 2 (fileOf img key) caller _ _
@@ -48,23 +51,28 @@ module _ (img : List ℕ) (key : Key) (caller place : ℕ) (buffer : List ℕ) w
       (rung _ 0o44 _ (at-least _ place) (λ p. clear)))
 
   pub block-out-code : GivesCode (casesOf (BLOCK-OUTPUT key caller place buffer) img) (blockOut img key caller place buffer .code)
-  unfolding blockOut blockOutRows settled
+  unfolding blockOut blockOutRows accessRows settled
   block-out-code =
       file-code img key _ _ (sized (length buffer) (blockBytes (geometryOf img))) _ _ (λ right.
       access-code _ 2 (fileOf img key) caller _ _ (denies _ (equal-numbers (fileOf img key .writer) 1)) _ _
       (rung _ 0o44 _ (at-least _ place) (λ p. clear)))
 
   pub linked-read-code : GivesCode (casesOf (LINKED-READ key caller place buffer) img) (linkedRead img key caller place buffer .code)
-  unfolding linkedRead linkedReadRows settled
+  unfolding linkedRead linkedReadRows accessRows settled
   linked-read-code =
       file-code img key _ _ (sized (length buffer) (payloadBytes (geometryOf img))) _ _ (λ right.
       access-code _ 1 (fileOf img key) caller _ _ (unread (fileOf img key .readers)) _ _ (rung _ 0o44 _ (at-least _ place) (λ p. clear)))
 
+-- no block is free
+counted-free : {img : List ℕ} → Consistent img → ltb (freeCount img) 1 ≡ true ↔ ((b : ℕ) → FreeBlock img b → ⊥)
+counted-free {img} right =
+    (λ t. none-free right .0 (ltb-true (freeCount img) 1 t), λ never. lt-ltb (freeCount img) 1 (none-free right .1 never))
+
 pub linked-add-code : (img : List ℕ) (key : Key) (caller : ℕ) (payload : List ℕ)
     → GivesCode (casesOf (LINKED-ADD key caller payload) img) (linkedAdd img key caller payload .code)
-unfolding linkedAdd linkedAddRows settled
+unfolding linkedAdd linkedAddRows accessRows settled
 linked-add-code img key caller payload =
     file-code img key _ _ (sized (length payload) (payloadBytes (geometryOf img))) _ _ (λ right.
     access-code _ 1 (fileOf img key) caller _ _
     (denies _ (either (eqb (fileOf img key .writer) 2) (eqb (fileOf img key .writer) 3) (equal-numbers _ 2) (equal-numbers _ 3))) _ _
-    (rung _ 0o42 _ (missing-iff (highestFree img) (none-free img, free-none img)) (λ b. clear)))
+    (rung _ 0o42 _ (counted-free right) (λ b. clear)))

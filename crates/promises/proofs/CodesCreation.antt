@@ -9,16 +9,16 @@ use lib.ListN.{length}
 use borrow.Author.Tests.{not-false}
 use Rattle.answers.specs.Refusals.{Row, firstOf}
 use Rattle.pack.specs.declared.Key.{Key}
-use Rattle.pack.specs.Test.{listed}
+use Rattle.pack.specs.HeaderTest.{listed}
 use Rattle.pack.specs.Consistent.{Consistent}
-use Rattle.pack.proofs.Headers.{listed-iff}
-use Rattle.consistency.proofs.Consistent.{consistent-iff}
+use Rattle.pack.proofs.HeaderTestWords.{listed-iff}
+use Rattle.consistency.proofs.ConsistentTestIff.{consistent-iff}
 use Rattle.asking.specs.Outcome.{settled}
 use Rattle.creation.specs.Format.{format, formatRows, formatTest}
 use Rattle.creation.specs.Creating.{creatingRows}
 use Rattle.creation.specs.Openo.{openo}
 use Rattle.creation.specs.Alloc.{alloc, allocRows}
-use Rattle.creation.proofs.Formatting.{format-iff}
+use Rattle.creation.proofs.FormatRows.{format-iff}
 use Rattle.requests.specs.Request.{FORMAT, ALLOC, OPENO}
 use Rattle.promises.specs.GivenWhen.{Case, GivesCode}
 use Rattle.promises.specs.Codes.{CreatingCases, casesOf}

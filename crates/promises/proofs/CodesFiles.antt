@@ -10,11 +10,11 @@ use Rattle.answers.specs.Refusals.{Row, firstOf}
 use Rattle.pack.specs.declared.Key.{Key}
 use Rattle.pack.specs.Geometry.{geometryOf}
 use Rattle.pack.specs.Consistent.{Consistent}
-use Rattle.consistency.proofs.Consistent.{consistent-iff}
+use Rattle.consistency.proofs.ConsistentTestIff.{consistent-iff}
 use Rattle.asking.specs.Asked.{fileRows, fileOf}
 use Rattle.asking.specs.Outcome.{settled}
 use Rattle.asking.proofs.Opens.{open-iff, full-iff}
-use Rattle.owners.specs.Asked.{owner, ownerRows}
+use Rattle.owners.specs.OwnerQuestion.{owner, ownerRows}
 use Rattle.opening.specs.declared.Opening.{Opening}
 use Rattle.opening.specs.declared.Opening.the-variants.{Input, Update, Extension}
 use Rattle.opening.specs.Open.{opened, openRows}
@@ -23,13 +23,12 @@ use Rattle.directory.specs.Look.{look, lookRows}
 use Rattle.directory.specs.Delet.{delet, deletRows}
 use Rattle.directory.specs.Keep.{keep, keepRows}
 use Rattle.directory.specs.Renam.{renam, renamRows}
-use Rattle.growth.specs.Appnd.{appnd, appndRows}
+use Rattle.appending.specs.Appnd.{appnd, appndRows, nameRows, permitRows}
 use Rattle.requests.specs.Request.{OPEN, CLOSE, DELET, APPND, LOOK, KEEP, OWNER}
 use Rattle.promises.specs.GivenWhen.{Case, behind, GivesCode}
 use Rattle.promises.specs.Codes.{LegalKey, Exists, NoMode, FileCases, RenamCases, casesOf}
 use Rattle.promises.proofs.GivenWhen.{denied, rung, passed, clear}
-use Rattle.promises.proofs.CodesTests.{equal-numbers, above, at-least, denies, no-argument, inconsistent, illegal, mode-iff, one-key}
-use Rattle.promises.proofs.CodesTests.{absent-key, present-key, lacks-right, as-iff}
+use Rattle.promises.proofs.CodesTests.{equal-numbers, above, at-least, denies, no-argument, inconsistent, illegal, mode-iff, one-key, absent-key, present-key, lacks-right, as-iff}
 
 -- the rows that all requests on a file share
 module _ (img : List ℕ) (key : Key) (wrong : Bool) (Wrong : Type 0) (decides : wrong ≡ true ↔ Wrong) (more : List Row) (own : List Case)
@@ -101,7 +100,7 @@ renam-code img old new protect caller =
     rung _ 0o6 _ (lacks-right _ caller _ _) (λ r. rung _ 0o14 _ (open-iff _) (λ o. clear))))))))
 
 pub appnd-code : (img : List ℕ) (first second : Key) (caller : ℕ) → GivesCode (casesOf (APPND first second caller) img) (appnd img first second caller .code)
-unfolding appnd appndRows settled
+unfolding appnd appndRows nameRows permitRows settled
 appnd-code img first second caller =
     rung _ 0o40 _ (inconsistent img) (λ c.
     rung _ 0o15 _ (illegal first) (λ l.

@@ -8,8 +8,8 @@ use Rattle.pack.specs.Owner.{FreeBlock}
 use Rattle.asking.specs.declared.Right.the-variants.{Write}
 use Rattle.asking.specs.Asked.{fileOf}
 use Rattle.creation.specs.Alloc.{alloc, lengthFor}
-use Rattle.creation.specs.Choice.{FreeRun}
-use Rattle.growth.specs.Adding.{linkedAdd}
+use Rattle.room.specs.Room.{FreeRun}
+use Rattle.adding.specs.LinkedAdd.{linkedAdd}
 use Rattle.requests.specs.Request.{ALLOC, LINKED-ADD}
 use Rattle.promises.specs.GivenWhen.{GivesCode}
 use Rattle.promises.specs.Codes.{FileCases, CreatingCases, AccessCases, OtherPayload}

@@ -1,6 +1,6 @@
 -- Each test of a request's rows decides the proposition of its case.
 use Prim.Native.Nat.{ℕ, _≤_, _<_}
-use mathlib.Core.Path.{_≡_, refl, sym, ap}
+use mathlib.Core.Path.{_≡_, refl, sym}
 use mathlib.Core.Logic.{_↔_, _⊎_, inl, inr, ⊎-elim}
 use mathlib.Core.Bool.{Bool, true, false, not, _||_}
 use mathlib.Core.List.{List}
@@ -9,29 +9,30 @@ use native.Mathlib.Omega.{arith}
 use native.Mathlib.Decide.{ℕ-discrete, decLt}
 use lib.Dec.{eqb, leb, ltb}
 use borrow.Author.Tests.{eqb-true, eqb-false, ltb-true, lt-ltb, leb-true, le-leb, eq-eqb, ne-eqb}
-use Rattle.answers.specs.Conversion.{missing}
+use Rattle.answers.specs.Missing.{missing}
 use Rattle.answers.proofs.Missing.{missing-iff}
 use Rattle.pack.specs.declared.Key.{Key}
 use Rattle.pack.specs.declared.Entry.{Entry}
 use Rattle.pack.specs.Consistent.{Consistent}
 use Rattle.pack.specs.Geometry.{geometryOf}
-use Rattle.pack.proofs.Headers.{header-sized}
-use Rattle.pack.proofs.Tests.{true-not-false, and-left, and-right, and-both}
-use Rattle.consistency.specs.Test.{consistent}
-use Rattle.consistency.proofs.Consistent.{consistent-iff}
+use Rattle.pack.proofs.HeaderRules.{header-sized}
+use Rattle.answers.proofs.RefusalsTests.{true-not-false}
+use Rattle.consistency.specs.ConsistentTest.{consistent}
+use Rattle.consistency.proofs.ConsistentTestIff.{consistent-iff}
 use Rattle.asking.specs.declared.Right.{Right}
 use Rattle.asking.specs.Keys.{legalKey, found}
 use Rattle.asking.specs.Rights.{may, May}
 use Rattle.asking.proofs.Keys.{legal-iff, found-iff, absent-iff}
 use Rattle.asking.proofs.Rights.{may-iff}
-use Rattle.creation.specs.Creating.{lowestEmpty}
-use Rattle.creation.specs.Alloc.{highestRun, lengthFor}
-use Rattle.creation.specs.Choice.{FreeRun}
-use Rattle.creation.proofs.Rounding.{blocks-some}
-use Rattle.creation.proofs.Lowest.{empty-none}
-use Rattle.creation.proofs.Highest.{run-none}
+use Rattle.creation.specs.CreatingLowest.{lowestEmpty}
+use Rattle.room.specs.Room.{highestRun, FreeRun}
+use Rattle.creation.specs.Alloc.{lengthFor}
+use Rattle.creation.proofs.AllocBlocks.{blocks-some}
+use Rattle.creation.proofs.CreatingLowest.{empty-none}
+use Rattle.room.proofs.RoomHighest.{run-none}
 use Rattle.opening.specs.Close.{wrongMode, isOpenAs}
-use Rattle.growth.specs.Appnd.{sameKey}
+use Rattle.pack.specs.Key.{sameKey}
+use Rattle.pack.proofs.KeySame.{same-key-iff, same-equal, equal-same}
 use Rattle.promises.specs.Codes.{LegalKey, Exists, Full, NoMode, OpenAs, writing, reading}
 use Rattle.promises.proofs.GivenWhen.{fails}
 
@@ -75,21 +76,7 @@ pub mode-iff : (mode : ℕ) → wrongMode mode ≡ true ↔ NoMode mode
 mode-iff mode = either (eqb mode 0) (ltb 4 mode) (equal-numbers mode 0) (above 4 mode)
 
 pub one-key : (a b : Key) → sameKey a b ≡ true ↔ a ≡ b
-unfolding sameKey
-one-key a b = (
-  λ t.
-      let p = and-right (eqb (a .name1) (b .name1)) _ t in
-      let q = and-right (eqb (a .name2) (b .name2)) _ p in
-      let n₁ = eqb-true _ _ (and-left (eqb (a .name1) (b .name1)) _ t) in
-      let n₂ = eqb-true _ _ (and-left (eqb (a .name2) (b .name2)) _ p) in
-      let x = eqb-true _ _ (and-left (eqb (a .extension) (b .extension)) _ q) in
-      let u = eqb-true _ _ (and-right (eqb (a .extension) (b .extension)) _ q) in
-      λ i. record { name1 = n₁ i; name2 = n₂ i; extension = x i; uic = u i },
-  λ is.
-      let first = eq-eqb _ _ (ap (λ k. k .name1) is) in
-      let second = eq-eqb _ _ (ap (λ k. k .name2) is) in
-      and-both first (and-both second (and-both (eq-eqb _ _ (ap (λ k. k .extension) is)) (eq-eqb _ _ (ap (λ k. k .uic) is)))),
-)
+one-key a b = (λ t. same-equal (same-key-iff a b .0 t), λ is. same-key-iff a b .1 (equal-same is))
 
 -- 2: no entry has the key, or one has it
 pub absent-key : {img : List ℕ} → Consistent img → (key : Key) → legalKey key ≡ true → missing (found img key) ≡ true ↔ (Exists img key → ⊥)

@@ -7,7 +7,7 @@ use mathlib.Core.Option.{Option, none}
 use lib.ListN.{length}
 use Rattle.answers.specs.Refusals.{answered}
 use Rattle.answers.specs.declared.Answer.{Answer}
-use Rattle.answers.specs.Conversion.{toNumber, Written, toCharacters}
+use Rattle.answers.specs.Conversion.{toNumber, Converted, toCharacters}
 use Rattle.answers.proofs.Conversion.{code-of-three, code-41-iff, code-60-iff, number-refused, characters-refused}
 use Rattle.promises.specs.Conversions.{NumberDemands, CharactersDemands, OneAnswer, OneWriting}
 
@@ -36,5 +36,5 @@ characters-demands {size} {characters} means =
 pub one-answer : (meaning : List ℕ → Answer) → OneAnswer meaning
 one-answer meaning characters r r′ is is′ = is ∙ sym is′
 
-pub one-writing : (meaning : ℕ → List ℕ → Written) → OneWriting meaning
+pub one-writing : (meaning : ℕ → List ℕ → Converted) → OneWriting meaning
 one-writing meaning number buffer r r′ after after′ is left is′ left′ = (is ∙ sym is′, left ∙ sym left′)

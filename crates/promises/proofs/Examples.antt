@@ -5,9 +5,11 @@ use Rattle.answers.specs.Refusals.{firstOf, onSuccess, answered}
 use Rattle.answers.specs.Conversion.{conversionRows, toNumber}
 use Rattle.radix.specs.Characters.{table, codeOf, characterOf}
 use Rattle.radix.specs.Packing.{wordOf, charactersOf}
-use Rattle.radix.specs.Conversions.{radpk, radup}
-use Rattle.numerals.specs.Digits.{value, numberOf, digitsOf}
-use Rattle.numerals.specs.Conversions.{d2bin, bin2d, o2bin, bin2o}
+use Rattle.radix.specs.Radpk.{radpk}
+use Rattle.radix.specs.Radup.{radup}
+use Rattle.numerals.specs.Digits.{valueOf, numberOf, digitsOf}
+use Rattle.numerals.specs.Decimal.{d2bin, bin2d}
+use Rattle.numerals.specs.Octal.{o2bin, bin2o}
 use Rattle.asking.specs.Rights.{may, inField}
 use Rattle.cursor.specs.Words.{filledWord}
 use Rattle.grammar.specs.Reading.{reads, kept, sideOf, specificationAt}
@@ -17,7 +19,7 @@ use Rattle.parts.specs.Numbers.{numbersOf}
 use Rattle.promises.specs.Examples.{Examples, gives}
 
 pub examples : Examples
-unfolding radpk radup d2bin bin2d o2bin bin2o toNumber conversionRows answered onSuccess firstOf wordOf charactersOf codeOf characterOf table numberOf value digitsOf may inField readLine kept sideOf specificationAt numbersOf filledWord
+unfolding radpk radup d2bin bin2d o2bin bin2o toNumber conversionRows answered onSuccess firstOf wordOf charactersOf codeOf characterOf table numberOf valueOf digitsOf readLine
 examples =
     record {
       p1 = (
@@ -37,12 +39,12 @@ examples =
         record { forth = refl; back = λ buffer same. characters-given 6 (digitsOf 8 6) 0o177777 buffer same refl },
         (refl, λ buffer same. characters-60 6 (digitsOf 8 6) 0o200000 buffer same refl),
       );
-      p6 = reads (said-by _ _ _ refl);
-      p7 = reads (said-by _ _ _ refl);
-      p8 = gives (reads (said-by _ _ _ refl)) refl;
+      p6 = unfold kept in reads (said-by _ _ _ refl);
+      p7 = unfold kept in reads (said-by _ _ _ refl);
+      p8 = unfold sideOf specificationAt kept numbersOf filledWord in (gives (reads (said-by _ _ _ refl)) refl);
       p9 = placed-by _ _ refl;
       p10 = placed-by _ _ refl;
       p11 = placed-by _ _ refl;
       p12 = placed-by _ _ refl;
-      p13 = (refl, refl);
+      p13 = unfold may inField in (refl, refl);
     }

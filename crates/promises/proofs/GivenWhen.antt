@@ -9,7 +9,7 @@ use lib.Dec.{leb, ltb}
 use lib.ListN.{length}
 use borrow.Author.Tests.{ltb-true}
 use Rattle.answers.specs.Refusals.{Row, row, firstOf, tableOrder, placeIn, inOrder}
-use Rattle.pack.proofs.Tests.{true-not-false, and-left, and-right}
+use Rattle.answers.proofs.RefusalsTests.{true-not-false, and-left, and-right}
 use Rattle.promises.specs.GivenWhen.{Case, _when_, GivesCode, success, here, behind, codeRows, InTableOrder}
 
 -- what is given has one code

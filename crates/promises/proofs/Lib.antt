@@ -1,9 +1,9 @@
 -- The proofs of what is promised.
 pub mod Examples
-pub mod Digits
+pub mod RefusedDigits
 pub mod Conversions
-pub mod Demands
-pub mod Hollow
+pub mod ConversionsDemands
+pub mod ConversionsHollow
 pub mod GivenWhen
 pub mod CodesTests
 pub mod CodesFiles

@@ -10,9 +10,11 @@ use Rattle.answers.specs.declared.Answer.{Answer}
 use Rattle.answers.specs.Refusals.{tableOrder, placeIn}
 use Rattle.words.specs.Word.{wordAt}
 use Rattle.radix.specs.Characters.{codeOf}
-use Rattle.radix.specs.Conversions.{radpk, radup}
-use Rattle.numerals.specs.Digits.{allDigits, value}
-use Rattle.numerals.specs.Conversions.{d2bin, bin2d, o2bin, bin2o}
+use Rattle.radix.specs.Radpk.{radpk}
+use Rattle.radix.specs.Radup.{radup}
+use Rattle.numerals.specs.Digits.{allDigits, valueOf}
+use Rattle.numerals.specs.Decimal.{d2bin, bin2d}
+use Rattle.numerals.specs.Octal.{o2bin, bin2o}
 use Rattle.pack.specs.declared.Key.{Key}
 use Rattle.pack.specs.declared.Owner.the-variants.{Free}
 use Rattle.pack.specs.Form.{bodiesOf}
@@ -20,9 +22,10 @@ use Rattle.pack.specs.Geometry.{geometryOf, slots, payloadBytes}
 use Rattle.pack.specs.Entry.{entryOf}
 use Rattle.pack.specs.Consistent.{Consistent}
 use Rattle.pack.specs.Owner.{ownerOf, HeldAt, FreeBlock, storedLengths, freeCount}
-use Rattle.pack.specs.Untouched.{Keyed, Untouched}
-use Rattle.consistency.specs.Test.{consistent}
-use Rattle.consistency.proofs.Consistent.{consistent-iff}
+use Rattle.pack.specs.Key.{keyIn, SameKey}
+use Rattle.pack.specs.Untouched.{Untouched}
+use Rattle.consistency.specs.ConsistentTest.{consistent}
+use Rattle.consistency.proofs.ConsistentTestIff.{consistent-iff}
 use Rattle.asking.specs.declared.Right.{Right}
 use Rattle.asking.specs.declared.Right.the-variants.{Write}
 use Rattle.asking.specs.Outcome.{Outcome, Unchanged}
@@ -31,18 +34,18 @@ use Rattle.asking.specs.Asked.{fileOf}
 use Rattle.asking.specs.Rights.{may, May}
 use Rattle.asking.proofs.Keys.{found-iff, absent-iff, one-entry}
 use Rattle.asking.proofs.Rights.{may-iff}
-use Rattle.owners.specs.Owner.{OneOwner}
-use Rattle.owners.specs.Asked.{owner}
-use Rattle.owners.proofs.Owner.{one-owner}
-use Rattle.owners.proofs.Sum.{sum-of-words}
-use Rattle.owners.proofs.Asked.{says-system, says-free, says-held}
+use Rattle.owners.specs.OneOwner.{OneOwner}
+use Rattle.owners.specs.OwnerQuestion.{owner}
+use Rattle.owners.proofs.OneOwner.{one-owner}
+use Rattle.owners.proofs.OwnerSum.{sum-of-blocks}
+use Rattle.owners.proofs.OwnerQuestionEffect.{says-system, says-free, says-held}
 use Rattle.creation.specs.Format.{Formattable, formatted}
 use Rattle.creation.specs.Alloc.{alloc, lengthFor}
-use Rattle.creation.specs.Choice.{FreeRun}
-use Rattle.creation.proofs.Formatting.{format-iff}
-use Rattle.creation.proofs.EmptyPack.{format-consistent, format-free}
-use Rattle.transfer.specs.Linked.{linkedRead}
-use Rattle.growth.specs.Adding.{linkedAdd}
+use Rattle.room.specs.Room.{FreeRun}
+use Rattle.creation.proofs.FormatRows.{format-iff}
+use Rattle.creation.proofs.FormatEffect.{format-consistent, format-free}
+use Rattle.transfer.specs.LinkedRead.{linkedRead}
+use Rattle.adding.specs.LinkedAdd.{linkedAdd}
 use Rattle.grammar.specs.Parsed.{Parsed}
 use Rattle.grammar.specs.Grammar.{Command}
 use Rattle.grammar.specs.Reading.{Reading, Reads, sideOf}
@@ -67,7 +70,7 @@ use Rattle.promises.specs.Conversions.{NumberDemands, CharactersDemands,
 use Rattle.promises.proofs.Codes
 use Rattle.promises.proofs.CodesRoom
 use Rattle.promises.proofs.AddedAgain
-use Rattle.promises.proofs.Demands
+use Rattle.promises.proofs.ConversionsDemands
 use Rattle.promises.proofs.Commands
 use Rattle.promises.proofs.CommandCodes
 
@@ -95,22 +98,22 @@ csi2-code-iff = CommandCodes.csi2-code-iff
 
 -- and the conversions; a field of these is for 1.1, one for 1.3
 pub radpk-demands : NumberDemands 3 NotRadix radpk
-radpk-demands = Demands.radpk-demands
+radpk-demands = ConversionsDemands.radpk-demands
 
 pub radup-demands : CharactersDemands 3 NotWord radup
-radup-demands = Demands.radup-demands
+radup-demands = ConversionsDemands.radup-demands
 
 pub d2bin-demands : NumberDemands 5 (NotNumeral 10) d2bin
-d2bin-demands = Demands.d2bin-demands
+d2bin-demands = ConversionsDemands.d2bin-demands
 
 pub bin2d-demands : CharactersDemands 5 TooLarge bin2d
-bin2d-demands = Demands.bin2d-demands
+bin2d-demands = ConversionsDemands.bin2d-demands
 
 pub o2bin-demands : NumberDemands 6 (NotNumeral 8) o2bin
-o2bin-demands = Demands.o2bin-demands
+o2bin-demands = ConversionsDemands.o2bin-demands
 
 pub bin2o-demands : CharactersDemands 6 TooLarge bin2o
-bin2o-demands = Demands.bin2o-demands
+bin2o-demands = ConversionsDemands.bin2o-demands
 
 -- 1.3 "and the image and each lent buffer then hold what they held before."
 pub refusal-leaves : (r : Request) (img : List ℕ) → (outcome r img .code ≡ 0 → ⊥)
@@ -139,14 +142,14 @@ figure = may-iff
 
 -- a legal key is found exactly where an entry has it, and at most one has it
 module _ {img : List ℕ} (right : Consistent img) (key : Key) (legal : legalKey key ≡ true) where
-  pub entry-found : (e : ℕ) → found img key ≡ some e ↔ ((e < slots (geometryOf img)) × Keyed key (entryOf img (geometryOf img) e))
+  pub entry-found : (e : ℕ) → found img key ≡ some e ↔ ((e < slots (geometryOf img)) × SameKey (keyIn (entryOf img (geometryOf img) e)) key)
   entry-found = found-iff right key legal
 
-  pub entry-absent : found img key ≡ none ↔ ((e : ℕ) → e < slots (geometryOf img) → Keyed key (entryOf img (geometryOf img) e) → ⊥)
+  pub entry-absent : found img key ≡ none ↔ ((e : ℕ) → e < slots (geometryOf img) → SameKey (keyIn (entryOf img (geometryOf img) e)) key → ⊥)
   entry-absent = absent-iff right key legal
 
   pub entry-single : (e f : ℕ) → e < slots (geometryOf img) → f < slots (geometryOf img)
-      → Keyed key (entryOf img (geometryOf img) e) → Keyed key (entryOf img (geometryOf img) f) → e ≡ f
+      → SameKey (keyIn (entryOf img (geometryOf img) e)) key → SameKey (keyIn (entryOf img (geometryOf img) f)) key → e ≡ f
   entry-single = one-entry right key legal
 
 -- what was added is read, after CLOSE and OPENI
@@ -189,8 +192,8 @@ module _ {img : List ℕ} (right : Consistent img) (b : ℕ) (below : b < geomet
 
 -- "So c + 1, the stored lengths and the free blocks counted one by one add to n."
 pub blocks-summed : {img : List ℕ} → Consistent img → wordAt img 2 + 1 + storedLengths img + freeCount img ≡ wordAt img 1
-unfolding storedLengths
-blocks-summed right = sum-of-words right
+unfolding storedLengths geometryOf bodiesOf
+blocks-summed right = sum-of-blocks right
 
 -- 2.3 "A request for room with nothing else against it is refused exactly if no such room is free."
 module _ (img : List ℕ) (key : Key) (caller protect segments : ℕ) (clear : GivesCode (CreatingCases img key caller protect (segments ≡ 0)) 0) where
@@ -212,22 +215,22 @@ module _ (img : List ℕ) (key : Key) (caller : ℕ) (payload : List ℕ)
 -- 2.4 "Radix-50 and number conversions are right, packing as well as unpacking."
 pub radpk-right : (s : List ℕ) → length s ≡ 3 → (a b c : ℕ) → codeOf (getD s 0 0) ≡ some a → codeOf (getD s 1 0) ≡ some b → codeOf (getD s 2 0) ≡ some c
     → record { code = 0; number = 1600 * a + 40 * b + c } ≡ radpk s
-radpk-right = Demands.radpk-right
+radpk-right = ConversionsDemands.radpk-right
 
-pub d2bin-right : (s : List ℕ) → length s ≡ 5 → allDigits 10 s ≡ true → value 10 s ≤ 65535 → d2bin s ≡ record { code = 0; number = value 10 s }
-d2bin-right = Demands.d2bin-right
+pub d2bin-right : (s : List ℕ) → length s ≡ 5 → allDigits 10 s ≡ true → valueOf 10 s ≤ 65535 → d2bin s ≡ record { code = 0; number = valueOf 10 s }
+d2bin-right = ConversionsDemands.d2bin-right
 
-pub o2bin-right : (s : List ℕ) → length s ≡ 6 → allDigits 8 s ≡ true → value 8 s ≤ 65535 → o2bin s ≡ record { code = 0; number = value 8 s }
-o2bin-right = Demands.o2bin-right
+pub o2bin-right : (s : List ℕ) → length s ≡ 6 → allDigits 8 s ≡ true → valueOf 8 s ≤ 65535 → o2bin s ≡ record { code = 0; number = valueOf 8 s }
+o2bin-right = ConversionsDemands.o2bin-right
 
 pub radix-inverse : InverseDemands 3 radpk radup
-radix-inverse = Demands.radix-inverse
+radix-inverse = ConversionsDemands.radix-inverse
 
 pub decimal-inverse : InverseDemands 5 d2bin bin2d
-decimal-inverse = Demands.decimal-inverse
+decimal-inverse = ConversionsDemands.decimal-inverse
 
 pub octal-inverse : InverseDemands 6 o2bin bin2o
-octal-inverse = Demands.octal-inverse
+octal-inverse = ConversionsDemands.octal-inverse
 
 -- 3.1 "For any command line within the length limits, with room lent for the result, the line is accepted exactly when the grammar writes it
 -- with blanks and fill characters removed."

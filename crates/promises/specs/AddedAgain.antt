@@ -6,7 +6,7 @@ use Rattle.asking.specs.Asked.{fileOf}
 use Rattle.opening.specs.declared.Opening.the-variants.{Input}
 use Rattle.opening.specs.Open.{opened}
 use Rattle.opening.specs.Close.{close}
-use Rattle.growth.specs.Adding.{linkedAdd}
+use Rattle.adding.specs.LinkedAdd.{linkedAdd}
 
 abbrev pub addedImage : List ℕ → Key → ℕ → List ℕ → List ℕ
 addedImage img key caller payload = linkedAdd img key caller payload .image

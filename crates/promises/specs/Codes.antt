@@ -13,7 +13,7 @@ use Rattle.pack.specs.Header.{Listed}
 use Rattle.pack.specs.Entry.{entryOf, Empty}
 use Rattle.pack.specs.Consistent.{Consistent}
 use Rattle.pack.specs.Owner.{FreeBlock}
-use Rattle.pack.specs.Untouched.{Keyed}
+use Rattle.pack.specs.Key.{keyIn, SameKey}
 use Rattle.asking.specs.declared.Right.{Right}
 use Rattle.asking.specs.declared.Right.the-variants.{Delete, Read, Write}
 use Rattle.asking.specs.Asked.{fileOf}
@@ -21,12 +21,10 @@ use Rattle.asking.specs.Rights.{May}
 use Rattle.asking.specs.Opens.{opens}
 use Rattle.creation.specs.Format.{Formattable}
 use Rattle.creation.specs.Alloc.{lengthFor}
-use Rattle.creation.specs.Choice.{FreeRun}
+use Rattle.room.specs.Room.{FreeRun}
 use Rattle.opening.specs.declared.Opening.the-variants.{Input, Update, Extension}
 use Rattle.directory.specs.Renam.{newKey}
-use Rattle.requests.specs.Request.{Request}
-use Rattle.requests.specs.Request.{FORMAT, ALLOC, OPENO, OPEN, CLOSE, DELET, RENAM, APPND, LOOK, KEEP}
-use Rattle.requests.specs.Request.{BLOCK-INPUT, BLOCK-OUTPUT, LINKED-READ, LINKED-ADD, OWNER}
+use Rattle.requests.specs.Request.{Request, FORMAT, ALLOC, OPENO, OPEN, CLOSE, DELET, RENAM, APPND, LOOK, KEEP, BLOCK-INPUT, BLOCK-OUTPUT, LINKED-READ, LINKED-ADD, OWNER}
 use Rattle.promises.specs.GivenWhen.{Case, _when_}
 
 -- "A legal name is ..; an extension .."
@@ -38,7 +36,7 @@ pub record LegalKey (key : Key) : Type 0 where
 pub record Exists (img : List ℕ) (key : Key) : Type 0 where
   pub entry : ℕ
   pub inside : entry < slots (geometryOf img)
-  pub keyed : Keyed key (entryOf img (geometryOf img) entry)
+  pub keyed : SameKey (keyIn (entryOf img (geometryOf img) entry)) key
 
 -- "6: right lacking"
 abbrev pub Lacking : Right → ℕ → Entry → Type 0

@@ -5,7 +5,7 @@ use mathlib.Core.Logic.{_⊎_, _↔_}
 use mathlib.Core.List.{List}
 use lib.ListN.{length}
 use Rattle.answers.specs.declared.Answer.{Answer}
-use Rattle.answers.specs.Conversion.{Written}
+use Rattle.answers.specs.Conversion.{Converted}
 
 -- the codes that a conversion may give
 abbrev pub ConversionCode : ℕ → Type 0
@@ -22,7 +22,7 @@ pub record NumberDemands (size : ℕ) (NotOfSet : List ℕ → Type 0) (conversi
   pub refused : (characters : List ℕ) → (conversion characters .code ≡ 0 → ⊥) → conversion characters .number ≡ 0
 
 -- of a number to characters, in a lent buffer of so many; `NotOfSet` says which numbers are refused
-pub record CharactersDemands (size : ℕ) (NotOfSet : ℕ → Type 0) (conversion : ℕ → List ℕ → Written) : Type 0 where
+pub record CharactersDemands (size : ℕ) (NotOfSet : ℕ → Type 0) (conversion : ℕ → List ℕ → Converted) : Type 0 where
   -- 1.1 "Every request accepts any numbers and any image."
   pub any : (number : ℕ) (buffer : List ℕ) → ConversionCode (conversion number buffer .code)
   -- 1.2 "What cannot be done is refused with the code that the build document orders first,"
@@ -32,7 +32,7 @@ pub record CharactersDemands (size : ℕ) (NotOfSet : ℕ → Type 0) (conversio
   pub refused : (number : ℕ) (buffer : List ℕ) → (conversion number buffer .code ≡ 0 → ⊥) → conversion number buffer .buffer ≡ buffer
 
 -- 2.4 "packing as well as unpacking": each of the two gives back what the other took
-pub record InverseDemands (size : ℕ) (toNumber : List ℕ → Answer) (toCharacters : ℕ → List ℕ → Written) : Type 0 where
+pub record InverseDemands (size : ℕ) (toNumber : List ℕ → Answer) (toCharacters : ℕ → List ℕ → Converted) : Type 0 where
   pub number-again : (number : ℕ) (buffer : List ℕ) → toCharacters number buffer .code ≡ 0
       → toNumber (toCharacters number buffer .buffer) ≡ record { code = 0; number = number }
   pub characters-again : (characters buffer : List ℕ) → length buffer ≡ size → toNumber characters .code ≡ 0
@@ -43,7 +43,7 @@ pub record InverseDemands (size : ℕ) (toNumber : List ℕ → Answer) (toChara
 abbrev pub OneAnswer : (List ℕ → Answer) → Type 0
 OneAnswer meaning = (characters : List ℕ) (r r′ : Answer) → r ≡ meaning characters → r′ ≡ meaning characters → r ≡ r′
 
-abbrev pub OneWriting : (ℕ → List ℕ → Written) → Type 0
+abbrev pub OneWriting : (ℕ → List ℕ → Converted) → Type 0
 OneWriting meaning = (number : ℕ) (buffer : List ℕ) (r r′ : ℕ) (after after′ : List ℕ)
     → r ≡ meaning number buffer .code → after ≡ meaning number buffer .buffer
     → r′ ≡ meaning number buffer .code → after′ ≡ meaning number buffer .buffer → (r ≡ r′) × (after ≡ after′)
@@ -52,6 +52,6 @@ OneWriting meaning = (number : ℕ) (buffer : List ℕ) (r r′ : ℕ) (after af
 abbrev pub NoFixedAnswer : (List ℕ → Answer) → Type 0
 NoFixedAnswer meaning = (r : Answer) → ((characters : List ℕ) → r ≡ meaning characters) → ⊥
 
-pub record NoHollowWriting (meaning : ℕ → List ℕ → Written) : Type 0 where
+pub record NoHollowWriting (meaning : ℕ → List ℕ → Converted) : Type 0 where
   pub code : (r : ℕ) → ((number : ℕ) (buffer : List ℕ) → r ≡ meaning number buffer .code) → ⊥
   pub buffer : ((number : ℕ) (buffer : List ℕ) → buffer ≡ meaning number buffer .buffer) → ⊥

@@ -7,9 +7,11 @@ use mathlib.Core.List.{List, [], _∷_}
 use mathlib.Core.Option.{none, some}
 use lib.ListN.{length}
 use Rattle.answers.specs.declared.Answer.{Answer}
-use Rattle.answers.specs.Conversion.{Written}
-use Rattle.radix.specs.Conversions.{radpk, radup}
-use Rattle.numerals.specs.Conversions.{d2bin, bin2d, o2bin, bin2o}
+use Rattle.answers.specs.Conversion.{Converted}
+use Rattle.radix.specs.Radpk.{radpk}
+use Rattle.radix.specs.Radup.{radup}
+use Rattle.numerals.specs.Decimal.{d2bin, bin2d}
+use Rattle.numerals.specs.Octal.{o2bin, bin2o}
 use Rattle.words.specs.Text.{bytes}
 use Rattle.asking.specs.declared.Right.the-variants.{Read, Write}
 use Rattle.asking.specs.Rights.{may}
@@ -20,12 +22,12 @@ use Rattle.parts.specs.declared.Numbers.{Numbers}
 use Rattle.parts.specs.Numbers.{numbersOf}
 
 -- a text converts to a number, and the number to the text, in a buffer of that size whatever it held
-pub record Converts (toNumber : List ℕ → Answer) (toCharacters : ℕ → List ℕ → Written) (size : ℕ) (text : String) (number : ℕ) : Type 0 where
+pub record Converts (toNumber : List ℕ → Answer) (toCharacters : ℕ → List ℕ → Converted) (size : ℕ) (text : String) (number : ℕ) : Type 0 where
   pub forth : toNumber (bytes text) ≡ record { code = 0; number = number }
   pub back : (buffer : List ℕ) → length buffer ≡ size → toCharacters number buffer ≡ record { code = 0; buffer = bytes text }
 
 -- a number is refused with 60, and the buffer is left as it was
-abbrev pub NumberRefused : (ℕ → List ℕ → Written) → ℕ → ℕ → Type 0
+abbrev pub NumberRefused : (ℕ → List ℕ → Converted) → ℕ → ℕ → Type 0
 NumberRefused toCharacters size number = (buffer : List ℕ) → length buffer ≡ size → toCharacters number buffer ≡ record { code = 0o60; buffer = buffer }
 
 -- a text is refused with 60, and the number is 0
@@ -33,8 +35,8 @@ abbrev pub TextRefused : (List ℕ → Answer) → String → Type 0
 TextRefused toNumber text = toNumber (bytes text) ≡ record { code = 0o60; number = 0 }
 
 -- "UIC (group high byte, user low byte)"
-abbrev pub uicOf : ℕ → ℕ → ℕ
-uicOf group user = 256 * group + user
+abbrev pub uicWord : ℕ → ℕ → ℕ
+uicWord group user = 256 * group + user
 
 -- CSI2's numbers of specification k of a side of the line's reading
 pub data Gives (line : List ℕ) (side k : ℕ) : Numbers → Type 0 where
@@ -66,4 +68,4 @@ pub record Examples : Type 0 where
   pub p11 : Place (bytes "DT8:") 3
   pub p12 : Place (bytes "/S:") 3
   -- P13 protect 3, owner [23,10]: [12,4] may read, not write.
-  pub p13 : (may Read (uicOf 0o12 0o4) (uicOf 0o23 0o10) 3 ≡ true) × (may Write (uicOf 0o12 0o4) (uicOf 0o23 0o10) 3 ≡ false)
+  pub p13 : (may Read (uicWord 0o12 0o4) (uicWord 0o23 0o10) 3 ≡ true) × (may Write (uicWord 0o12 0o4) (uicWord 0o23 0o10) 3 ≡ false)

@@ -5,7 +5,7 @@ use mathlib.Core.List.{List}
 use lib.ListN.{length, getD}
 use Rattle.radix.specs.Characters.{Outside}
 use Rattle.radix.specs.Packing.{NoCharacters}
-use Rattle.numerals.specs.Digits.{value}
+use Rattle.numerals.specs.Digits.{valueOf}
 
 -- RADPK: one of the three characters is outside the set
 abbrev pub NotRadix : List ℕ → Type 0
@@ -27,4 +27,4 @@ TooLarge number = 65535 < number
 
 -- D2BIN, O2BIN
 abbrev pub NotNumeral : ℕ → List ℕ → Type 0
-NotNumeral base characters = NoDigit base characters ⊎ TooLarge (value base characters)
+NotNumeral base characters = NoDigit base characters ⊎ TooLarge (valueOf base characters)

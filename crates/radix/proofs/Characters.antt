@@ -11,7 +11,7 @@ use borrow.Author.Tests.{ltb-true, leb-true, lt-ltb, le-leb}
 use Rattle.radix.specs.Characters.{table, codeOf, characterOf, Outside}
 use Rattle.radix.specs.Names.{blank}
 
--- a number in a run of the table, and one outside it
+-- a number in a range of the table, and one outside it
 inside : (low end x : ℕ) → low ≤ x → x < end → (leb low x && ltb x end) ≡ true
 inside low end x from to = simp (le-leb low x from, lt-ltb x end to)
 
@@ -50,7 +50,18 @@ code-digit x low high =
 pub code-none : (x : ℕ) → Outside x → codeOf x ≡ none
 unfolding codeOf table
 code-none x out =
-    rw (outside 32 33 x (λ a b. out .blank (omega arith)), outside 65 91 x (λ a b. out .letter a (omega arith)), outside 36 37 x (λ a b. out .dollar (omega arith)), outside 46 47 x (λ a b. out .period (omega arith)), outside 48 58 x (λ a b. out .digit a (omega arith)))
+    rw (
+      outside 32 33 x (λ a b. out .blank (omega arith)),
+      outside 65 91 x (λ a b. out .letter a (omega arith)),
+      outside 36 37 x (λ a b. out .dollar (omega arith)),
+      outside 46 47 x (λ a b. out .period (omega arith)),
+      outside 48 58 x (λ a b. out .digit a (omega arith)),
+    )
+
+-- the same as the code comes to it: the three marks first, then digits and letters by their ends
+pub code-outside : (x : ℕ) → (x ≡ 32 → ⊥) → (x ≡ 36 → ⊥) → (x ≡ 46 → ⊥) → (48 ≤ x → x ≤ 57 → ⊥) → (65 ≤ x → x ≤ 90 → ⊥) → none ≡ codeOf x
+code-outside x blank dollar period digit letter =
+    sym (code-none x (record { blank = blank; letter = letter; dollar = dollar; period = period; digit = digit }))
 
 -- the character of each kind of code
 pub character-blank : (c : ℕ) → c ≡ 0 → characterOf c ≡ some 32
@@ -83,14 +94,14 @@ character-none c (inr high) =
     rw (outside 0 1 c (λ a b. omega arith), outside 1 27 c (λ a b. omega arith), outside 27 28 c (λ a b. omega arith), outside 28 29 c (λ a b. omega arith), outside 30 40 c (λ a b. omega arith))
 
 -- a number from one to another
-record Range (from to x : ℕ) : Type 0 where
+record Between (from to x : ℕ) : Type 0 where
   low : from ≤ x
   high : x ≤ to
 
-range : (from to x : ℕ) → Dec (Range from to x)
-range from to x = at (decLe from x) (decLe x to)
+between : (from to x : ℕ) → Dec (Between from to x)
+between from to x = at (decLe from x) (decLe x to)
   where
-    at : Dec (from ≤ x) → Dec (x ≤ to) → Dec (Range from to x)
+    at : Dec (from ≤ x) → Dec (x ≤ to) → Dec (Between from to x)
     at (yes l) (yes h) = yes (record { low = l; high = h })
     at (yes l) (no h) = no (λ r. h (r .high))
     at (no l) h = no (λ r. l (r .low))
@@ -103,9 +114,9 @@ pub record Coded (x : ℕ) : Type 0 where
   pub bound : code < 40
 
 pub coded : (x : ℕ) → Coded x ⊎ Outside x
-coded x = at (range 32 32 x) (range 65 90 x) (range 36 36 x) (range 46 46 x) (range 48 57 x)
+coded x = at (between 32 32 x) (between 65 90 x) (between 36 36 x) (between 46 46 x) (between 48 57 x)
   where
-    at : Dec (Range 32 32 x) → Dec (Range 65 90 x) → Dec (Range 36 36 x) → Dec (Range 46 46 x) → Dec (Range 48 57 x) → Coded x ⊎ Outside x
+    at : Dec (Between 32 32 x) → Dec (Between 65 90 x) → Dec (Between 36 36 x) → Dec (Between 46 46 x) → Dec (Between 48 57 x) → Coded x ⊎ Outside x
     at (yes i) l d p n = let is : x ≡ 32 = omega arith in inl (record { code = 0; is = code-blank x is; back = rw is (character-blank 0 refl); bound = omega arith })
     at (no b) (yes i) d p n =
         inl (record { code = x - 64; is = code-letter x (i .low) (i .high); back = character-letter (x - 64) (omega arith) (omega arith) ∙ ap some (omega arith); bound = omega arith })

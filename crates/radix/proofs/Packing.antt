@@ -73,7 +73,15 @@ characters-forth (x ∷ (y ∷ (z ∷ []))) w same is =
     let ha = code-bound x (k .a) (k .first) in
     let hb = code-bound y (k .b) (k .second) in
     let hc = code-bound z (k .c) (k .third) in
-    rw (k .made, packed-first (k .a) (k .b) (k .c) ha hb hc, packed-second (k .a) (k .b) (k .c) ha hb hc, packed-third (k .a) (k .b) (k .c) ha hb hc, code-character x (k .a) (k .first), code-character y (k .b) (k .second), code-character z (k .c) (k .third))
+    rw (
+      k .made,
+      packed-first (k .a) (k .b) (k .c) ha hb hc,
+      packed-second (k .a) (k .b) (k .c) ha hb hc,
+      packed-third (k .a) (k .b) (k .c) ha hb hc,
+      code-character x (k .a) (k .first),
+      code-character y (k .b) (k .second),
+      code-character z (k .c) (k .third),
+    )
 characters-forth [] w same is = absurd (omega arith)
 characters-forth (x ∷ []) w same is = absurd (omega arith)
 characters-forth (x ∷ (y ∷ [])) w same is = absurd (omega arith)

@@ -1,12 +1,12 @@
 -- Legal names and extensions.
 use Prim.Native.Nat.{ℕ, _-_, _≤_}
-use mathlib.Core.Bool.{Bool, true, false, not, cond, _&&_, _||_}
+use mathlib.Core.Bool.{Bool, true, _&&_, _||_}
 use mathlib.Core.List.{List, [], _∷_, _++_}
-use mathlib.Core.Option.{Option, none, some}
+use mathlib.Core.Option.{some}
 use mathlib.Core.Path.{_≡_}
-use lib.Dec.{eqb, leb}
+use lib.Dec.{leb}
 use lib.ListN.{length, take, drop, replicate}
-use Rattle.radix.specs.Packing.{wordOf, charactersOf}
+use Rattle.radix.specs.Packing.{wordOf}
 
 -- A-Z, 0-9
 abbrev pub isLetter : ℕ → Bool
@@ -17,10 +17,6 @@ isDigit x = leb 48 x && leb x 57
 
 abbrev pub isLetterOrDigit : ℕ → Bool
 isLetterOrDigit x = isLetter x || isDigit x
-
-abbrev pub isLetterOrDigitIn : Option ℕ → Bool
-isLetterOrDigitIn none = false
-isLetterOrDigitIn (some x) = isLetterOrDigit x
 
 abbrev pub blank : ℕ
 blank = 32
@@ -48,28 +44,3 @@ pub record LegalExtension (word : ℕ) : Type 0 where
   pub most : length extension ≤ 3
   pub made : every isLetterOrDigit extension ≡ true
   pub oneWord : wordOf (blankFilled 3 extension) ≡ some word
-
--- The same as tests, which requests compute; proofs/Names.antt proves that each is true exactly if the word or words are legal.
--- letters and digits, then blanks only
-abbrev pub thenBlanks : List ℕ → Bool
-thenBlanks [] = true
-thenBlanks (x ∷ xs) = cond (isLetterOrDigit x) (thenBlanks xs) (every (eqb blank) (x ∷ xs))
-
-abbrev pub startsBlank : List ℕ → Bool
-startsBlank [] = true
-startsBlank (x ∷ xs) = eqb blank x
-
-abbrev pub nameTest : Option (List ℕ) → Option (List ℕ) → Bool
-nameTest (some xs) (some ys) = not (startsBlank xs) && thenBlanks (xs ++ ys)
-nameTest (some xs) none = false
-nameTest none ys = false
-
-abbrev pub extensionTest : Option (List ℕ) → Bool
-extensionTest (some xs) = thenBlanks xs
-extensionTest none = false
-
-unfoldable pub legalName : ℕ → ℕ → Bool
-legalName first second = nameTest (charactersOf first) (charactersOf second)
-
-unfoldable pub legalExtension : ℕ → Bool
-legalExtension word = extensionTest (charactersOf word)

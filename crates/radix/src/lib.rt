@@ -1,14 +1,15 @@
-// Radix-50: the word type, characters and codes, legal names and extensions, RADPK and RADUP.
+// Radix-50: the word type, characters and codes, legal names and extensions; RADPK and RADUP each in a file of its own.
+pub mod radpk;
+pub mod radup;
+
 ghost use mathlib.Core.Path.{_≡_};
 ghost use Prim.Native.Nat.{_<_};
 ghost use mathlib.Core.Bool.{_&&_};
 ghost use lib.Dec.{eqb};
 ghost use Rattle.radix.specs.Characters.{codeOf, characterOf};
-ghost use Rattle.radix.specs.Codes.{codeIn, characterIn};
+ghost use Rattle.radix.specs.Lookup.{codeIn, characterIn};
 ghost use Rattle.radix.specs.Packing.{packed, firstCode, secondCode, thirdCode, threeIf};
-ghost use Rattle.radix.specs.Names.{isLetterOrDigitIn, extensionTest, legalName, legalExtension};
-ghost use Rattle.radix.specs.Conversions.{radpk, radup};
-use answers::Answer;
+ghost use Rattle.radix.specs.NamesTest.{isLetterOrDigitIn, extensionTest, legalName, legalExtension};
 
 // A word of three characters. A host may pass any number as one: from END up no character is in it.
 pub struct Radix50(pub usize);
@@ -169,64 +170,4 @@ pub fn is_legal_name(first: Radix50, second: Radix50) -> bool
         return second.0 == Radix50::BLANK;
     }
     second.is_legal_extension()
-}
-
-pub fn radpk(characters: &[u8]) -> Answer
-    ensures { λ r. ⌜ r ≡ radpk (now (characters .entry)) ⌝ }
-{
-    if characters.len() != 3 {
-        return Answer {
-            code: 0o41,
-            number: 0,
-        };
-    }
-    let Code::Of(a) = code_of(characters[0]) else {
-        return Answer {
-            code: 0o60,
-            number: 0,
-        };
-    };
-    let Code::Of(b) = code_of(characters[1]) else {
-        return Answer {
-            code: 0o60,
-            number: 0,
-        };
-    };
-    let Code::Of(c) = code_of(characters[2]) else {
-        return Answer {
-            code: 0o60,
-            number: 0,
-        };
-    };
-    let word = Radix50::pack(a, b, c);
-    Answer {
-        code: 0,
-        number: word.0,
-    }
-}
-
-pub fn radup(word: usize, characters: &mut [u8]) -> usize
-    ensures { λ r. ⌜ r ≡ radup word (now (characters .entry)) .code ⌝ }
-    ensures { λ r. ⌜ now (characters .exit) ≡ radup word (now (characters .entry)) .buffer ⌝ }
-{
-    if characters.len() != 3 {
-        return 0o41;
-    }
-    if Radix50::END <= word {
-        return 0o60;
-    }
-    let packed = Radix50(word);
-    let Character::Of(x) = character_of(packed.first()) else {
-        return 0o60;
-    };
-    let Character::Of(y) = character_of(packed.second()) else {
-        return 0o60;
-    };
-    let Character::Of(z) = character_of(packed.third()) else {
-        return 0o60;
-    };
-    characters[0] = x;
-    characters[1] = y;
-    characters[2] = z;
-    0
 }

@@ -5,10 +5,10 @@ use mathlib.Core.List.{List, [], _∷_}
 use lib.ListN.{getD}
 use Rattle.answers.specs.declared.Answer.{Answer}
 use Rattle.asking.specs.Outcome.{Outcome}
-use Rattle.directory.specs.declared.LookAnswer.{LookAnswer}
+use Rattle.directory.specs.declared.look.LookAnswer.{LookAnswer}
 use Rattle.directory.specs.Look.{lookOutcome}
 use Rattle.owners.specs.declared.OwnerAnswer.{OwnerAnswer}
-use Rattle.owners.specs.Asked.{ownerOutcome}
+use Rattle.owners.specs.OwnerQuestion.{ownerOutcome}
 use Rattle.requests.specs.Contract.{Meets}
 
 pub outcome-single : (outcome a b : Outcome) → Meets outcome a → Meets outcome b → a ≡ b

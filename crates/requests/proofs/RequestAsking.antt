@@ -6,10 +6,11 @@ use Rattle.answers.specs.Refusals.{Row}
 use Rattle.pack.specs.declared.Key.{Key}
 use Rattle.asking.specs.Outcome.{settled}
 use Rattle.asking.proofs.Outcome.{image-by}
-use Rattle.owners.specs.Asked.{ownerRows, owner}
+use Rattle.owners.specs.OwnerQuestion.{ownerRows, owner}
 use Rattle.directory.specs.Look.{lookRows, look}
 use Rattle.transfer.specs.Block.{blockInRows, blockIn}
-use Rattle.transfer.specs.Linked.{wrongPayload, linkedReadRows, linkedRead}
+use Rattle.bodies.specs.BufferSizes.{wrongPayload}
+use Rattle.transfer.specs.LinkedRead.{linkedReadRows, linkedRead}
 
 -- an effect that has the image as it was
 asked-image : (rows : List Row) (img buffer numbers given : List ℕ)

@@ -7,22 +7,20 @@ use lib.ListN.{length}
 use Rattle.pack.specs.Consistent.{Consistent}
 use Rattle.asking.specs.Outcome.{Outcome}
 use Rattle.creation.specs.Format.{formatTest, format}
-use Rattle.creation.proofs.Formatting.{format-refused, format-done}
-use Rattle.creation.proofs.EmptyPack.{format-consistent}
-use Rattle.creation.proofs.Allocated.{alloc-consistent}
-use Rattle.creation.proofs.OpenedOutput.{openo-consistent}
-use Rattle.opening.proofs.Opened.{open-consistent}
-use Rattle.opening.proofs.Closed.{close-consistent}
+use Rattle.creation.proofs.FormatRows.{format-refused, format-done}
+use Rattle.creation.proofs.FormatEffect.{format-consistent}
+use Rattle.creation.proofs.AllocEffect.{alloc-consistent}
+use Rattle.creation.proofs.OpenoEffect.{openo-consistent}
+use Rattle.opening.proofs.OpenEffect.{open-consistent}
+use Rattle.opening.proofs.CloseEffect.{close-consistent}
 use Rattle.directory.specs.Renam.{newKey}
-use Rattle.directory.proofs.Deleted.{delet-consistent}
-use Rattle.directory.proofs.Kept.{keep-consistent}
-use Rattle.directory.proofs.Renamed.{renam-consistent}
-use Rattle.transfer.proofs.Written.{block-out-consistent}
-use Rattle.growth.proofs.Appnd.{appnd-consistent}
-use Rattle.growth.proofs.Added.{add-consistent}
-use Rattle.requests.specs.Request.{Request, outcome}
-use Rattle.requests.specs.Request.{FORMAT, ALLOC, OPENO, OPEN, CLOSE, DELET, RENAM, APPND, LOOK, KEEP}
-use Rattle.requests.specs.Request.{BLOCK-INPUT, BLOCK-OUTPUT, LINKED-READ, LINKED-ADD, OWNER}
+use Rattle.directory.proofs.DeletEffect.{delet-consistent}
+use Rattle.directory.proofs.KeepEffect.{keep-consistent}
+use Rattle.directory.proofs.RenamEffect.{renam-consistent}
+use Rattle.transfer.proofs.BlockWritten.{block-out-consistent}
+use Rattle.appending.proofs.AppndEffect.{appnd-consistent}
+use Rattle.adding.proofs.LinkedAddEffect.{add-consistent}
+use Rattle.requests.specs.Request.{Request, outcome, FORMAT, ALLOC, OPENO, OPEN, CLOSE, DELET, RENAM, APPND, LOOK, KEEP, BLOCK-INPUT, BLOCK-OUTPUT, LINKED-READ, LINKED-ADD, OWNER}
 use Rattle.requests.proofs.RequestAsking.{look-image, owner-image, block-input-image, linked-read-image}
 
 -- Format: refused it leaves the image, done it leaves an empty pack

@@ -9,25 +9,23 @@ use Rattle.pack.specs.declared.Owner.the-variants.{System, Free, Held}
 use Rattle.pack.specs.Owner.{ownerOf}
 use Rattle.asking.specs.Outcome.{zeroed, Unchanged}
 use Rattle.asking.proofs.Outcome.{refusal-keeps}
-use Rattle.owners.specs.Asked.{ownerRows, ownerNumbers, owner}
-use Rattle.creation.proofs.Formatting.{format-unchanged}
-use Rattle.creation.proofs.Allocated.{alloc-refused}
-use Rattle.creation.proofs.OpenedOutput.{openo-refused}
-use Rattle.opening.proofs.Opened.{open-refused}
-use Rattle.opening.proofs.Closed.{close-refused}
+use Rattle.owners.specs.OwnerQuestion.{ownerRows, ownerNumbers, owner}
+use Rattle.creation.proofs.FormatRows.{format-unchanged}
+use Rattle.creation.proofs.AllocEffect.{alloc-refused}
+use Rattle.creation.proofs.OpenoEffect.{openo-refused}
+use Rattle.opening.proofs.OpenEffect.{open-refused}
+use Rattle.opening.proofs.CloseEffect.{close-refused}
 use Rattle.directory.specs.Look.{lookRows, look}
 use Rattle.directory.specs.Renam.{newKey}
-use Rattle.directory.proofs.Deleted.{delet-refused}
-use Rattle.directory.proofs.Kept.{keep-refused}
-use Rattle.directory.proofs.Renamed.{renam-refused}
-use Rattle.transfer.proofs.Input.{block-in-refused}
-use Rattle.transfer.proofs.Output.{block-out-refused}
-use Rattle.transfer.proofs.Reading.{linked-read-refused}
-use Rattle.growth.proofs.Appnd.{appnd-refused}
-use Rattle.growth.proofs.Added.{add-refused}
-use Rattle.requests.specs.Request.{Request, outcome, bufferLent, numbersAnswered}
-use Rattle.requests.specs.Request.{FORMAT, ALLOC, OPENO, OPEN, CLOSE, DELET, RENAM, APPND, LOOK, KEEP}
-use Rattle.requests.specs.Request.{BLOCK-INPUT, BLOCK-OUTPUT, LINKED-READ, LINKED-ADD, OWNER}
+use Rattle.directory.proofs.DeletEffect.{delet-refused}
+use Rattle.directory.proofs.KeepEffect.{keep-refused}
+use Rattle.directory.proofs.RenamEffect.{renam-refused}
+use Rattle.transfer.proofs.BlockInput.{block-in-refused}
+use Rattle.transfer.proofs.BlockOutput.{block-out-refused}
+use Rattle.transfer.proofs.LinkedReadStage.{linked-read-refused}
+use Rattle.appending.proofs.AppndEffect.{appnd-refused}
+use Rattle.adding.proofs.LinkedAddEffect.{add-refused}
+use Rattle.requests.specs.Request.{Request, outcome, bufferLent, numbersAnswered, FORMAT, ALLOC, OPENO, OPEN, CLOSE, DELET, RENAM, APPND, LOOK, KEEP, BLOCK-INPUT, BLOCK-OUTPUT, LINKED-READ, LINKED-ADD, OWNER}
 
 look-unchanged : (img : List ℕ) (key : Key) → (look img key .code ≡ 0 → ⊥) → Unchanged (look img key) (replicate 6 0) img []
 unfolding look

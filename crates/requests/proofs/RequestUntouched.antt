@@ -6,21 +6,19 @@ use mathlib.Core.List.{List}
 use Rattle.pack.specs.declared.Key.{Key}
 use Rattle.pack.specs.Consistent.{Consistent}
 use Rattle.pack.specs.Untouched.{Untouched}
-use Rattle.frame.proofs.Untouched.{untouched-refl}
-use Rattle.creation.proofs.Allocated.{alloc-untouched}
-use Rattle.creation.proofs.OpenedOutput.{openo-untouched}
-use Rattle.opening.proofs.Opened.{open-untouched}
-use Rattle.opening.proofs.Closed.{close-untouched}
+use Rattle.frame.proofs.UntouchedFramed.{untouched-refl}
+use Rattle.creation.proofs.AllocEffect.{alloc-untouched}
+use Rattle.creation.proofs.OpenoEffect.{openo-untouched}
+use Rattle.opening.proofs.OpenEffect.{open-untouched}
+use Rattle.opening.proofs.CloseEffect.{close-untouched}
 use Rattle.directory.specs.Renam.{newKey}
-use Rattle.directory.proofs.Deleted.{delet-untouched}
-use Rattle.directory.proofs.Kept.{keep-untouched}
-use Rattle.directory.proofs.Renamed.{renam-untouched}
-use Rattle.transfer.proofs.Written.{block-out-untouched}
-use Rattle.growth.proofs.Appnd.{appnd-untouched}
-use Rattle.growth.proofs.Added.{add-untouched}
-use Rattle.requests.specs.Request.{Request, outcome, Names}
-use Rattle.requests.specs.Request.{FORMAT, ALLOC, OPENO, OPEN, CLOSE, DELET, RENAM, APPND, LOOK, KEEP}
-use Rattle.requests.specs.Request.{BLOCK-INPUT, BLOCK-OUTPUT, LINKED-READ, LINKED-ADD, OWNER}
+use Rattle.directory.proofs.DeletEffect.{delet-untouched}
+use Rattle.directory.proofs.KeepEffect.{keep-untouched}
+use Rattle.directory.proofs.RenamEffect.{renam-untouched}
+use Rattle.transfer.proofs.BlockWritten.{block-out-untouched}
+use Rattle.appending.proofs.AppndEffect.{appnd-untouched}
+use Rattle.adding.proofs.LinkedAddEffect.{add-untouched}
+use Rattle.requests.specs.Request.{Request, outcome, Names, FORMAT, ALLOC, OPENO, OPEN, CLOSE, DELET, RENAM, APPND, LOOK, KEEP, BLOCK-INPUT, BLOCK-OUTPUT, LINKED-READ, LINKED-ADD, OWNER}
 use Rattle.requests.proofs.RequestAsking.{look-image, owner-image, block-input-image, linked-read-image}
 
 -- the image is as it was

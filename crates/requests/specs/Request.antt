@@ -5,7 +5,7 @@ use mathlib.Core.Logic.{_⊎_}
 use mathlib.Core.List.{List, []}
 use Rattle.pack.specs.declared.Key.{Key}
 use Rattle.asking.specs.Outcome.{Outcome}
-use Rattle.owners.specs.Asked.{owner}
+use Rattle.owners.specs.OwnerQuestion.{owner}
 use Rattle.creation.specs.Format.{format}
 use Rattle.creation.specs.Alloc.{alloc}
 use Rattle.creation.specs.Openo.{openo}
@@ -17,9 +17,9 @@ use Rattle.directory.specs.Delet.{delet}
 use Rattle.directory.specs.Keep.{keep}
 use Rattle.directory.specs.Renam.{newKey, renam}
 use Rattle.transfer.specs.Block.{blockIn, blockOut}
-use Rattle.transfer.specs.Linked.{linkedRead}
-use Rattle.growth.specs.Appnd.{appnd}
-use Rattle.growth.specs.Adding.{linkedAdd}
+use Rattle.transfer.specs.LinkedRead.{linkedRead}
+use Rattle.appending.specs.Appnd.{appnd}
+use Rattle.adding.specs.LinkedAdd.{linkedAdd}
 
 -- "Requests taken up": those on an image, with their arguments, in the order of the paper's 'What each request does'; and whose a block is.
 -- OPEN is OPENI, OPENU or OPENE. A UIC 0 has given place to the caller's. RENAM: "the UIC stays", so its new name comes without one.

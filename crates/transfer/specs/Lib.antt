@@ -1,5 +1,3 @@
 -- Parts of the image handed over.
-pub mod Parts
 pub mod Block
-pub mod Linked
-pub mod Stage
+pub mod LinkedRead

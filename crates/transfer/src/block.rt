@@ -1,45 +1,16 @@
 // BLOCK input and output: whole blocks of contiguous files.
 ghost use mathlib.Core.Path.{_≡_};
-ghost use mathlib.Core.List.{_++_};
-ghost use Prim.Native.Nat.{_<_};
-ghost use lib.ListN.{length};
-ghost use Rattle.pack.specs.Geometry.{Sized, blockBytes};
-ghost use Rattle.asking.specs.Asked.{fileRows, fileOf, stageOf};
-ghost use Rattle.transfer.specs.Parts.{blockStart, blockOf, withPart};
-ghost use Rattle.transfer.specs.Stage.{inputRows, outputRows};
+ghost use mathlib.Core.Bool.{not};
+ghost use lib.Dec.{eqb};
+ghost use Rattle.asking.specs.declared.Right.the-variants.{Read, Write};
+ghost use Rattle.asking.specs.AccessStage.{accessedOf};
 ghost use Rattle.transfer.specs.Block.{openForInput, blockIn, blockOut};
 use asking::Asked;
 use asking::Right;
 use pack::BlockNo;
 use pack::Entry;
-use pack::Geometry;
 use pack::Key;
 use pack::Place;
-
-fn read_block(img: &[u8], g: Geometry, b: BlockNo, buffer: &mut [u8])
-    requires { ⌜ Sized (now img) g ⌝ }
-    requires { ⌜ b .0 < g .blocks ⌝ }
-    requires { ⌜ length (now buffer) ≡ blockBytes g ⌝ }
-    ensures { λ r. ⌜ now (buffer .exit) ≡ blockOf (now (img .entry)) g (b .0) ⌝ }
-{
-    let size = 128 * g.segments.0;
-    let start = b.0 * size;
-    let end = start + size;
-    words::fill(buffer, &img[start..end]);
-}
-
-// The block's bytes are lent as they stand in the image, and no others.
-fn write_block(img: &mut [u8], g: Geometry, b: BlockNo, buffer: &[u8])
-    requires { ⌜ Sized (now img) g ⌝ }
-    requires { ⌜ b .0 < g .blocks ⌝ }
-    requires { ⌜ length (now buffer) ≡ blockBytes g ⌝ }
-    ensures { λ r. ⌜ now (img .exit) ≡ withPart (now (img .entry)) (blockStart g (b .0)) (now (buffer .entry)) ⌝ }
-{
-    let size = 128 * g.segments.0;
-    let start = b.0 * size;
-    let behind = start + size;
-    words::fill(&mut img[start..behind], buffer);
-}
 
 fn is_open_for_input(x: Entry) -> bool
     ensures { λ r. ⌜ r ≡ openForInput x ⌝ }
@@ -50,30 +21,32 @@ fn is_open_for_input(x: Entry) -> bool
     x.writer == 1
 }
 
-fn ask_input(img: &[u8], key: Key, caller: usize, place: Place, wrong: bool) -> Asked
-    ensures { λ r. ⌜ r ≡ stageOf (fileRows (now (img .entry)) key wrong ++ inputRows caller (place .0) (fileOf (now (img .entry)) key)) (now (img .entry)) key ⌝ }
+// The file of a BLOCK input, judged up to how it is open. `wrong` says that an argument of the request is wrong.
+pub fn ask_input(img: &[u8], key: Key, caller: usize, wrong: bool) -> Asked
+    ensures { λ r. ⌜ r ≡ accessedOf (now (img .entry)) key wrong caller Read 2 (λ x. not (openForInput x)) ⌝ }
 {
     let mut map = [0u8; pack::MOST_BLOCKS];
     let asked = asking::ask_file(img, &mut map, key, wrong);
     let Asked::File(_, _, x) = asked else {
         return asked;
     };
-    let code = crate::judge(x, caller, Right::Read, 2, !is_open_for_input(x), place);
+    let code = asking::access::judge_access(x, caller, Right::Read, 2, !is_open_for_input(x));
     if code != 0 {
         return Asked::Refused(code);
     }
     asked
 }
 
-fn ask_output(img: &[u8], key: Key, caller: usize, place: Place, wrong: bool) -> Asked
-    ensures { λ r. ⌜ r ≡ stageOf (fileRows (now (img .entry)) key wrong ++ outputRows caller (place .0) (fileOf (now (img .entry)) key)) (now (img .entry)) key ⌝ }
+// The same of a BLOCK output.
+pub fn ask_output(img: &[u8], key: Key, caller: usize, wrong: bool) -> Asked
+    ensures { λ r. ⌜ r ≡ accessedOf (now (img .entry)) key wrong caller Write 2 (λ x. not (eqb (x .writer) 1)) ⌝ }
 {
     let mut map = [0u8; pack::MOST_BLOCKS];
     let asked = asking::ask_file(img, &mut map, key, wrong);
     let Asked::File(_, _, x) = asked else {
         return asked;
     };
-    let code = crate::judge(x, caller, Right::Write, 2, x.writer != 1, place);
+    let code = asking::access::judge_access(x, caller, Right::Write, 2, x.writer != 1);
     if code != 0 {
         return Asked::Refused(code);
     }
@@ -84,14 +57,17 @@ pub fn block_input(img: &[u8], key: Key, caller: usize, place: Place, buffer: &m
     ensures { λ r. ⌜ r ≡ blockIn (now (img .entry)) key caller (place .0) (now (buffer .entry)) .code ⌝ }
     ensures { λ r. ⌜ now (buffer .exit) ≡ blockIn (now (img .entry)) key caller (place .0) (now (buffer .entry)) .buffer ⌝ }
 {
-    let wrong = buffer.len() != crate::block_bytes_of(img);
-    match ask_input(img, key, caller, place, wrong) {
+    let wrong = buffer.len() != bodies::block_bytes_of(img);
+    match ask_input(img, key, caller, wrong) {
         Asked::Refused(code) => {
             return code;
         }
         Asked::File(g, _, x) => {
+            if x.length <= place.0 {
+                return 0o44;
+            }
             let b = BlockNo(x.first.0 + place.0);
-            read_block(img, g, b, buffer);
+            bodies::read_part(img, g, b, 0, buffer);
             return 0;
         }
     }
@@ -101,14 +77,17 @@ pub fn block_output(img: &mut [u8], key: Key, caller: usize, place: Place, buffe
     ensures { λ r. ⌜ r ≡ blockOut (now (img .entry)) key caller (place .0) (now (buffer .entry)) .code ⌝ }
     ensures { λ r. ⌜ now (img .exit) ≡ blockOut (now (img .entry)) key caller (place .0) (now (buffer .entry)) .image ⌝ }
 {
-    let wrong = buffer.len() != crate::block_bytes_of(img);
-    match ask_output(img, key, caller, place, wrong) {
+    let wrong = buffer.len() != bodies::block_bytes_of(img);
+    match ask_output(img, key, caller, wrong) {
         Asked::Refused(code) => {
             return code;
         }
         Asked::File(g, _, x) => {
+            if x.length <= place.0 {
+                return 0o44;
+            }
             let b = BlockNo(x.first.0 + place.0);
-            write_block(img, g, b, buffer);
+            bodies::write_part(img, g, b, 0, buffer);
             return 0;
         }
     }

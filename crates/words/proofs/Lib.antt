@@ -1,3 +1,3 @@
 -- The laws of words.
-pub mod Laws
-pub mod Parts
+pub mod Word
+pub mod WordSlices

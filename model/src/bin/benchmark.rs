@@ -5,8 +5,9 @@
 use model::answers::{code, Answer, LookAnswer};
 use model::boundary;
 use model::conversions;
+use model::pack::block_mut;
 use model::pack::entry::{self, Entry, LINKED};
-use model::pack::{block_mut, BLOCK_BYTES};
+use model::pack::form::{BLOCK_BYTES, FORM, LEAST_BLOCKS, MOST_BLOCKS, MOST_CONTENTS, MOST_ENTRIES, PAYLOAD_BYTES};
 use model::requests::{self, File};
 use model::words::set_word;
 use std::hint::black_box;
@@ -130,29 +131,29 @@ fn file(number: usize) -> File {
 
 fn formatted(blocks: usize, contents: usize) -> Vec<u8> {
     let mut image = vec![0; BLOCK_BYTES * blocks];
-    requests::format(&mut image, 1, blocks, contents, &(OWNER as u16).to_le_bytes()).expect("the measures are good");
+    requests::format(&mut image, FORM as usize, blocks, contents, &(OWNER as u16).to_le_bytes())
+        .expect("the measures are good");
     image
 }
 
 /// The smallest pack, with one file.
 fn smallest() -> Vec<u8> {
-    let mut image = formatted(16, 1);
+    let mut image = formatted(LEAST_BLOCKS, 1);
     requests::alloc(&mut image, OWNER, file(0), 0, 9).expect("there is room");
     image
 }
 
-/// The files of the fullest pack, and the length of each but the last, which has all the rest.
-const MOST_FILES: usize = 128;
+/// The bodies of the fullest pack, and the length of each file but the last, which has all the rest.
+const BODIES: usize = MOST_BLOCKS - (1 + MOST_CONTENTS);
 const SHORT: usize = 4;
 
-/// A pack of 1024 blocks that has 128 linked files and no free block; no block of a chain is beside the one before.
+/// The largest pack, with the most files, all linked, and no free block; no block of a chain is beside the one before.
 fn fullest() -> Vec<u8> {
-    let mut image = formatted(1024, 8);
-    let bodies = 1024 - 9;
+    let mut image = formatted(MOST_BLOCKS, MOST_CONTENTS);
     // 386 and 1015 have no common divisor, so each body comes once.
-    let mut blocks = (0..bodies).map(|index| 9 + 386 * index % bodies);
-    for number in 0..MOST_FILES {
-        let length = if number + 1 < MOST_FILES { SHORT } else { long_length() };
+    let mut blocks = (0..BODIES).map(|index| 1 + MOST_CONTENTS + 386 * index % BODIES);
+    for number in 0..MOST_ENTRIES {
+        let length = if number + 1 < MOST_ENTRIES { SHORT } else { long_length() };
         let chain: Vec<usize> = blocks.by_ref().take(length).collect();
         for pair in chain.windows(2) {
             set_word(block_mut(&mut image, pair[0]), 0, pair[1] as u16);
@@ -178,7 +179,7 @@ fn fullest() -> Vec<u8> {
 }
 
 fn long_length() -> usize {
-    1024 - 9 - SHORT * (MOST_FILES - 1)
+    BODIES - SHORT * (MOST_ENTRIES - 1)
 }
 
 fn look(way: Way, times: usize, image: &[u8], file: File) -> Duration {
@@ -195,7 +196,7 @@ fn look_smallest(way: Way, times: usize) -> Duration {
 }
 
 fn look_fullest(way: Way, times: usize) -> Duration {
-    look(way, times, &fullest(), file(MOST_FILES - 1))
+    look(way, times, &fullest(), file(MOST_ENTRIES - 1))
 }
 
 /// A turn is an ALLOC and a DELET of what it made.
@@ -221,8 +222,8 @@ fn alloc_delet_smallest(way: Way, times: usize) -> Duration {
 
 /// All entries but one are of contiguous files, which leave half of the blocks free.
 fn alloc_delet_largest(way: Way, times: usize) -> Duration {
-    let mut image = formatted(1024, 8);
-    for number in 0..MOST_FILES - 1 {
+    let mut image = formatted(MOST_BLOCKS, MOST_CONTENTS);
+    for number in 0..MOST_ENTRIES - 1 {
         requests::alloc(&mut image, OWNER, file(number), 0, 16).expect("there is room");
     }
     alloc_delet(way, times, &mut image)
@@ -230,10 +231,10 @@ fn alloc_delet_largest(way: Way, times: usize) -> Duration {
 
 /// Adds to the only file of the largest pack; when no block is free any more the file is made empty again.
 fn linked_add_until_full(way: Way, times: usize) -> Duration {
-    let mut image = formatted(1024, 1);
+    let mut image = formatted(MOST_BLOCKS, 1);
     let file = file(0);
     requests::openo(&mut image, OWNER, file, 0).expect("there is an entry");
-    let payload = [0o125; 510];
+    let payload = [0o125; PAYLOAD_BYTES];
     let empty = |image: &mut [u8]| {
         for word in [entry::FIRST, entry::LENGTH, entry::LAST] {
             set_word(entry::bytes_mut(image, 0), word, 0);
@@ -262,8 +263,8 @@ fn linked_add_until_full(way: Way, times: usize) -> Duration {
 
 fn linked_read_last(way: Way, times: usize) -> Duration {
     let image = fullest();
-    let (file, place) = (file(MOST_FILES - 1), long_length() - 1);
-    let mut buffer = [0; 510];
+    let (file, place) = (file(MOST_ENTRIES - 1), long_length() - 1);
+    let mut buffer = [0; PAYLOAD_BYTES];
     timed!(
         way,
         times,

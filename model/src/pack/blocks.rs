@@ -1,13 +1,15 @@
-//! A set of block numbers of a pack, which has 1024 blocks at most.
+//! A set of block numbers of a pack.
+
+use super::form::MOST_BLOCKS;
 
 #[derive(Clone)]
 pub struct BlockSet {
-    bits: [u64; 16],
+    bits: [u64; MOST_BLOCKS / 64],
 }
 
 impl BlockSet {
     pub fn new() -> BlockSet {
-        BlockSet { bits: [0; 16] }
+        BlockSet { bits: [0; MOST_BLOCKS / 64] }
     }
 
     #[inline]

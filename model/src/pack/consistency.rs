@@ -1,7 +1,8 @@
 //! Whether an image is a consistent pack, and which blocks its files hold.
 
 use super::blocks::BlockSet;
-use super::entry::{self, Entry, CONTIGUOUS, ENTRY_BYTES, EXTEND, LINKED, MOST, MOST_OPENS, OUTPUT, UPDATE};
+use super::entry::{self, Entry, CONTIGUOUS, EXTEND, LINKED, MOST_OPENS, OUTPUT, UPDATE};
+use super::form::{ENTRY_BYTES, MOST_ENTRIES};
 use super::header::Header;
 use super::{link, name};
 use crate::refusal::Refusal;
@@ -50,7 +51,7 @@ pub fn examine(image: &[u8]) -> Result<Pack, Refusal> {
 fn consistent(image: &[u8]) -> Option<Pack> {
     let header = Header::read(image)?;
     let mut held = BlockSet::new();
-    let mut keys = [0; MOST];
+    let mut keys = [0; MOST_ENTRIES];
     let mut used = 0;
     for index in 0..header.entries() {
         let bytes = entry::bytes(image, index);

@@ -1,14 +1,7 @@
 //! An entry of the contents: 16 words that say what file there is.
 
-use super::BLOCK_BYTES;
+use super::form::{BLOCK_BYTES, ENTRY_BYTES};
 use crate::words::{set_word, word};
-
-/// The bytes of an entry: 16 words.
-pub const ENTRY_BYTES: usize = 32;
-/// The entries of a block of the contents.
-pub const PER_BLOCK: usize = BLOCK_BYTES / ENTRY_BYTES;
-/// The most entries that a pack has.
-pub const MOST: usize = 8 * PER_BLOCK;
 
 /// The words of an entry that requests change one by one.
 pub const NAME1: usize = 0;

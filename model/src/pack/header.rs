@@ -1,23 +1,21 @@
 //! Block 0: the form, the measures of the pack and its UICs.
 
-use super::BLOCK_BYTES;
+use super::form::{
+    BLOCK_BYTES, ENTRIES_PER_BLOCK, FORM, LEAST_BLOCKS, LEAST_CONTENTS, MOST_BLOCKS, MOST_CONTENTS, MOST_UICS,
+};
 use crate::words::word;
 
-/// The word 0 of the only form that 01 has.
-pub const FORM: u16 = 1;
-/// The most UICs that a pack lists.
-pub const MOST_UICS: usize = 64;
 /// The word at which the UICs begin.
 pub const FIRST_UIC: usize = 4;
 
 /// "n, the blocks in all, 16 to 1024".
 pub fn is_blocks(blocks: usize) -> bool {
-    (16..=1024).contains(&blocks)
+    (LEAST_BLOCKS..=MOST_BLOCKS).contains(&blocks)
 }
 
 /// "c, 1 to 8".
 pub fn is_contents(contents: usize) -> bool {
-    (1..=8).contains(&contents)
+    (LEAST_CONTENTS..=MOST_CONTENTS).contains(&contents)
 }
 
 /// The UICs that may own files, sorted, so that a UIC twice there stands side by side.
@@ -27,7 +25,7 @@ pub struct Uics {
 }
 
 impl Uics {
-    /// Reads words of UICs; `None` unless they are at most 64, "distinct and not 0".
+    /// Reads words of UICs; `None` unless they are few enough, "distinct and not 0".
     pub fn read(bytes: &[u8]) -> Option<Uics> {
         let count = bytes.len() / 2;
         if count > MOST_UICS {
@@ -79,6 +77,6 @@ impl Header {
 
     /// How many entries the contents have.
     pub fn entries(&self) -> usize {
-        super::entry::PER_BLOCK * self.contents
+        ENTRIES_PER_BLOCK * self.contents
     }
 }

@@ -3,17 +3,15 @@
 pub mod blocks;
 pub mod consistency;
 pub mod entry;
+pub mod form;
 pub mod header;
 pub mod name;
 pub mod owner;
 pub mod rights;
 
-/// The bytes of a block: 256 words.
-pub const BLOCK_BYTES: usize = 512;
-/// The bytes of a linked file's block behind the word that is its link.
-pub const PAYLOAD_BYTES: usize = BLOCK_BYTES - 2;
+use form::BLOCK_BYTES;
 
-/// The 512 bytes of a block.
+/// The bytes of a block.
 #[inline]
 pub fn block(image: &[u8], number: usize) -> &[u8] {
     &image[BLOCK_BYTES * number..BLOCK_BYTES * (number + 1)]

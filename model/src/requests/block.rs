@@ -3,8 +3,9 @@
 use super::File;
 use crate::pack::consistency::examine;
 use crate::pack::entry::{CONTIGUOUS, UPDATE};
+use crate::pack::form::BLOCK_BYTES;
 use crate::pack::rights::rights;
-use crate::pack::{block, block_mut, BLOCK_BYTES};
+use crate::pack::{block, block_mut};
 use crate::refusal::{require, Refusal};
 
 /// BLOCK input: "needs read, and besides a reader or writer 1".

@@ -3,10 +3,8 @@
 use super::{require_protect, File};
 use crate::pack::consistency::{examine, Pack};
 use crate::pack::entry::{self, Entry, CONTIGUOUS, LINKED, OUTPUT};
+use crate::pack::form::SEGMENTS_PER_BLOCK;
 use crate::refusal::{require, Refusal};
-
-/// The segments of a block (000: B = 4).
-const SEGMENTS_PER_BLOCK: usize = 4;
 
 /// ALLOC: a closed contiguous file large enough for so many segments; answers its first block.
 pub fn alloc(image: &mut [u8], caller: usize, file: File, protect: usize, segments: usize) -> Result<usize, Refusal> {

@@ -1,7 +1,7 @@
 //! Format: "writes blocks 0 to c, bodies untouched".
 
-use crate::pack::header::{is_blocks, is_contents, Uics, FIRST_UIC, FORM};
-use crate::pack::BLOCK_BYTES;
+use crate::pack::form::{BLOCK_BYTES, FORM};
+use crate::pack::header::{is_blocks, is_contents, Uics, FIRST_UIC};
 use crate::refusal::{require, Refusal};
 use crate::words::set_word;
 

@@ -3,8 +3,9 @@
 use super::File;
 use crate::pack::consistency::examine;
 use crate::pack::entry::{self, EXTEND, FIRST, LAST, LENGTH, LINKED, OUTPUT};
+use crate::pack::form::PAYLOAD_BYTES;
 use crate::pack::rights::rights;
-use crate::pack::{block, block_mut, link, PAYLOAD_BYTES};
+use crate::pack::{block, block_mut, link};
 use crate::refusal::{require, Refusal};
 use crate::words::set_word;
 

@@ -1,3 +1,4 @@
+-- Rests on `has_right`: its answer is said as one of two values.
 use borrow.Author.Needs.{needs}
 use mathlib.Core.Path.{sym, _∙_}
 use Rattle.asking.proofs.ask_right.Statement.{statement}

@@ -1,8 +1,9 @@
+-- Rests on `Keys`: what the entries that are left say is what all say; `GeometryRoom`: `slot_count` counted them.
 use Prim.Native.Nat.{_-_}
 use mathlib.Core.Path.{_≡_, sym, ap, _∙_}
 use native.Mathlib.Omega.{arith}
 use Rattle.pack.specs.Geometry.{slots}
-use Rattle.pack.proofs.Measures.{sized-few, below-count, past-count}
+use Rattle.pack.proofs.GeometryRoom.{sized-few, below-count, past-count}
 use Rattle.asking.specs.Keys.{findFrom}
 use Rattle.asking.proofs.Keys.{find-here, find-next, find-end}
 use Rattle.asking.proofs.find.Statement.{statement}
@@ -21,14 +22,18 @@ loop-holds : tie.Need-loop-holds Inv-loop μ-loop
 loop-holds c = let whole : slots (c .before .before .args .g) ≡ slots (c .before .before .args .g) - 0 = omega arith in
     (c .slot-count .ensures .0, ap (findFrom _ _ _ 0) whole)
 
-read-entry-requires : tie.Need-read-entry-requires Inv-loop μ-loop
-read-entry-requires c κs = (c .before .before .before .before .pre, (below-count (c .before .loop .inv .0) (c .loop-test .taken)))
+read-key-requires : tie.Need-read-key-requires Inv-loop μ-loop
+read-key-requires c κs = (c .before .before .before .before .pre, (below-count (c .before .loop .inv .0) (c .loop-test .taken)))
 
-is-match-requires : tie.Need-is-match-requires Inv-loop μ-loop
-is-match-requires c κs = tt
+is-same-key-requires : tie.Need-is-same-key-requires Inv-loop μ-loop
+is-same-key-requires c κs = tt
 
 returns : tie.Need-returns Inv-loop μ-loop
-returns c = sym (c .before .before .before .before .loop .inv .1 ∙ find-here _ _ _ _ _ (below-count (c .before .before .before .before .loop .inv .0) (c .before .before .before .loop-test .taken)) _ (c .before .before .read-entry .ensures .0) (sym (c .before .is-match .ensures) ∙ c .if1 .taken))
+returns c =
+    let loop = c .before .before .before .before .loop in
+    let loop-test = c .before .before .before .loop-test in
+    sym (loop .inv .1 ∙ find-here _ _ _ _ _ (below-count (loop .inv .0) (loop-test .taken)) _ (c .before .before .read-key .ensures)
+    (sym (c .before .is-same-key .ensures) ∙ c .if1 .taken))
 
 add-e : tie.Need-add-e Inv-loop μ-loop
 add-e c = omega (arith, c .before .before .before .loop-test .taken, c .before .before .before .before .before .slot-count .ensures .1)
@@ -37,7 +42,13 @@ loop-less : tie.Need-loop-less Inv-loop μ-loop
 loop-less c = omega (arith, (below-count (c .before .before .before .before .loop .inv .0) (c .before .before .before .loop-test .taken)))
 
 loop-again : tie.Need-loop-again Inv-loop μ-loop
-loop-again c = (c .before .before .before .before .loop .inv .0, c .before .before .before .before .loop .inv .1 ∙ find-next _ _ _ _ _ (below-count (c .before .before .before .before .loop .inv .0) (c .before .before .before .loop-test .taken)) _ (c .before .before .read-entry .ensures .0) (sym (c .before .is-match .ensures) ∙ c .if1 .left))
+loop-again c =
+    let loop = c .before .before .before .before .loop in
+    let loop-test = c .before .before .before .loop-test in (
+      loop .inv .0,
+      loop .inv .1 ∙ find-next _ _ _ _ _ (below-count (loop .inv .0) (loop-test .taken)) _ (c .before .before .read-key .ensures)
+          (sym (c .before .is-same-key .ensures) ∙ c .if1 .left),
+    )
 
 returns-2 : tie.Need-returns-2 Inv-loop μ-loop
 returns-2 c = sym (c .before .loop .inv .1 ∙ find-end _ _ _ _ _ (past-count (c .before .loop .inv .0) (c .loop-test .left)))
@@ -50,8 +61,8 @@ find-spec =
     μ-loop
     slot-count-requires
     loop-holds
-    read-entry-requires
-    is-match-requires
+    read-key-requires
+    is-same-key-requires
     returns
     add-e
     loop-less

@@ -1,3 +1,4 @@
+-- Rests on `Rights`: owner, group or others, the class of the caller says which bits decide.
 use borrow.Author.Needs.{needs}
 use mathlib.Core.Path.{_∙_}
 use Rattle.asking.proofs.Rights.{may-owner, may-group, may-others}

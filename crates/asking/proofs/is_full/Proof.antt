@@ -1,3 +1,4 @@
+-- Rests on `Opens`: a writer is one of the 62, so that beside one 61 readers are enough.
 use Rattle.asking.proofs.Opens.{full-written, full-read}
 use Rattle.asking.proofs.is_full.Statement.{statement}
 use Rattle.asking.proofs.is_full.Tie as tie

@@ -1,3 +1,4 @@
+-- Rests on `Rights`: what three bits grant, right by right.
 use borrow.Author.Needs.{needs}
 use Rattle.asking.proofs.Rights.{field-delete, field-write, field-read}
 use Rattle.asking.proofs.is_in_field.Statement.{statement}

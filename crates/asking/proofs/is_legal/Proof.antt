@@ -1,3 +1,4 @@
+-- Rests on `Keys`: a key is legal if its name is and then its extension.
 use borrow.Author.Needs.{needs}
 use mathlib.Core.Path.{sym, _∙_}
 use borrow.Author.Tests.{not-true, not-false}

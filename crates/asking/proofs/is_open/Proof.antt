@@ -1,3 +1,4 @@
+-- Rests on `Opens`: a writer is an open; where there is none the readers decide.
 use Rattle.asking.proofs.Opens.{open-written, open-read}
 use Rattle.asking.proofs.is_open.Statement.{statement}
 use Rattle.asking.proofs.is_open.Tie as tie

@@ -1,3 +1,4 @@
+-- Rests on `Rights`: what bit 6 leaves to the owner, right by right.
 use borrow.Author.Needs.{needs}
 use Rattle.asking.proofs.Rights.{owners-delete, owners-write, owners-read}
 use Rattle.asking.proofs.is_owners.Statement.{statement}

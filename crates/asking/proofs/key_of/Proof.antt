@@ -1,3 +1,4 @@
+-- Rests on `Keys`: UIC 0 gives place to the caller's, any other stays.
 use Rattle.asking.proofs.Keys.{key-callers, key-own}
 use Rattle.asking.proofs.key_of.Statement.{statement}
 use Rattle.asking.proofs.key_of.Tie as tie

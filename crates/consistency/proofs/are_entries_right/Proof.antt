@@ -1,11 +1,12 @@
+-- Rests on `ConsistentTestScan`: the entries that are left decide for all, on the map that those before them left, and mark what all mark.
 use Prim.Native.Nat.{_-_}
 use borrow.Author.Needs.{needs}
 use mathlib.Core.Path.{_≡_, refl, sym, _∙_}
 use borrow.Author.Tests.{not-true, not-false}
 use lib.ListN.{length}
 use Rattle.pack.specs.Geometry.{slots}
-use Rattle.consistency.specs.Test.{scanTest, markAll}
-use Rattle.consistency.proofs.Scan.{scan-start, marks-start, scan-step, marks-step, scan-not, scan-end, marks-end}
+use Rattle.consistency.specs.ConsistentTest.{scanTest, markAll}
+use Rattle.consistency.proofs.ConsistentTestScan.{scan-start, marks-start, scan-step, marks-step, scan-not, scan-end, marks-end}
 use Rattle.consistency.proofs.are_entries_right.Statement.{statement}
 use Rattle.consistency.proofs.are_entries_right.Tie as tie
 
@@ -30,7 +31,11 @@ same-length : tie.Need-same-length Inv-loop μ-loop
 same-length c = search needs
 
 returns : tie.Need-returns Inv-loop μ-loop
-returns c = (sym (c .before .before .before .before .before .before .loop .inv .1 ∙ scan-not _ _ _ _ _ (c .before .before .before .before .before .loop-test .taken) (sym (c .before .before .before .is-entry-right .ensures .0) ∙ not-true _ (c .if1 .taken))), λ e. cc)
+returns c =
+    let loop = c .before .before .before .before .before .before .loop in
+    let loop-test = c .before .before .before .before .before .loop-test in
+    let is-entry-right = c .before .before .before .is-entry-right in
+    (sym (loop .inv .1 ∙ scan-not _ _ _ _ _ (loop-test .taken) (sym (is-entry-right .ensures .0) ∙ not-true _ (c .if1 .taken))), λ e. cc)
 
 add-e : tie.Need-add-e Inv-loop μ-loop
 add-e c = search needs

@@ -1,3 +1,4 @@
+-- Rests on `DifferTest`: entries behind this one have their remainders marked, so one that is not marked differs from them; else `is_unique` decides.
 use Prim.Native.Nat.{_-_, _≤_}
 use borrow.Author.Needs.{needs}
 use mathlib.Core.Path.{_≡_, refl, sym, _∙_}
@@ -6,8 +7,8 @@ use mathlib.Core.Logic.{⊎-elim}
 use native.Mathlib.Omega.{arith}
 use borrow.Author.Tests.{not-true, not-false}
 use Rattle.pack.specs.Geometry.{slots}
-use Rattle.consistency.specs.Differ.{differTest}
-use Rattle.consistency.proofs.Differ.{Marked, marked-none, marked-more, marked-back, unmarked-unique, differ-end, differ-down, differ-twice, differ-all}
+use Rattle.consistency.specs.DifferTest.{differTest}
+use Rattle.consistency.proofs.DifferTest.{Marked, marked-none, marked-more, marked-back, unmarked-unique, differ-end, differ-down, differ-twice, differ-all}
 use Rattle.consistency.proofs.do_files_differ.Statement.{statement}
 use Rattle.consistency.proofs.do_files_differ.Tie as tie
 

@@ -1,4 +1,5 @@
-use Rattle.consistency.proofs.Answers.{opens-written, opens-read}
+-- Rests on `EntryTestAnswers`: a writer is one open more than the readers.
+use Rattle.consistency.proofs.EntryTestAnswers.{opens-written, opens-read}
 use Rattle.consistency.proofs.is_few_opens.Statement.{statement}
 use Rattle.consistency.proofs.is_few_opens.Tie as tie
 

@@ -1,4 +1,5 @@
-use Rattle.consistency.proofs.Answers.{run-empty, run-writer, no-kind, chain-updated, chain-writer}
+-- Rests on `EntryTestAnswers`: the lengths and writers that go with each kind, return by return.
+use Rattle.consistency.proofs.EntryTestAnswers.{run-empty, run-writer, no-kind, chain-updated, chain-writer}
 use Rattle.consistency.proofs.is_kind_right.Statement.{statement}
 use Rattle.consistency.proofs.is_kind_right.Tie as tie
 

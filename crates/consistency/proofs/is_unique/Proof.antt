@@ -1,9 +1,10 @@
+-- Rests on `DifferTest`: an empty entry differs from all; another does so if it differs from the entries that are left.
 use Prim.Native.Nat.{_+_, _-_}
 use borrow.Author.Needs.{needs}
 use mathlib.Core.Path.{_≡_, sym, _∙_}
 use Rattle.pack.specs.Geometry.{slots}
-use Rattle.consistency.specs.Differ.{uniqueTest, apartTest}
-use Rattle.consistency.proofs.Differ.{unique-empty, unique-used, apart-step, apart-not, apart-end}
+use Rattle.consistency.specs.DifferTest.{uniqueTest, apartTest}
+use Rattle.consistency.proofs.DifferTest.{unique-empty, unique-used, apart-step, apart-not, apart-end}
 use Rattle.consistency.proofs.is_unique.Statement.{statement}
 use Rattle.consistency.proofs.is_unique.Tie as tie
 

@@ -1,6 +1,7 @@
+-- Rests on `DifferTest`: the remainder is that of the four words' sum; each word is below 65536, so that the sums fit.
 use borrow.Author.Needs.{needs}
 use native.Mathlib.Omega.{arith}
-use Rattle.consistency.proofs.Differ.{remainder-of}
+use Rattle.consistency.proofs.DifferTest.{remainder-of}
 use Rattle.consistency.proofs.key_remainder.Statement.{statement}
 use Rattle.consistency.proofs.key_remainder.Tie as tie
 
@@ -26,7 +27,11 @@ add-result : tie.Need-add-result
 add-result c = search needs
 
 returns : tie.Need-returns
-returns c = (remainder-of _ _ _ (c .before .before .before .entry-word .ensures .0) (c .before .before .entry-word2 .ensures .0) (c .before .entry-word3 .ensures .0) (c .entry-word4 .ensures .0), omega arith)
+returns c =
+    let entry-word = c .before .before .before .entry-word in (
+      remainder-of _ _ _ (entry-word .ensures .0) (c .before .before .entry-word2 .ensures .0) (c .before .entry-word3 .ensures .0) (c .entry-word4 .ensures .0),
+      omega arith,
+    )
 
 pub key-remainder-spec : {M : Type 1} → statement M
 key-remainder-spec =

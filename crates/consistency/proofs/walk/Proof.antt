@@ -1,9 +1,10 @@
+-- Rests on `WalkSteps`: the walk from here on this map is the whole walk; a block that is no body, or is taken, stops it.
 use borrow.Author.Needs.{needs}
 use native.Mathlib.Omega.{arith}
 use mathlib.Core.Path.{_≡_, refl, sym, _∙_}
 use lib.ListN.{length, length-set}
 use Rattle.consistency.specs.Walk.{mark, blocksFrom, walkOf}
-use Rattle.consistency.proofs.Walking.{walk-step, mark-step, walk-low, walk-high, walk-taken, walk-end, mark-end}
+use Rattle.consistency.proofs.WalkSteps.{walk-step, mark-step, walk-low, walk-high, walk-taken, walk-end, mark-end}
 use Rattle.consistency.proofs.walk.Statement.{statement}
 use Rattle.consistency.proofs.walk.Tie as tie
 
@@ -37,7 +38,11 @@ same-length-3 : tie.Need-same-length-3 Inv-loop μ-loop
 same-length-3 c = search needs
 
 returns-3 : tie.Need-returns-3 Inv-loop μ-loop
-returns-3 c = (sym (c .before .before .before .before .before .loop .inv .1 ∙ walk-taken _ _ _ _ _ _ _ (c .before .before .before .before .loop-test .taken) (c .before .before .before .if1 .left) (c .before .before .if2 .left) (c .if3 .taken)), λ e. cc)
+returns-3 c =
+    let loop = c .before .before .before .before .before .loop in
+    let loop-test = c .before .before .before .before .loop-test in
+    let if1 = c .before .before .before .if1 in
+    (sym (loop .inv .1 ∙ walk-taken _ _ _ _ _ _ _ (loop-test .taken) (if1 .left) (c .before .before .if2 .left) (c .if3 .taken)), λ e. cc)
 
 slice-write-map : tie.Need-slice-write-map Inv-loop μ-loop
 slice-write-map c = search needs

@@ -1,6 +1,6 @@
 use borrow.Author.Needs.{needs}
 use mathlib.Core.Path.{sym, ap, _∙_}
-use Rattle.radix.specs.Codes.{codeIn}
+use Rattle.radix.specs.Lookup.{codeIn}
 use Rattle.cursor.proofs.Words.{code-behind, code-here, code-missing}
 use Rattle.cursor.proofs.code_at.Statement.{statement}
 use Rattle.cursor.proofs.code_at.Tie as tie

@@ -1,10 +1,11 @@
+-- Rests on the contract of `print_listing`: the room for the longest text is asked and lent, and what is printed is no longer.
 use Prim.Native.Nat.{ℕ}
 use mathlib.Core.Path.{sym}
 use native.Mathlib.Omega.{arith}
 use lib.ListN.{length-replicate}
 use lib.Seq.{length-take-le}
 use borrow.Author.Needs.{needs}
-use Rattle.printing.specs.Parts.{longestText}
+use Rattle.printing.specs.Pieces.{longestText}
 use Rattle.listing.proofs.main.Statement.{statement}
 use Rattle.listing.proofs.main.Tie as tie
 
@@ -30,7 +31,9 @@ array-share-prefix-text : tie.Need-array-share-prefix-text
 array-share-prefix-text c = search needs
 
 slice-aggregate-write-all : tie.Need-slice-aggregate-write-all
-slice-aggregate-write-all c = sym (length-take-le _ _ (omega (arith, c .before .before .print-listing .kept .1 .0, c .before .before .print-listing .ensures .1 .1, length-replicate {A = ℕ} longestText 0)))
+slice-aggregate-write-all c =
+    let printed = c .before .before .print-listing in
+    sym (length-take-le _ _ (omega (arith, printed .kept .1 .0, printed .ensures .1 .1, length-replicate {A = ℕ} longestText 0)))
 
 write-all-requires : tie.Need-write-all-requires
 write-all-requires c κs = search needs

@@ -1,10 +1,12 @@
+-- Rests on `RemainingReading`: what the rest of the characters says behind the number so far is what all say; above the largest it stays none.
 use mathlib.Core.Path.{_≡_, sym, _∙_}
 use Prim.Native.Nat.{_-_, _≤_}
 use native.Mathlib.Omega.{arith}
 use borrow.Author.Needs.{needs}
 use lib.ListN.{length, drop}
 use Rattle.numerals.specs.Digits.{largest, numberOf}
-use Rattle.numerals.proofs.Reading.{numberFrom, from-nothing, from-large, from-digit, from-low, from-high, from-end, small-product}
+use Rattle.numerals.specs.Remaining.{numberFrom}
+use Rattle.numerals.proofs.RemainingReading.{from-nothing, from-large, from-digit, from-low, from-high, from-end, small-product}
 use Rattle.numerals.proofs.read_number.Statement.{statement}
 use Rattle.numerals.proofs.read_number.Tie as tie
 

@@ -1,7 +1,7 @@
+-- Rests on the two codes and the success of `Conversion`; `DigitsLimits` has which numbers have digits, and `write_digits` writes them.
 use borrow.Author.Needs.{needs}
 use Rattle.answers.proofs.Conversion.{characters-41, characters-60, characters-given, in-parts}
-use Rattle.numerals.proofs.Limits.{digits-large}
-use Rattle.numerals.proofs.Writing.{digits-written}
+use Rattle.numerals.proofs.DigitsLimits.{digits-large, digits-written}
 use Rattle.numerals.proofs.to_characters.Statement.{statement}
 use Rattle.numerals.proofs.to_characters.Tie as tie
 

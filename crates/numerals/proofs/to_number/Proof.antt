@@ -1,3 +1,4 @@
+-- Rests on the two codes and the success of `Conversion`; `read_number` says which characters write a number.
 use borrow.Author.Needs.{needs}
 use mathlib.Core.Path.{sym, ap, _∙_}
 use Rattle.answers.proofs.Conversion.{number-41, number-60, number-given}

@@ -1,3 +1,4 @@
+-- Rests on `RemainingWriting`: the digits due in the first places and those written behind them are the digits of the whole number.
 use mathlib.Core.Path.{_≡_, refl, sym, _∙_}
 use Prim.Native.Nat.{_≤_}
 use native.Mathlib.Nat.{mod-lt}
@@ -5,7 +6,8 @@ use native.Mathlib.Omega.{arith}
 use borrow.Author.Needs.{needs}
 use lib.ListN.{length, length-set}
 use Rattle.numerals.specs.Digits.{digits}
-use Rattle.numerals.proofs.Writing.{due, due-all, due-none, due-less}
+use Rattle.numerals.specs.Remaining.{due}
+use Rattle.numerals.proofs.RemainingWriting.{due-all, due-none, due-less}
 use Rattle.numerals.proofs.write_digits.Statement.{statement}
 use Rattle.numerals.proofs.write_digits.Tie as tie
 

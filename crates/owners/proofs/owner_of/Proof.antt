@@ -1,5 +1,6 @@
+-- Rests on `owner-below` and `owner-behind`: a block before the bodies is the system's, of any other the holder decides.
 use borrow.Author.Needs.{needs}
-use Rattle.owners.proofs.Search.{owner-below, owner-behind}
+use Rattle.owners.proofs.OwnerSearch.{owner-below, owner-behind}
 use Rattle.owners.proofs.owner_of.Statement.{statement}
 use Rattle.owners.proofs.owner_of.Tie as tie
 

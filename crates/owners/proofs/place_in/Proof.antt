@@ -1,7 +1,8 @@
+-- Rests on `Left` of `OwnerSearch`: the blocks that are left decide, and each of them is a block of the pack.
 use Prim.Native.Nat.{_-_}
 use borrow.Author.Needs.{needs}
 use Rattle.pack.specs.File.{blocksOf}
-use Rattle.owners.proofs.Search.{Left, left-start, left-block, left-here, left-next, left-end}
+use Rattle.owners.proofs.OwnerSearch.{Left, left-start, left-block, left-here, left-next, left-end}
 use Rattle.owners.proofs.place_in.Statement.{statement}
 use Rattle.owners.proofs.place_in.Tie as tie
 

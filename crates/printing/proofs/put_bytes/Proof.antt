@@ -1,3 +1,4 @@
+-- Rests on `copy-step` and `copy-end`: to put the rest of the piece behind the bytes already put is to put all of it.
 use Prim.Native.Nat.{_+_, _-_, _≤_}
 use mathlib.Core.Path.{_≡_, refl, _∙_}
 use native.Mathlib.Omega.{arith}
@@ -5,7 +6,7 @@ use native.Mathlib.Nat.{add-zero}
 use lib.ListN.{length, drop, length-set}
 use lib.Seq.{sets}
 use borrow.Author.Needs.{needs}
-use Rattle.printing.proofs.Putting.{copy-step, copy-end}
+use Rattle.printing.proofs.Put.{copy-step, copy-end}
 use Rattle.printing.proofs.put_bytes.Statement.{statement}
 use Rattle.printing.proofs.put_bytes.Tie as tie
 

@@ -1,7 +1,8 @@
+-- Rests on `put-then`: five pieces, each put behind the one before, are the head line.
 use native.Mathlib.Omega.{arith}
 use borrow.Author.Needs.{needs}
 use Rattle.printing.specs.Listing.{headLine}
-use Rattle.printing.proofs.Putting.{put-then}
+use Rattle.printing.proofs.Put.{put-then}
 use Rattle.printing.proofs.put_head.Statement.{statement}
 use Rattle.printing.proofs.put_head.Tie as tie
 
@@ -34,7 +35,18 @@ same-length c = search needs
 
 returns : tie.Need-returns
 unfolding headLine
-returns c = (put-then (c .before .before .before .before .before .before .before .before .before .before .before .before .before .before .before .before .before .before .before .before .put-bytes .ensures) (put-then (c .before .before .before .before .before .before .before .before .before .before .before .before .before .before .before .before .put-number .ensures) (put-then (c .before .before .before .before .before .before .before .before .before .before .before .put-bytes2 .ensures) (put-then (c .before .before .before .before .before .before .before .put-number2 .ensures) (c .before .before .put-bytes3 .ensures)))), omega arith)
+returns c = (
+  let fifth = c .before .before in
+      let fourth = fifth .before .before .before .before .before in
+      let third = fourth .before .before .before .before in
+      let second = third .before .before .before .before .before in
+      let first = second .before .before .before .before in
+      put-then (first .put-bytes .ensures)
+      (put-then (second .put-number .ensures)
+      (put-then (third .put-bytes2 .ensures)
+      (put-then (fourth .put-number2 .ensures) (fifth .put-bytes3 .ensures)))),
+  omega arith,
+)
 
 pub put-head-spec : {M : Type 1} → statement M
 put-head-spec =

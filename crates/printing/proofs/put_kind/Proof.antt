@@ -1,5 +1,6 @@
+-- Rests on `put-c` and `put-l`: the letter is C exactly for kind 1.
 use borrow.Author.Needs.{needs}
-use Rattle.printing.proofs.Lines.{put-c, put-l}
+use Rattle.printing.proofs.PiecesLines.{put-c, put-l}
 use Rattle.printing.proofs.put_kind.Statement.{statement}
 use Rattle.printing.proofs.put_kind.Tie as tie
 

@@ -1,6 +1,7 @@
+-- Rests on `put-pieces`: name, size, UIC, protect code and the line end, each put behind the one before, are the line of the entry.
 use native.Mathlib.Omega.{arith}
 use borrow.Author.Needs.{needs}
-use Rattle.printing.proofs.Lines.{put-parts}
+use Rattle.printing.proofs.PiecesLines.{put-pieces}
 use Rattle.printing.proofs.put_line.Statement.{statement}
 use Rattle.printing.proofs.put_line.Tie as tie
 
@@ -26,7 +27,15 @@ same-length : tie.Need-same-length
 same-length c = search needs
 
 returns : tie.Need-returns
-returns c = (put-parts _ (c .before .before .before .before .before .before .before .before .before .before .before .before .before .before .before .before .before .before .before .put-name .ensures .0) (c .before .before .before .before .before .before .before .before .before .before .before .before .before .before .before .put-size .ensures .0) (c .before .before .before .before .before .before .before .before .before .before .before .put-uic .ensures .0) (c .before .before .before .before .before .before .before .put-number .ensures) (c .before .before .put-bytes .ensures), omega arith)
+returns c = (
+  let end = c .before .before in
+      let protect = end .before .before .before .before .before in
+      let uic = protect .before .before .before .before in
+      let size = uic .before .before .before .before in
+      let name = size .before .before .before .before in
+      put-pieces _ (name .put-name .ensures .0) (size .put-size .ensures .0) (uic .put-uic .ensures .0) (protect .put-number .ensures) (end .put-bytes .ensures),
+  omega arith,
+)
 
 pub put-line-spec : {M : Type 1} → statement M
 put-line-spec =

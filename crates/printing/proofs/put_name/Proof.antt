@@ -1,7 +1,8 @@
+-- Rests on `put-then`: two words, a period and the extension, each put behind the one before, are the name.
 use native.Mathlib.Omega.{arith}
 use borrow.Author.Needs.{needs}
-use Rattle.printing.specs.Parts.{nameText}
-use Rattle.printing.proofs.Putting.{put-then}
+use Rattle.printing.specs.Pieces.{nameText}
+use Rattle.printing.proofs.Put.{put-then}
 use Rattle.printing.proofs.put_name.Statement.{statement}
 use Rattle.printing.proofs.put_name.Tie as tie
 
@@ -25,7 +26,16 @@ same-length c = search needs
 
 returns : tie.Need-returns
 unfolding nameText
-returns c = (put-then (c .before .before .before .before .before .before .before .before .before .before .before .before .before .before .before .put-word .ensures .0) (put-then (c .before .before .before .before .before .before .before .before .before .before .before .put-word2 .ensures .0) (put-then (c .before .before .before .before .before .before .put-bytes .ensures) (c .before .before .put-word3 .ensures .0))), omega arith)
+returns c = (
+  let fourth = c .before .before in
+      let third = fourth .before .before .before .before in
+      let second = third .before .before .before .before .before in
+      let first = second .before .before .before .before in
+      put-then (first .put-word .ensures .0)
+      (put-then (second .put-word2 .ensures .0)
+      (put-then (third .put-bytes .ensures) (fourth .put-word3 .ensures .0))),
+  omega arith,
+)
 
 pub put-name-spec : {M : Type 1} → statement M
 put-name-spec =

@@ -1,5 +1,6 @@
+-- Rests on `put-digits`: the digits that `write_digits` leaves in the lent part stand in the buffer.
 use borrow.Author.Needs.{needs}
-use Rattle.printing.proofs.Putting.{put-digits}
+use Rattle.printing.proofs.Put.{put-digits}
 use Rattle.printing.proofs.put_number.Statement.{statement}
 use Rattle.printing.proofs.put_number.Tie as tie
 

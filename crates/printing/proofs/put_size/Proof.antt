@@ -1,7 +1,8 @@
+-- Rests on `put-then`: a blank, the kind, a blank and five digits, each put behind the one before, are the size.
 use native.Mathlib.Omega.{arith}
 use borrow.Author.Needs.{needs}
-use Rattle.printing.specs.Parts.{sizeText}
-use Rattle.printing.proofs.Putting.{put-then}
+use Rattle.printing.specs.Pieces.{sizeText}
+use Rattle.printing.proofs.Put.{put-then}
 use Rattle.printing.proofs.put_size.Statement.{statement}
 use Rattle.printing.proofs.put_size.Tie as tie
 
@@ -28,7 +29,16 @@ same-length c = search needs
 
 returns : tie.Need-returns
 unfolding sizeText
-returns c = (put-then (c .before .before .before .before .before .before .before .before .before .before .before .before .before .before .before .put-bytes .ensures) (put-then (c .before .before .before .before .before .before .before .before .before .before .before .put-kind .ensures .0) (put-then (c .before .before .before .before .before .before .put-bytes2 .ensures) (c .before .before .put-number .ensures))), omega arith)
+returns c = (
+  let fourth = c .before .before in
+      let third = fourth .before .before .before .before in
+      let second = third .before .before .before .before .before in
+      let first = second .before .before .before .before in
+      put-then (first .put-bytes .ensures)
+      (put-then (second .put-kind .ensures .0)
+      (put-then (third .put-bytes2 .ensures) (fourth .put-number .ensures))),
+  omega arith,
+)
 
 pub put-size-spec : {M : Type 1} → statement M
 put-size-spec =

@@ -1,7 +1,8 @@
+-- Rests on `put-then`: group and user in their brackets, each piece put behind the one before, are the UIC.
 use native.Mathlib.Omega.{arith}
 use borrow.Author.Needs.{needs}
-use Rattle.printing.specs.Parts.{uicText}
-use Rattle.printing.proofs.Putting.{put-then}
+use Rattle.printing.specs.Pieces.{uicText}
+use Rattle.printing.proofs.Put.{put-then}
 use Rattle.printing.proofs.put_uic.Statement.{statement}
 use Rattle.printing.proofs.put_uic.Tie as tie
 
@@ -34,7 +35,18 @@ same-length c = search needs
 
 returns : tie.Need-returns
 unfolding uicText
-returns c = (put-then (c .before .before .before .before .before .before .before .before .before .before .before .before .before .before .before .before .before .before .before .before .put-bytes .ensures) (put-then (c .before .before .before .before .before .before .before .before .before .before .before .before .before .before .before .before .put-number .ensures) (put-then (c .before .before .before .before .before .before .before .before .before .before .before .put-bytes2 .ensures) (put-then (c .before .before .before .before .before .before .before .put-number2 .ensures) (c .before .before .put-bytes3 .ensures)))), omega arith)
+returns c = (
+  let fifth = c .before .before in
+      let fourth = fifth .before .before .before .before .before in
+      let third = fourth .before .before .before .before in
+      let second = third .before .before .before .before .before in
+      let first = second .before .before .before .before in
+      put-then (first .put-bytes .ensures)
+      (put-then (second .put-number .ensures)
+      (put-then (third .put-bytes2 .ensures)
+      (put-then (fourth .put-number2 .ensures) (fifth .put-bytes3 .ensures)))),
+  omega arith,
+)
 
 pub put-uic-spec : {M : Type 1} → statement M
 put-uic-spec =

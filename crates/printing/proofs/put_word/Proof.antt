@@ -1,6 +1,7 @@
+-- Rests on `PutSpelled`: what RADUP leaves in the lent part is the word spelled there, or nothing, by its code.
 use native.Mathlib.Omega.{arith}
 use borrow.Author.Needs.{needs}
-use Rattle.printing.proofs.Spelling.{put-spelled, put-unspelled}
+use Rattle.printing.proofs.PutSpelled.{put-spelled, put-unspelled}
 use Rattle.printing.proofs.put_word.Statement.{statement}
 use Rattle.printing.proofs.put_word.Tie as tie
 
@@ -23,13 +24,19 @@ same-length : tie.Need-same-length
 same-length c = search needs
 
 returns : tie.Need-returns
-returns c = (put-spelled _ _ _ _ _ (c .before .before .before .before .before .before .pre) (c .before .before .before .radup .ensures .0) (c .before .before .before .radup .ensures .1) (c .if1 .taken), omega arith)
+returns c = (
+  put-spelled _ _ _ _ _ (c .before .before .before .before .before .before .pre) (c .before .before .before .radup .ensures .0) (c .before .before .before .radup .ensures .1) (c .if1 .taken),
+  omega arith,
+)
 
 same-length-2 : tie.Need-same-length-2
 same-length-2 c = search needs
 
 returns-2 : tie.Need-returns-2
-returns-2 c = (put-unspelled _ _ _ _ _ (c .before .before .before .before .before .before .pre) (c .before .before .before .radup .ensures .0) (c .before .before .before .radup .ensures .1) (c .if1 .left), omega arith)
+returns-2 c = (
+  put-unspelled _ _ _ _ _ (c .before .before .before .before .before .before .pre) (c .before .before .before .radup .ensures .0) (c .before .before .before .radup .ensures .1) (c .if1 .left),
+  omega arith,
+)
 
 pub put-word-spec : {M : Type 1} → statement M
 put-word-spec =

@@ -1,3 +1,4 @@
+-- Rests on `Characters`, a law for each kind of code: the branches part the codes as the table does, with 29 and all from 40 up left without a character.
 use borrow.Author.Needs.{needs}
 use mathlib.Core.Path.{sym}
 use mathlib.Core.Logic.{inl, inr}

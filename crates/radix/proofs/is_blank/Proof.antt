@@ -1,3 +1,4 @@
+-- Rests on what `eqb` says of a code that is 0 and of one that is not: then the second one does not count.
 use borrow.Author.Tests.{eq-eqb, ne-eqb}
 use Rattle.radix.proofs.is_blank.Statement.{statement}
 use Rattle.radix.proofs.is_blank.Tie as tie

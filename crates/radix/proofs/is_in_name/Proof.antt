@@ -1,5 +1,6 @@
+-- Rests on `NamesTest`: the codes of blanks, letters, marks and digits by their ranges; from 30 up all to 39 are digits.
 use mathlib.Core.Path.{sym}
-use Rattle.radix.proofs.Names.{zero-not-in-name, letter-in-name, mark-not-in-name, digit-in-name}
+use Rattle.radix.proofs.NamesTest.{zero-not-in-name, letter-in-name, mark-not-in-name, digit-in-name}
 use Rattle.radix.proofs.is_in_name.Statement.{statement}
 use Rattle.radix.proofs.is_in_name.Tie as tie
 

@@ -1,6 +1,7 @@
+-- Rests on `NamesTest`: three codes by which of them are letters or digits; behind the last only blanks may stand.
 use borrow.Author.Needs.{needs}
 use mathlib.Core.Path.{sym, _∙_}
-use Rattle.radix.proofs.Names.{three-named, two-named, one-named, three-blank, none-named}
+use Rattle.radix.proofs.NamesTest.{three-named, two-named, one-named, three-blank, none-named}
 use Rattle.radix.proofs.is_then_blanks.Statement.{statement}
 use Rattle.radix.proofs.is_then_blanks.Tie as tie
 
@@ -14,16 +15,22 @@ is-in-name-requires-3 : tie.Need-is-in-name-requires-3
 is-in-name-requires-3 c κs = search needs
 
 returns : tie.Need-returns
-returns c = three-named _ _ _ (sym (c .before .before .before .before .before .is-in-name .ensures) ∙ c .before .before .before .before .if1 .taken) (sym (c .before .before .before .is-in-name2 .ensures) ∙ c .before .before .if2 .taken) (sym (c .before .is-in-name3 .ensures) ∙ c .if3 .taken)
+returns c =
+    three-named _ _ _ (sym (c .before .before .before .before .before .is-in-name .ensures) ∙ c .before .before .before .before .if1 .taken)
+    (sym (c .before .before .before .is-in-name2 .ensures) ∙ c .before .before .if2 .taken) (sym (c .before .is-in-name3 .ensures) ∙ c .if3 .taken)
 
 returns-2 : tie.Need-returns-2
-returns-2 c = two-named _ _ _ (sym (c .before .before .before .before .before .is-in-name .ensures) ∙ c .before .before .before .before .if1 .taken) (sym (c .before .before .before .is-in-name2 .ensures) ∙ c .before .before .if2 .taken) (sym (c .before .is-in-name3 .ensures) ∙ c .if3 .left)
+returns-2 c =
+    two-named _ _ _ (sym (c .before .before .before .before .before .is-in-name .ensures) ∙ c .before .before .before .before .if1 .taken)
+    (sym (c .before .before .before .is-in-name2 .ensures) ∙ c .before .before .if2 .taken) (sym (c .before .is-in-name3 .ensures) ∙ c .if3 .left)
 
 is-blank-requires : tie.Need-is-blank-requires
 is-blank-requires c κs = search needs
 
 returns-3 : tie.Need-returns-3
-returns-3 c = c .is-blank .ensures ∙ one-named _ _ _ (sym (c .before .before .before .before .is-in-name .ensures) ∙ c .before .before .before .if1 .taken) (sym (c .before .before .is-in-name2 .ensures) ∙ c .before .if2 .left)
+returns-3 c =
+    c .is-blank .ensures ∙ one-named _ _ _ (sym (c .before .before .before .before .is-in-name .ensures) ∙ c .before .before .before .if1 .taken)
+    (sym (c .before .before .is-in-name2 .ensures) ∙ c .before .if2 .left)
 
 is-blank-requires-2 : tie.Need-is-blank-requires-2
 is-blank-requires-2 c κs = search needs

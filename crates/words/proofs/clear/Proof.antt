@@ -1,9 +1,10 @@
+-- Rests on `WordSlices`: a byte cleared makes the zeros in front one more (`clear-step`); at the end of the part they are all of it (`clear-end`).
 use Prim.Native.Nat.{_-_, _≤_}
 use mathlib.Core.Path.{_≡_, refl}
 use native.Mathlib.Omega.{arith}
 use borrow.Author.Needs.{needs}
 use lib.ListN.{length, take, replicate, length-set}
-use Rattle.words.proofs.Parts.{clear-step, clear-end}
+use Rattle.words.proofs.WordSlices.{clear-step, clear-end}
 use Rattle.words.proofs.clear.Statement.{statement}
 use Rattle.words.proofs.clear.Tie as tie
 

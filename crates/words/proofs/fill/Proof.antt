@@ -1,9 +1,10 @@
+-- Rests on `WordSlices`: a byte copied makes the fronts alike one byte further (`fill-step`); at the end of `from` they are the whole (`fill-end`).
 use Prim.Native.Nat.{_-_, _≤_}
 use mathlib.Core.Path.{_≡_, refl}
 use native.Mathlib.Omega.{arith}
 use borrow.Author.Needs.{needs}
 use lib.ListN.{length, take, length-set}
-use Rattle.words.proofs.Parts.{fill-step, fill-end}
+use Rattle.words.proofs.WordSlices.{fill-step, fill-end}
 use Rattle.words.proofs.fill.Statement.{statement}
 use Rattle.words.proofs.fill.Tie as tie
 

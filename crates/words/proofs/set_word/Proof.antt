@@ -1,3 +1,4 @@
+-- Rests on the definition of `setWord`: its two stores are the code's, and what is asked puts both bytes into the slice.
 use borrow.Author.Needs.{needs}
 use Rattle.words.specs.Word.{setWord}
 use Rattle.words.proofs.set_word.Statement.{statement}

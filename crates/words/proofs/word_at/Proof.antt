@@ -1,3 +1,4 @@
+-- Rests on the definition of `wordAt`: each byte that is read is below 256, so that nothing wraps and the word is below 65536.
 use borrow.Author.Needs.{needs}
 use native.Mathlib.Omega.{arith}
 use Prim.Native.Nat.{_+_, _*_}

@@ -3,7 +3,10 @@
 use crate::packs::{Seen, UICS};
 use crate::random::Random;
 use model::pack::entry::{self, Entry, CONTIGUOUS, LINKED};
-use model::pack::{block_mut, link, BLOCK_BYTES};
+use model::pack::form::{
+    BLOCK_BYTES, ENTRIES_PER_BLOCK, LEAST_BLOCKS, LEAST_CONTENTS, MOST_BLOCKS, MOST_CONTENTS, MOST_UICS,
+};
+use model::pack::{block_mut, link};
 use model::words::{set_word, word};
 
 /// Damages a consistent pack. Some damage leaves a consistent pack behind, which is then to be taken as one.
@@ -18,7 +21,7 @@ pub fn damage(random: &mut Random, image: &mut Vec<u8>) {
             image.truncate(length);
         }
         1 => {
-            let more = random.pick(&[1, 2, 511, 512, 1024]);
+            let more = random.pick(&[1, 2, BLOCK_BYTES - 1, BLOCK_BYTES, 2 * BLOCK_BYTES]);
             image.extend(random.bytes(more));
         }
         2 => {
@@ -33,7 +36,7 @@ pub fn damage(random: &mut Random, image: &mut Vec<u8>) {
             }
         }
         3 => {
-            let entries = word(image, 2) as usize * entry::PER_BLOCK;
+            let entries = word(image, 2) as usize * ENTRIES_PER_BLOCK;
             let from = *entry::bytes(image, random.below(entries));
             *entry::bytes_mut(image, random.below(entries)) = from;
         }
@@ -52,7 +55,7 @@ pub fn damage(random: &mut Random, image: &mut Vec<u8>) {
 fn damage_blocks(random: &mut Random, image: &mut [u8]) {
     let seen = Seen::of(image);
     let (blocks, contents) = (seen.blocks, seen.contents);
-    let entries = contents * entry::PER_BLOCK;
+    let entries = contents * ENTRIES_PER_BLOCK;
     let used: Vec<usize> = (0..entries).filter(|&index| !entry::is_empty(entry::bytes(image, index))).collect();
     if used.is_empty() {
         return damage_header(random, image);
@@ -125,9 +128,9 @@ fn damage_header(random: &mut Random, image: &mut [u8]) {
     let old = word(image, at);
     let edges: &[u16] = match at {
         0 => &[0, 2, 3, 257],
-        1 => &[0, 15, 16, 1024, 1025],
-        2 => &[0, 1, 2, 8, 9, 10],
-        3 => &[0, 1, 63, 64, 65],
+        1 => &[0, LEAST_BLOCKS as u16 - 1, LEAST_BLOCKS as u16, MOST_BLOCKS as u16, MOST_BLOCKS as u16 + 1],
+        2 => &[0, 1, 2, MOST_CONTENTS as u16, MOST_CONTENTS as u16 + 1, MOST_CONTENTS as u16 + 2],
+        3 => &[0, 1, MOST_UICS as u16 - 1, MOST_UICS as u16, MOST_UICS as u16 + 1],
         _ => &[0, 0o11410, 0o5004, 1],
     };
     let value = match random.below(4) {
@@ -140,7 +143,7 @@ fn damage_header(random: &mut Random, image: &mut [u8]) {
 
 /// Changes a word of an entry, mostly of one that is used and to a number at the edge of what it may be.
 fn damage_entry(random: &mut Random, image: &mut [u8]) {
-    let entries = (word(image, 2) as usize).clamp(1, 8) * entry::PER_BLOCK;
+    let entries = (word(image, 2) as usize).clamp(LEAST_CONTENTS, MOST_CONTENTS) * ENTRIES_PER_BLOCK;
     let used: Vec<usize> = (0..entries).filter(|&index| !entry::is_empty(entry::bytes(image, index))).collect();
     let index = if used.is_empty() || random.chance(1, 8) { random.below(entries) } else { random.pick(&used) };
     let at = random.below(16);

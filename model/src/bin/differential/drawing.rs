@@ -7,7 +7,7 @@ use crate::random::Random;
 use crate::request::Request;
 use model::command::{csi2, reading};
 use model::pack::entry::{Entry, CONTIGUOUS, EXTEND, LINKED, OUTPUT, UPDATE};
-use model::pack::{BLOCK_BYTES, PAYLOAD_BYTES};
+use model::pack::form::{BLOCK_BYTES, FORM, LEAST_BLOCKS, MOST_BLOCKS, MOST_CONTENTS, PAYLOAD_BYTES};
 use model::requests::File;
 
 /// Numbers that are too large for what they are given for, some so that their low 16 or 32 bits would be good.
@@ -64,11 +64,22 @@ fn without_line((numbers, buffer): (Numbers, Vec<u8>)) -> (Numbers, Vec<u8>, Vec
 
 fn format(random: &mut Random, seen: &Seen) -> (Numbers, Vec<u8>) {
     let (blocks, contents) = (seen.blocks, packs::measures(random).1);
+    let edges = [
+        0,
+        LEAST_BLOCKS - 1,
+        LEAST_BLOCKS,
+        MOST_BLOCKS,
+        MOST_BLOCKS + 1,
+        blocks + 1,
+        blocks + 65536,
+        blocks + (1 << 55),
+    ];
+    let form = FORM as usize;
     let (form, blocks, contents) = match random.below(12) {
         0 => (random.pick(&[0, 2, 3, 65537]), blocks, contents),
-        1 => (1, random.pick(&[0, 15, 16, 1024, 1025, blocks + 1, blocks + 65536, blocks + (1 << 55)]), contents),
-        2 => (1, blocks, random.pick(&[0, 9, 10, 65537, usize::MAX])),
-        _ => (1, blocks, contents),
+        1 => (form, random.pick(&edges), contents),
+        2 => (form, blocks, random.pick(&[0, MOST_CONTENTS + 1, MOST_CONTENTS + 2, 65537, usize::MAX])),
+        _ => (form, blocks, contents),
     };
     (Numbers::Format { form, blocks, contents }, format_uics(random))
 }
@@ -355,8 +366,19 @@ fn place(random: &mut Random, seen: &Seen, file: &File) -> usize {
 
 /// A buffer for a transfer, mostly of the size asked.
 fn transfer_buffer(random: &mut Random, size: usize) -> Vec<u8> {
-    let wrong = random.chance(1, 10);
-    let length = if wrong { random.pick(&[0, 1, 2, 509, 510, 511, 512, 513, 514, 1024]) } else { size };
+    const WRONG: [usize; 10] = [
+        0,
+        1,
+        2,
+        PAYLOAD_BYTES - 1,
+        PAYLOAD_BYTES,
+        PAYLOAD_BYTES + 1,
+        BLOCK_BYTES,
+        BLOCK_BYTES + 1,
+        BLOCK_BYTES + 2,
+        2 * BLOCK_BYTES,
+    ];
+    let length = if random.chance(1, 10) { random.pick(&WRONG) } else { size };
     random.bytes(length)
 }
 

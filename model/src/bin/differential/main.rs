@@ -17,6 +17,7 @@ use call::{Call, Numbers, Said};
 use lent::Lent;
 use model::command::grammar;
 use model::pack::consistency::examine;
+use model::pack::form::{BLOCK_BYTES, MOST_BLOCKS};
 use packs::Seen;
 use random::Random;
 use request::Request;
@@ -142,10 +143,10 @@ fn run(calls: u64, seed: u64, report: &mut Report) -> Result<(), (u64, String)> 
 
 /// An image of so many blocks that is no pack, sometimes of another size.
 fn unformatted(random: &mut Random, blocks: usize) -> Vec<u8> {
-    let length = 512 * blocks.min(1025);
+    let length = BLOCK_BYTES * blocks.min(MOST_BLOCKS + 1);
     let length = match random.below(16) {
-        0 => length + random.between(1, 512),
-        1 => length.saturating_sub(random.between(1, 512)),
+        0 => length + random.between(1, BLOCK_BYTES),
+        1 => length.saturating_sub(random.between(1, BLOCK_BYTES)),
         _ => length,
     };
     random.bytes(length)

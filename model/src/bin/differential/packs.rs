@@ -2,8 +2,12 @@
 
 use crate::random::Random;
 use model::conversions::radpk;
+use model::pack::block_mut;
 use model::pack::entry::{self, Entry, CONTIGUOUS, EXTEND, LINKED, OUTPUT, UPDATE};
-use model::pack::{block_mut, BLOCK_BYTES};
+use model::pack::form::{
+    BLOCK_BYTES, ENTRIES_PER_BLOCK, FORM, LEAST_BLOCKS, LEAST_CONTENTS, MOST_BLOCKS, MOST_CONTENTS, MOST_UICS,
+};
+use model::pack::header::FIRST_UIC;
 use model::words::{set_word, word};
 
 /// Few names, extensions and UICs, so that they collide.
@@ -22,7 +26,7 @@ pub struct Seen {
 impl Seen {
     pub fn of(image: &[u8]) -> Seen {
         let contents = word(image, 2) as usize;
-        let entries = (0..contents * entry::PER_BLOCK).map(|index| entry::bytes(image, index));
+        let entries = (0..contents * ENTRIES_PER_BLOCK).map(|index| entry::bytes(image, index));
         Seen {
             blocks: word(image, 1) as usize,
             contents,
@@ -42,14 +46,14 @@ pub fn packed(name: &str, extension: &str) -> [u16; 3] {
 /// The blocks and contents of a new pack: small mostly, and sometimes at the limits.
 pub fn measures(random: &mut Random) -> (usize, usize) {
     let blocks = match random.below(60) {
-        0 => 1024,
-        1 => random.between(16, 1024),
-        2..=12 => 16,
-        _ => random.between(16, 64),
+        0 => MOST_BLOCKS,
+        1 => random.between(LEAST_BLOCKS, MOST_BLOCKS),
+        2..=12 => LEAST_BLOCKS,
+        _ => random.between(LEAST_BLOCKS, 4 * LEAST_BLOCKS),
     };
     let contents = match random.below(10) {
-        0 => 8,
-        1 => random.between(1, 8),
+        0 => MOST_CONTENTS,
+        1 => random.between(LEAST_CONTENTS, MOST_CONTENTS),
         2 | 3 => 2,
         _ => 1,
     };
@@ -63,8 +67,8 @@ pub fn uics(random: &mut Random) -> Vec<u16> {
     match random.below(20) {
         0 => uics.clear(),
         1 => {
-            uics.extend((0..64).map(|index| 0o20000 + 3 * index));
-            uics.truncate(64);
+            uics.extend((0..MOST_UICS as u16).map(|index| 0o20000 + 3 * index));
+            uics.truncate(MOST_UICS);
         }
         _ => uics.truncate(random.between(1, 4)),
     }
@@ -77,11 +81,11 @@ pub fn consistent(random: &mut Random) -> Vec<u8> {
     let uics = uics(random);
     let mut image = random.bytes(BLOCK_BYTES * blocks);
     image[..BLOCK_BYTES * (1 + contents)].fill(0);
-    for (index, value) in [1, blocks as u16, contents as u16, uics.len() as u16].into_iter().enumerate() {
+    for (index, value) in [FORM, blocks as u16, contents as u16, uics.len() as u16].into_iter().enumerate() {
         set_word(&mut image, index, value);
     }
     for (index, &uic) in uics.iter().enumerate() {
-        set_word(&mut image, 4 + index, uic);
+        set_word(&mut image, FIRST_UIC + index, uic);
     }
     if !uics.is_empty() {
         files(random, &mut image, blocks, contents, &uics);
@@ -91,7 +95,7 @@ pub fn consistent(random: &mut Random) -> Vec<u8> {
 
 /// Fills the contents of a pack: from no file to as many as there are entries, and sometimes so that no block is free.
 fn files(random: &mut Random, image: &mut [u8], blocks: usize, contents: usize, uics: &[u16]) {
-    let entries = contents * entry::PER_BLOCK;
+    let entries = contents * ENTRIES_PER_BLOCK;
     let used = match random.below(8) {
         0 => 0,
         1 | 2 => entries,
@@ -193,7 +197,7 @@ fn opens(random: &mut Random, kind: u16) -> (u16, u16) {
 
 /// Gives a file of a consistent pack another protect code and other opens; the pack stays consistent.
 pub fn edit(random: &mut Random, image: &mut [u8]) {
-    let entries = word(image, 2) as usize * entry::PER_BLOCK;
+    let entries = word(image, 2) as usize * ENTRIES_PER_BLOCK;
     let used: Vec<usize> = (0..entries).filter(|&index| !entry::is_empty(entry::bytes(image, index))).collect();
     if used.is_empty() {
         return;

@@ -1,10 +1,11 @@
+-- Rests on `CreatingLowest`: the entries that are left decide, and of a right entry the first word says whether it is empty.
 use Prim.Native.Nat.{_-_}
 use mathlib.Core.Path.{_≡_, sym, ap, _∙_}
 use native.Mathlib.Omega.{arith}
 use Rattle.pack.specs.Geometry.{slots}
-use Rattle.pack.proofs.Measures.{sized-few, below-count, past-count}
-use Rattle.creation.specs.Creating.{emptyFrom}
-use Rattle.creation.proofs.Lowest.{empty-here, empty-next, empty-end}
+use Rattle.pack.proofs.GeometryRoom.{sized-few, below-count, past-count}
+use Rattle.creation.specs.CreatingLowest.{emptyFrom}
+use Rattle.creation.proofs.CreatingLowest.{empty-here, empty-next, empty-end}
 use Rattle.creation.proofs.creating.lowest_empty.Statement.{statement}
 use Rattle.creation.proofs.creating.lowest_empty.Tie as tie
 
@@ -25,7 +26,11 @@ entry-word-requires : tie.Need-entry-word-requires Inv-loop μ-loop
 entry-word-requires c κs = (c .before .before .before .before .pre .0, ((below-count (c .before .loop .inv .0) (c .loop-test .taken)), omega arith))
 
 returns : tie.Need-returns Inv-loop μ-loop
-returns c = sym (c .before .before .before .loop .inv .1 ∙ empty-here _ _ _ _ _ (below-count (c .before .before .before .loop .inv .0) (c .before .before .loop-test .taken)) (c .before .entry-word .ensures .0) (c .before .before .before .before .before .before .pre .1 _ (below-count (c .before .before .before .loop .inv .0) (c .before .before .loop-test .taken))) (c .if1 .taken))
+returns c =
+    let at-loop = c .before .before .before in
+    let start = at-loop .before .before .before in
+    sym (at-loop .loop .inv .1 ∙ empty-here _ _ _ _ _ (below-count (at-loop .loop .inv .0) (c .before .before .loop-test .taken))
+    (c .before .entry-word .ensures .0) (start .pre .1 _ (below-count (at-loop .loop .inv .0) (c .before .before .loop-test .taken))) (c .if1 .taken))
 
 add-e : tie.Need-add-e Inv-loop μ-loop
 add-e c = omega (arith, c .before .before .loop-test .taken, c .before .before .before .before .slot-count .ensures .1)
@@ -34,7 +39,12 @@ loop-less : tie.Need-loop-less Inv-loop μ-loop
 loop-less c = omega (arith, (below-count (c .before .before .before .loop .inv .0) (c .before .before .loop-test .taken)))
 
 loop-again : tie.Need-loop-again Inv-loop μ-loop
-loop-again c = (c .before .before .before .loop .inv .0, c .before .before .before .loop .inv .1 ∙ empty-next _ _ _ _ _ (below-count (c .before .before .before .loop .inv .0) (c .before .before .loop-test .taken)) (c .before .entry-word .ensures .0) (c .if1 .left))
+loop-again c =
+    let at-loop = c .before .before .before in (
+      at-loop .loop .inv .0,
+      at-loop .loop .inv .1 ∙ empty-next _ _ _ _ _ (below-count (at-loop .loop .inv .0) (c .before .before .loop-test .taken))
+          (c .before .entry-word .ensures .0) (c .if1 .left),
+    )
 
 returns-2 : tie.Need-returns-2 Inv-loop μ-loop
 returns-2 c = sym (c .before .loop .inv .1 ∙ empty-end _ _ _ _ (past-count (c .before .loop .inv .0) (c .loop-test .left)))

@@ -1,5 +1,6 @@
+-- Rests on `DeletStage`: the decision's code and image are the request's, and the entry of a file that it found can be cleared.
 use borrow.Author.Needs.{needs}
-use Rattle.directory.proofs.Deleting.{deleting-refused, deleting-room, deleting-done}
+use Rattle.directory.proofs.DeletStage.{deleting-refused, deleting-room, deleting-done}
 use Rattle.directory.proofs.delet.delete.Statement.{statement}
 use Rattle.directory.proofs.delet.delete.Tie as tie
 
@@ -25,7 +26,10 @@ same-length-2 : tie.Need-same-length-2
 same-length-2 c = search needs
 
 returns-2 : tie.Need-returns-2
-returns-2 c = deleting-done _ _ _ _ (c .before .before .before .before .before .before .before .decide-delete .ensures) _ _ _ (c .before .before .before .before .before .g .given .1) _ (c .before .before .clear-entry .ensures)
+returns-2 c =
+    let decide-delete = c .before .before .before .before .before .before .before .decide-delete in
+    let g = c .before .before .before .before .before .g in
+    deleting-done _ _ _ _ (decide-delete .ensures) _ _ _ (g .given .1) _ (c .before .before .clear-entry .ensures)
 
 pub delete-spec : {M : Type 1} → statement M
 delete-spec =

@@ -1,5 +1,6 @@
+-- Rests on `KeepStage`: at each return the rows before have passed and one refuses, or none is left.
 use borrow.Author.Needs.{needs}
-use Rattle.directory.proofs.Keeping.{decide-refused, decide-denied, decide-granted}
+use Rattle.directory.proofs.KeepStage.{decide-refused, decide-denied, decide-granted}
 use Rattle.directory.proofs.keep.decide_keep.Statement.{statement}
 use Rattle.directory.proofs.keep.decide_keep.Tie as tie
 

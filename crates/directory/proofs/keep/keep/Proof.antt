@@ -1,5 +1,6 @@
+-- Rests on `KeepStage`: the decision's code and image are the request's, and the protect code of a file that it found can be set.
 use borrow.Author.Needs.{needs}
-use Rattle.directory.proofs.Keeping.{keeping-refused, keeping-small, keeping-room, keeping-done}
+use Rattle.directory.proofs.KeepStage.{keeping-refused, keeping-small, keeping-room, keeping-done}
 use Rattle.directory.proofs.keep.keep.Statement.{statement}
 use Rattle.directory.proofs.keep.keep.Tie as tie
 
@@ -28,7 +29,11 @@ same-length-2 : tie.Need-same-length-2
 same-length-2 c = search needs
 
 returns-2 : tie.Need-returns-2
-returns-2 c = keeping-done _ _ _ _ (c .before .before .before .before .before .before .before .before .decide-keep .ensures) _ _ _ (c .before .before .before .before .before .before .g .given .1) _ (c .before .before .before .kept-code .ensures) _ (c .before .before .set-entry-word .ensures)
+returns-2 c =
+    let decide-keep = c .before .before .before .before .before .before .before .before .decide-keep in
+    let g = c .before .before .before .before .before .before .g in
+    let kept-code = c .before .before .before .kept-code in
+    keeping-done _ _ _ _ (decide-keep .ensures) _ _ _ (g .given .1) _ (kept-code .ensures) _ (c .before .before .set-entry-word .ensures)
 
 pub keep-spec : {M : Type 1} → statement M
 keep-spec =

@@ -1,5 +1,6 @@
+-- Rests on `KeepStage`: adding 128 sets bit 7 where it is clear; a protect code is at most 255, so that the sum fits.
 use borrow.Author.Needs.{needs}
-use Rattle.directory.proofs.Keeping.{kept-clear, kept-set}
+use Rattle.directory.proofs.KeepStage.{kept-clear, kept-set}
 use Rattle.directory.proofs.keep.kept_code.Statement.{statement}
 use Rattle.directory.proofs.keep.kept_code.Tie as tie
 

@@ -1,5 +1,6 @@
+-- Rests on `RenamStage`: the decision's code and image are the request's, and legal names fit into the entry of the file that it found.
 use borrow.Author.Needs.{needs}
-use Rattle.directory.proofs.Renaming.{renaming-refused, renaming-room, renaming-done}
+use Rattle.directory.proofs.RenamStage.{renaming-refused, renaming-room, renaming-done}
 use Rattle.directory.proofs.renam.rename.Statement.{statement}
 use Rattle.directory.proofs.renam.rename.Tie as tie
 
@@ -25,7 +26,10 @@ same-length-2 : tie.Need-same-length-2
 same-length-2 c = search needs
 
 returns-2 : tie.Need-returns-2
-returns-2 c = renaming-done _ _ _ _ _ _ (c .before .before .before .before .before .before .before .decide-rename .ensures) _ _ _ (c .before .before .before .before .before .g .given .1) _ (c .before .before .write-name .ensures)
+returns-2 c =
+    let decide-rename = c .before .before .before .before .before .before .before .decide-rename in
+    let g = c .before .before .before .before .before .g in
+    renaming-done _ _ _ _ _ _ (decide-rename .ensures) _ _ _ (g .given .1) _ (c .before .before .write-name .ensures)
 
 pub rename-spec : {M : Type 1} → statement M
 rename-spec =

@@ -1,5 +1,6 @@
+-- Rests on `RenamStage`: the four words set one by one are the renamed entry (`name-written`); each call keeps the length, and with it the measures.
 use borrow.Author.Needs.{needs}
-use Rattle.directory.proofs.Renaming.{name-written}
+use Rattle.directory.proofs.RenamStage.{name-written}
 use Rattle.directory.proofs.renam.write_name.Statement.{statement}
 use Rattle.directory.proofs.renam.write_name.Tie as tie
 
@@ -19,7 +20,13 @@ same-length : tie.Need-same-length
 same-length c = search needs
 
 returns : tie.Need-returns
-returns c = name-written _ (c .before .before .before .before .before .before .before .before .before .before .before .before .before .before .before .before .before .args .g) _ (c .before .before .before .before .before .before .before .before .before .before .before .before .before .before .before .before .before .args .new) _ _ (c .before .before .before .before .before .before .before .before .before .before .before .before .before .before .set-entry-word .ensures) _ (c .before .before .before .before .before .before .before .before .before .before .set-entry-word2 .ensures) _ (c .before .before .before .before .before .before .set-entry-word3 .ensures) _ (c .before .before .set-entry-word4 .ensures)
+returns c =
+    let args = c .before .before .before .before .before .before .before .before .before .before .before .before .before .before .before .before .before .args in
+    let set-entry-word = c .before .before .before .before .before .before .before .before .before .before .before .before .before .before .set-entry-word in
+    let set-entry-word2 = c .before .before .before .before .before .before .before .before .before .before .set-entry-word2 in
+    let set-entry-word3 = c .before .before .before .before .before .before .set-entry-word3 in
+    name-written _ (args .g) _ (args .new) _ _ (set-entry-word .ensures) _ (set-entry-word2 .ensures) _ (set-entry-word3 .ensures) _
+    (c .before .before .set-entry-word4 .ensures)
 
 pub write-name-spec : {M : Type 1} → statement M
 write-name-spec =

@@ -1,6 +1,7 @@
+-- Rests on the contract of `is_then_blanks` at the three codes of the word; `extension-test` says that this is the test of the word.
 use borrow.Author.Needs.{needs}
 use mathlib.Core.Path.{_∙_}
-use Rattle.radix.proofs.Names.{extension-test}
+use Rattle.radix.proofs.NamesTest.{extension-test}
 use Rattle.radix.proofs.Radix50.is_legal_extension.Statement.{statement}
 use Rattle.radix.proofs.Radix50.is_legal_extension.Tie as tie
 

@@ -1,10 +1,11 @@
+-- Rests on `AccessStage`: what `ask_file` refuses is refused, and of a file that is found the rows of access decide.
 use borrow.Author.Needs.{needs}
-use mathlib.Core.Path.{_∙_}
-use Rattle.transfer.specs.Stage.{inputRows}
-use Rattle.asking.proofs.Stage.{stage-refused}
-use Rattle.transfer.proofs.Input.{input-stopped, input-passed}
 use Rattle.transfer.proofs.block.ask_input.Statement.{statement}
 use Rattle.transfer.proofs.block.ask_input.Tie as tie
+use mathlib.Core.Path.{ap}
+use mathlib.Core.Bool.{not}
+use Rattle.asking.proofs.AccessStage.{access-refused, access-stopped, access-passed}
+use Rattle.transfer.specs.Block.{openForInput}
 
 slice-aggregate-ask-file : tie.Need-slice-aggregate-ask-file
 slice-aggregate-ask-file c = search needs
@@ -19,19 +20,29 @@ enum-told : tie.Need-enum-told
 enum-told c = search needs
 
 returns : tie.Need-returns
-returns c = c .enum-told .given .1 ∙ stage-refused _ _ _ (inputRows (c .before .before .before .before .before .before .args .caller) (c .before .before .before .before .before .before .args .place .0)) _ (c .before .before .before .ask-file .ensures .0) _ (c .enum-told .given .1)
+returns c = access-refused _ _ _ _ _ _ (λ x. not (openForInput x)) _ (c .before .before .before .ask-file .ensures .0) _ (c .enum-told .given .1)
 
 is-open-for-input-requires : tie.Need-is-open-for-input-requires
 is-open-for-input-requires c κs = search needs
 
-judge-requires : tie.Need-judge-requires
-judge-requires c κs = search needs
+judge-access-requires : tie.Need-judge-access-requires
+judge-access-requires c κs = search needs
 
 returns-2 : tie.Need-returns-2
-returns-2 c = input-stopped _ _ _ _ _ _ (c .before .before .before .before .before .before .before .ask-file .ensures .0) _ _ _ (c .before .before .before .before .asked .given .1) _ (c .before .before .is-open-for-input .ensures) _ (c .before .judge .ensures) (c .if1 .taken)
+returns-2 c =
+    let ask-file = c .before .before .before .before .before .before .before .ask-file in
+    let asked = c .before .before .before .before .asked in
+    let is-open-for-input = c .before .before .is-open-for-input in
+    access-stopped _ _ _ _ _ _ (λ x. not (openForInput x)) _ (ask-file .ensures .0) _ _ _ (asked .given .1) _ (ap not (is-open-for-input .ensures)) _
+    (c .before .judge-access .ensures) (c .if1 .taken)
 
 returns-3 : tie.Need-returns-3
-returns-3 c = input-passed _ _ _ _ _ _ (c .before .before .before .before .before .before .before .ask-file .ensures .0) _ _ _ (c .before .before .before .before .asked .given .1) _ (c .before .before .is-open-for-input .ensures) _ (c .before .judge .ensures) (c .if1 .left)
+returns-3 c =
+    let ask-file = c .before .before .before .before .before .before .before .ask-file in
+    let asked = c .before .before .before .before .asked in
+    let is-open-for-input = c .before .before .is-open-for-input in
+    access-passed _ _ _ _ _ _ (λ x. not (openForInput x)) _ (ask-file .ensures .0) _ _ _ (asked .given .1) _ (ap not (is-open-for-input .ensures)) _
+    (c .before .judge-access .ensures) (c .if1 .left)
 
 pub ask-input-spec : {M : Type 1} → statement M
 ask-input-spec =
@@ -43,6 +54,6 @@ ask-input-spec =
     enum-told
     returns
     is-open-for-input-requires
-    judge-requires
+    judge-access-requires
     returns-2
     returns-3)

@@ -1,9 +1,9 @@
+-- Rests on `BlockInput`: each answer of the stage gives one of the request; the block at a place of the file is a block of the pack.
 use borrow.Author.Needs.{needs}
-use native.Mathlib.Omega.{arith}
-use Rattle.transfer.proofs.Blocks.{block-fits}
-use Rattle.transfer.proofs.Input.{input-refused, input-file, input-done}
 use Rattle.transfer.proofs.block.block_input.Statement.{statement}
 use Rattle.transfer.proofs.block.block_input.Tie as tie
+use native.Mathlib.Omega.{arith}
+use Rattle.transfer.proofs.BlockInput.{input-refused, input-beyond, input-file, input-done, input-ready}
 
 block-bytes-of-requires : tie.Need-block-bytes-of-requires
 block-bytes-of-requires c κs = search needs
@@ -15,24 +15,51 @@ enum-known-code : tie.Need-enum-known-code
 enum-known-code c = search needs
 
 returns : tie.Need-returns
-returns c = input-refused _ _ _ _ _ _ (c .before .before .before .before .block-bytes-of .ensures) _ (c .before .before .before .ask-input .ensures) _ (c .before .code .given .1)
+returns c =
+    let block-bytes-of = c .before .before .before .before .block-bytes-of in
+    let ask-input = c .before .before .before .ask-input in
+    input-refused _ _ _ _ _ _ (block-bytes-of .ensures) _ (ask-input .ensures) _ (c .before .code .given .1)
 
 enum-known-g : tie.Need-enum-known-g
 enum-known-g c = search needs
 
-add-t14 : tie.Need-add-t14
-add-t14 c = let f = input-file _ _ _ _ (c .before .before .before .before .before .before .before .before .before .args .buffer .now) _ (c .before .before .before .before .before .before .block-bytes-of .ensures) _ (c .before .before .before .before .before .ask-input .ensures) _ _ _ (c .before .before .before .g .given .1) in
+returns-2 : tie.Need-returns-2
+returns-2 c =
+    let block-bytes-of = c .before .before .before .before .before .before .before .block-bytes-of in
+    let ask-input = c .before .before .before .before .before .before .ask-input in
+    let g = c .before .before .before .before .g in
+    input-beyond _ _ _ _ _ _ (block-bytes-of .ensures) _ (ask-input .ensures) _ _ _ (g .given .1) (c .if1 .taken)
+
+add-t15 : tie.Need-add-t15
+add-t15 c =
+    let s = c .before .before .before .before .before .before .before .before .before .before .before .before in
+    let block-bytes-of = c .before .before .before .before .before .before .before .before .before .block-bytes-of in
+    let ask-input = c .before .before .before .before .before .before .before .before .ask-input in
+    let g = c .before .before .before .before .before .before .g in
+    let if1 = c .before .before .if1 in
+    let f = input-file _ _ _ _ (s .args .buffer .now) _ (block-bytes-of .ensures) _ (ask-input .ensures) _ _ _ (g .given .1) (if1 .left) in
     omega (arith, f .below, f .few)
 
-read-block-requires : tie.Need-read-block-requires
-read-block-requires c κs = let f = input-file _ _ _ _ (c .before .before .before .before .before .before .before .before .before .before .args .buffer .now) _ (c .before .before .before .before .before .before .before .block-bytes-of .ensures) _ (c .before .before .before .before .before .before .ask-input .ensures) _ _ _ (c .before .before .before .before .g .given .1) in
-    (f .sized, (f .below, block-fits _ (c .before .before .before .before .before .before .before .before .before .before .args .buffer .now) _ (f .file .argument) (f .file .measures)))
+read-part-requires : tie.Need-read-part-requires
+read-part-requires c κs =
+    let s = c .before .before .before .before .before .before .before .before .before .before .before .before .before in
+    let block-bytes-of = c .before .before .before .before .before .before .before .before .before .before .block-bytes-of in
+    let ask-input = c .before .before .before .before .before .before .before .before .before .ask-input in
+    let g = c .before .before .before .before .before .before .before .g in
+    let if1 = c .before .before .before .if1 in
+    input-ready _ _ _ _ (s .args .buffer .now) _ (block-bytes-of .ensures) _ (ask-input .ensures) _ _ _ (g .given .1) (if1 .left)
 
 same-length : tie.Need-same-length
 same-length c = search needs
 
-returns-2 : tie.Need-returns-2
-returns-2 c = input-done _ _ _ _ _ _ (c .before .before .before .before .before .before .before .before .before .before .block-bytes-of .ensures) _ (c .before .before .before .before .before .before .before .before .before .ask-input .ensures) _ _ _ (c .before .before .before .before .before .before .before .g .given .1) _ (c .before .before .read-block .ensures)
+returns-3 : tie.Need-returns-3
+returns-3 c =
+    let block-bytes-of = c .before .before .before .before .before .before .before .before .before .before .before .before .before .block-bytes-of in
+    let ask-input = c .before .before .before .before .before .before .before .before .before .before .before .before .ask-input in
+    let g = c .before .before .before .before .before .before .before .before .before .before .g in
+    let if1 = c .before .before .before .before .before .before .if1 in
+    let read-part = c .before .before .read-part in
+    input-done _ _ _ _ _ _ (block-bytes-of .ensures) _ (ask-input .ensures) _ _ _ (g .given .1) (if1 .left) _ (read-part .ensures)
 
 pub block-input-spec : {M : Type 1} → statement M
 block-input-spec =
@@ -43,7 +70,8 @@ block-input-spec =
     enum-known-code
     returns
     enum-known-g
-    add-t14
-    read-block-requires
+    returns-2
+    add-t15
+    read-part-requires
     same-length
-    returns-2)
+    returns-3)

@@ -1,9 +1,9 @@
+-- Rests on `BlockOutput`: each answer of the stage gives one of the request; the block at a place of the file is a block of the pack.
 use borrow.Author.Needs.{needs}
-use native.Mathlib.Omega.{arith}
-use Rattle.transfer.proofs.Blocks.{block-fits}
-use Rattle.transfer.proofs.Output.{output-refused, output-file, output-done}
 use Rattle.transfer.proofs.block.block_output.Statement.{statement}
 use Rattle.transfer.proofs.block.block_output.Tie as tie
+use native.Mathlib.Omega.{arith}
+use Rattle.transfer.proofs.BlockOutput.{output-refused, output-beyond, output-file, output-done, output-ready}
 
 block-bytes-of-requires : tie.Need-block-bytes-of-requires
 block-bytes-of-requires c κs = search needs
@@ -18,24 +18,54 @@ same-length : tie.Need-same-length
 same-length c = search needs
 
 returns : tie.Need-returns
-returns c = output-refused _ _ _ _ _ _ (c .before .before .before .before .before .block-bytes-of .ensures) _ (c .before .before .before .ask-output .ensures) _ (c .before .code .given .1)
+returns c =
+    let block-bytes-of = c .before .before .before .before .before .block-bytes-of in
+    let ask-output = c .before .before .before .ask-output in
+    output-refused _ _ _ _ _ _ (block-bytes-of .ensures) _ (ask-output .ensures) _ (c .before .code .given .1)
 
 enum-known-g : tie.Need-enum-known-g
 enum-known-g c = search needs
-
-add-t18 : tie.Need-add-t18
-add-t18 c = let f = output-file _ _ _ _ (c .before .before .before .before .before .before .before .before .before .before .before .args .buffer .now) _ (c .before .before .before .before .before .before .before .block-bytes-of .ensures) _ (c .before .before .before .before .before .ask-output .ensures) _ _ _ (c .before .before .before .g .given .1) in
-    omega (arith, f .below, f .few)
-
-write-block-requires : tie.Need-write-block-requires
-write-block-requires c κs = let f = output-file _ _ _ _ (c .before .before .before .before .before .before .before .before .before .before .before .before .args .buffer .now) _ (c .before .before .before .before .before .before .before .before .block-bytes-of .ensures) _ (c .before .before .before .before .before .before .ask-output .ensures) _ _ _ (c .before .before .before .before .g .given .1) in
-    (f .sized, (f .below, block-fits _ (c .before .before .before .before .before .before .before .before .before .before .before .before .args .buffer .now) _ (f .file .argument) (f .file .measures)))
 
 same-length-2 : tie.Need-same-length-2
 same-length-2 c = search needs
 
 returns-2 : tie.Need-returns-2
-returns-2 c = output-done _ _ _ _ _ _ (c .before .before .before .before .before .before .before .before .before .before .before .block-bytes-of .ensures) _ (c .before .before .before .before .before .before .before .before .before .ask-output .ensures) _ _ _ (c .before .before .before .before .before .before .before .g .given .1) _ (c .before .before .write-block .ensures)
+returns-2 c =
+    let block-bytes-of = c .before .before .before .before .before .before .before .before .block-bytes-of in
+    let ask-output = c .before .before .before .before .before .before .ask-output in
+    let g = c .before .before .before .before .g in
+    output-beyond _ _ _ _ _ _ (block-bytes-of .ensures) _ (ask-output .ensures) _ _ _ (g .given .1) (c .if1 .taken)
+
+add-t19 : tie.Need-add-t19
+add-t19 c =
+    let s = c .before .before .before .before .before .before .before .before .before .before .before .before .before .before in
+    let block-bytes-of = c .before .before .before .before .before .before .before .before .before .before .block-bytes-of in
+    let ask-output = c .before .before .before .before .before .before .before .before .ask-output in
+    let g = c .before .before .before .before .before .before .g in
+    let if1 = c .before .before .if1 in
+    let f = output-file _ _ _ _ (s .args .buffer .now) _ (block-bytes-of .ensures) _ (ask-output .ensures) _ _ _ (g .given .1) (if1 .left) in
+    omega (arith, f .below, f .few)
+
+write-part-requires : tie.Need-write-part-requires
+write-part-requires c κs =
+    let s = c .before .before .before .before .before .before .before .before .before .before .before .before .before .before .before in
+    let block-bytes-of = c .before .before .before .before .before .before .before .before .before .before .before .block-bytes-of in
+    let ask-output = c .before .before .before .before .before .before .before .before .before .ask-output in
+    let g = c .before .before .before .before .before .before .before .g in
+    let if1 = c .before .before .before .if1 in
+    output-ready _ _ _ _ (s .args .buffer .now) _ (block-bytes-of .ensures) _ (ask-output .ensures) _ _ _ (g .given .1) (if1 .left)
+
+same-length-3 : tie.Need-same-length-3
+same-length-3 c = search needs
+
+returns-3 : tie.Need-returns-3
+returns-3 c =
+    let block-bytes-of = c .before .before .before .before .before .before .before .before .before .before .before .before .before .before .block-bytes-of in
+    let ask-output = c .before .before .before .before .before .before .before .before .before .before .before .before .ask-output in
+    let g = c .before .before .before .before .before .before .before .before .before .before .g in
+    let if1 = c .before .before .before .before .before .before .if1 in
+    let write-part = c .before .before .write-part in
+    output-done _ _ _ _ _ _ (block-bytes-of .ensures) _ (ask-output .ensures) _ _ _ (g .given .1) (if1 .left) _ (write-part .ensures)
 
 pub block-output-spec : {M : Type 1} → statement M
 block-output-spec =
@@ -47,7 +77,9 @@ block-output-spec =
     same-length
     returns
     enum-known-g
-    add-t18
-    write-block-requires
     same-length-2
-    returns-2)
+    returns-2
+    add-t19
+    write-part-requires
+    same-length-3
+    returns-3)

@@ -1,4 +1,5 @@
-use Rattle.transfer.proofs.Blocks.{open-reader, open-writer}
+-- Rests on `open-reader` and `open-writer`: a reader is enough, and without one the writer decides.
+use Rattle.transfer.proofs.BlockStage.{open-reader, open-writer}
 use Rattle.transfer.proofs.block.is_open_for_input.Statement.{statement}
 use Rattle.transfer.proofs.block.is_open_for_input.Tie as tie
 

@@ -1,0 +1,8 @@
+-- The laws of linked add.
+pub mod LinkedAddStage
+pub mod LinkedAddWrites
+pub mod LinkedAddEnlarged
+pub mod LinkedAddMap
+pub mod LinkedAddAnswers
+pub mod LinkedAddEffect
+pub mod LinkedAddOwners

@@ -1,0 +1,49 @@
+-- How often each block is held when one was added: the added block once, any other as before. So the map that the block was marked on stays right.
+use Prim.Native.Nat.{ℕ, _+_, _<_}
+use mathlib.Core.Path.{_≡_, sym, ap, subst}
+use mathlib.Core.List.{List, [], _∷_}
+use native.Mathlib.Omega.{arith}
+use lib.Dec.{eqb}
+use lib.ListN.{length, set}
+use Rattle.pack.specs.declared.Geometry.{Geometry}
+use Rattle.pack.specs.Geometry.{geometryOf, payloadBytes, slots}
+use Rattle.pack.specs.GeometrySized.{Sized}
+use Rattle.pack.specs.File.{one, count}
+use Rattle.pack.specs.Entry.{entryOf, blocksAt}
+use Rattle.pack.specs.Consistent.{held, Consistent}
+use Rattle.pack.specs.Owner.{FreeBlock}
+use Rattle.pack.proofs.FileCount.{count-append}
+use Rattle.pack.proofs.HeaderRules.{header-sized}
+use Rattle.frame.proofs.FramedHeld.{held-one}
+use Rattle.frame.proofs.GrowthConsistent.{grown-framed, grown-blocks}
+use Rattle.room.specs.RoomMap.{Says}
+use Rattle.room.proofs.RoomMapTaken.{map-added}
+use Rattle.adding.specs.LinkedAdd.{added}
+use Rattle.adding.specs.LinkedAddStage.{Ready}
+use Rattle.adding.proofs.LinkedAddEnlarged.{enlarged}
+
+count-one : (z b : ℕ) → count z (b ∷ []) ≡ one (eqb z b)
+unfolding count
+count-one z b = omega arith
+
+-- a free block joined to a linked file of a consistent image
+pub held-enlarged : (img : List ℕ) (g : Geometry) (x b : ℕ) (payload : List ℕ) → g ≡ geometryOf img → Consistent img → Sized img g → x < slots g
+    → entryOf img g x .kind ≡ 2 → FreeBlock img b → length payload ≡ payloadBytes g
+    → (z : ℕ) → held (added img g x (entryOf img g x) b payload) z ≡ held img z + one (eqb z b)
+held-enlarged img g x b payload stated right sized within linked free whole z =
+    let grown = enlarged img g x b payload stated right sized within linked free whole .grown in
+    omega (
+      arith,
+      held-one stated right (grown-framed stated right within linked free grown) within z,
+      ap (count z) (grown-blocks stated right within linked free grown),
+      count-append z (blocksAt img g x) (b ∷ []),
+      count-one z b,
+    )
+
+pub map-enlarged : {img map : List ℕ} {g : Geometry} {e : ℕ} {payload : List ℕ} → Ready img map g e payload → (b : ℕ) → FreeBlock img b
+    → Says (set map b 1) (added img g e (entryOf img g e) b payload)
+map-enlarged {img} {map} {g} {e} {payload} ready b free =
+    let sized : Sized img g = subst (Sized img) (ready .measures) (header-sized img (ready .right .header)) in
+    map-added img (added img g e (entryOf img g e) b payload) map b (ready .says)
+    (omega (arith, ready .long, free .below, ap (λ (h : Geometry). h .blocks) (ready .measures), sized .most))
+    (held-enlarged img g e b payload (sym (ready .measures)) (ready .right) sized (ready .entry) (ready .linked) free (ready .whole)) (free .nobody)

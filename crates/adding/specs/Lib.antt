@@ -1,0 +1,3 @@
+-- Linked add.
+pub mod LinkedAdd
+pub mod LinkedAddStage

@@ -1,0 +1,94 @@
+-- Whose each block is after APPND: blocks of neither file keep their owner, and those of either are the first file's, in order.
+use Prim.Native.Nat.{ℕ, _+_, _<_}
+use mathlib.Core.Path.{_≡_, refl, sym, ap, subst, _∙_}
+use mathlib.Core.List.{List, _++_}
+use mathlib.Core.Logic.{inl, inr}
+use native.Mathlib.Omega.{arith}
+use native.Mathlib.Decide.{ℕ-discrete}
+use lib.ListN.{length, getD, length-append, List·getD-append}
+use lib.Seq.{getD-append-add}
+use Rattle.pack.specs.declared.Key.{Key}
+use Rattle.pack.specs.declared.Owner.the-variants.{Held}
+use Rattle.pack.specs.Geometry.{geometryOf}
+use Rattle.pack.specs.File.{count}
+use Rattle.pack.specs.Entry.{entryOf, blocksAt}
+use Rattle.pack.specs.Owner.{placeFrom, ownerOf}
+use Rattle.pack.proofs.FileCount.{count-nil, count-append}
+use Rattle.pack.proofs.EntryRead.{empty-blocks}
+use Rattle.asking.specs.Asked.{entryNo, fileOf}
+use Rattle.owners.proofs.OwnerPlaces.{place-none}
+use Rattle.owners.proofs.EntryBlocks.{blocks-length}
+use Rattle.owners.proofs.OneOwner.{owner-held, held-of}
+use Rattle.frame.specs.Framing.{Either}
+use Rattle.frame.proofs.FramedCompose.{either-decided}
+use Rattle.frame.proofs.FramedStays.{geometry-framed}
+use Rattle.frame.proofs.OwnerFramed.{owner-framed}
+use Rattle.appending.specs.Appnd.{appnd}
+use Rattle.appending.proofs.AppndEffect.{appnd-refused, appnd-accepted, appnd-joined, appnd-framed, appnd-blocks, appnd-consistent}
+
+nowhere : (b : ℕ) (xs ys : List ℕ) → count b xs ≡ 0 → count b ys ≡ 0 → placeFrom b 0 xs ≡ placeFrom b 0 ys
+nowhere b xs ys none none₂ = place-none b 0 xs .1 none ∙ sym (place-none b 0 ys .1 none₂)
+
+module _ (img : List ℕ) (first second : Key) (caller : ℕ) where
+  -- a block of neither file
+  pub appnd-owner : (b : ℕ) → count b (blocksAt img (geometryOf img) (entryNo img first)) ≡ 0 → count b (blocksAt img (geometryOf img) (entryNo img second)) ≡ 0
+      → ownerOf (appnd img first second caller .image) b ≡ ownerOf img b
+  appnd-owner b none none₂ = by (ℕ-discrete (appnd img first second caller .code) 0)
+    where
+      place : appnd img first second caller .code ≡ 0 → (e : ℕ) → Either (entryNo img first) (entryNo img second) e
+          → placeFrom b 0 (blocksAt (appnd img first second caller .image) (geometryOf img) e) ≡ placeFrom b 0 (blocksAt img (geometryOf img) e)
+      place done e (inl is) =
+          nowhere b _ _
+          (ap (λ (i : ℕ). count b (blocksAt (appnd img first second caller .image) (geometryOf img) i)) is
+          ∙ (ap (count b) (appnd-blocks img first second caller done)
+          ∙ omega
+          (arith, none, none₂, count-append b (blocksAt img (geometryOf img) (entryNo img first)) (blocksAt img (geometryOf img) (entryNo img second)))))
+          (ap (λ (i : ℕ). count b (blocksAt img (geometryOf img) i)) is ∙ none)
+      place done e (inr is) =
+          nowhere b _ _
+          (ap (λ (i : ℕ). count b (blocksAt (appnd img first second caller .image) (geometryOf img) i)) is
+          ∙ (ap (count b)
+          (empty-blocks (appnd img first second caller .image) (geometryOf img) (entryNo img second) (appnd-joined img first second caller done .emptied))
+          ∙ count-nil b))
+          (ap (λ (i : ℕ). count b (blocksAt img (geometryOf img) i)) is ∙ none₂)
+
+      by : Dec (appnd img first second caller .code ≡ 0) → ownerOf (appnd img first second caller .image) b ≡ ownerOf img b
+      by (yes done) =
+          owner-framed refl (appnd-accepted img first second caller done .right) (appnd-framed img first second caller done)
+          (either-decided (entryNo img first) (entryNo img second)) b (λ e within is. place done e is)
+      by (no refused) = ap (λ (s : List ℕ). ownerOf s b) (appnd-refused img first second caller refused .same-image)
+
+  module _ (done : appnd img first second caller .code ≡ 0) where
+    stated : geometryOf img ≡ geometryOf (appnd img first second caller .image)
+    stated = sym (geometry-framed refl (appnd-accepted img first second caller done .right) (appnd-framed img first second caller done))
+
+    owned : (p b : ℕ) → p < length (blocksAt img (geometryOf img) (entryNo img first) ++ blocksAt img (geometryOf img) (entryNo img second))
+        → getD (blocksAt img (geometryOf img) (entryNo img first) ++ blocksAt img (geometryOf img) (entryNo img second)) p 0 ≡ b
+        → ownerOf (appnd img first second caller .image) b ≡ Held (entryNo img first) (record { 0 = p })
+    owned p b inside is =
+        owner-held (appnd-consistent img first second caller (appnd-accepted img first second caller done .right)) b (entryNo img first) p .1
+        (held-of (appnd img first second caller .image) (geometryOf img) (entryNo img first) p b stated (appnd-accepted img first second caller done .one .within)
+        (subst (λ (s : List ℕ). p < length s) (sym (appnd-blocks img first second caller done)) inside)
+        (subst (λ (s : List ℕ). getD s p 0 ≡ b) (sym (appnd-blocks img first second caller done)) is))
+
+    -- a block of the first file stays where it was
+    pub appnd-owner-first : (b p : ℕ) → ownerOf img b ≡ Held (entryNo img first) (record { 0 = p })
+        → ownerOf (appnd img first second caller .image) b ≡ Held (entryNo img first) (record { 0 = p })
+    appnd-owner-first b p is =
+        let at = owner-held (appnd-accepted img first second caller done .right) b (entryNo img first) p .0 is in
+        owned p b
+        (omega (arith, at .place, length-append (blocksAt img (geometryOf img) (entryNo img first)) (blocksAt img (geometryOf img) (entryNo img second))))
+        (List·getD-append (blocksAt img (geometryOf img) (entryNo img first)) (blocksAt img (geometryOf img) (entryNo img second)) 0 p (at .place) ∙ at .is)
+
+    -- a block of the second file comes behind those of the first
+    pub appnd-owner-second : (b p : ℕ) → ownerOf img b ≡ Held (entryNo img second) (record { 0 = p })
+        → ownerOf (appnd img first second caller .image) b ≡ Held (entryNo img first) (record { 0 = fileOf img first .length + p })
+    unfolding fileOf
+    appnd-owner-second b p is =
+        let at = owner-held (appnd-accepted img first second caller done .right) b (entryNo img second) p .0 is in
+        let size : length (blocksAt img (geometryOf img) (entryNo img first)) ≡ entryOf img (geometryOf img) (entryNo img first) .length =
+        blocks-length img (geometryOf img) (entryNo img first) in
+        owned (entryOf img (geometryOf img) (entryNo img first) .length + p) b
+        (omega (arith, at .place, size, length-append (blocksAt img (geometryOf img) (entryNo img first)) (blocksAt img (geometryOf img) (entryNo img second))))
+        (ap (λ (n : ℕ). getD (blocksAt img (geometryOf img) (entryNo img first) ++ blocksAt img (geometryOf img) (entryNo img second)) (n + p) 0) (sym size)
+        ∙ (getD-append-add (blocksAt img (geometryOf img) (entryNo img first)) (blocksAt img (geometryOf img) (entryNo img second)) p 0 ∙ at .is))

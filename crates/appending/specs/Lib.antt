@@ -1,0 +1,3 @@
+-- APPND.
+pub mod Appnd
+pub mod AppndStage

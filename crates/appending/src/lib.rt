@@ -1,0 +1,2 @@
+// APPND: two linked files made one.
+pub mod appnd;

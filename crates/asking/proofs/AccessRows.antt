@@ -1,0 +1,57 @@
+-- The rows of access: the code that each return gives, and what a file is known for that passes them all.
+use Prim.Native.Nat.{ℕ}
+use mathlib.Core.Path.{_≡_, refl, sym}
+use mathlib.Core.Bool.{Bool, true, false, not}
+use mathlib.Core.List.{[]}
+use native.Mathlib.Omega.{arith}
+use lib.Dec.{eqb}
+use borrow.Author.Tests.{eq-eqb, ne-eqb, eqb-false, not-false}
+use Rattle.answers.specs.Refusals.{firstOf}
+use Rattle.answers.proofs.Refusals.{none-given, coded}
+use Rattle.pack.specs.declared.Entry.{Entry}
+use Rattle.asking.specs.declared.Right.{Right}
+use Rattle.asking.specs.declared.Grant.{Grant}
+use Rattle.asking.specs.declared.Grant.the-variants.{Granted, Denied}
+use Rattle.asking.specs.Rights.{may}
+use Rattle.asking.specs.AskedStage.{granted}
+use Rattle.asking.specs.Access.{accessRows}
+
+module _ (x : Entry) (caller : ℕ) (right : Right) (other : ℕ) (closed : Bool) where
+  -- what a file is known for that passes them all
+  pub record Accessed : Type 0 where
+    pub right-given : may right caller (x .uic) (x .protect) ≡ true
+    pub kind : x .kind ≡ other → ⊥
+    pub opened : closed ≡ false
+
+  pub access-6 : (grant : Grant) → granted grant ≡ may right caller (x .uic) (x .protect) → grant ≡ Denied → 0o6 ≡ firstOf (accessRows x caller right other closed)
+  unfolding firstOf accessRows
+  access-6 grant says is = rw (sym says, is)
+
+  module _ (grant : Grant) (says : granted grant ≡ may right caller (x .uic) (x .protect)) (is : grant ≡ Granted) where
+    pub access-43 : x .kind ≡ other → 0o43 ≡ firstOf (accessRows x caller right other closed)
+    unfolding firstOf accessRows
+    access-43 kind = rw (sym says, is, eq-eqb (x .kind) other kind)
+
+    module _ (kind : x .kind ≡ other → ⊥) where
+      pub access-45 : closed ≡ true → 0o45 ≡ firstOf (accessRows x caller right other closed)
+      unfolding firstOf accessRows
+      access-45 shut = rw (sym says, is, ne-eqb (x .kind) other kind, shut)
+
+      pub access-0 : closed ≡ false → 0 ≡ firstOf (accessRows x caller right other closed)
+      unfolding firstOf accessRows
+      access-0 opened = rw (sym says, is, ne-eqb (x .kind) other kind, opened)
+
+  pub access-coded : coded (accessRows x caller right other closed) ≡ true
+  unfolding accessRows
+  access-coded = refl
+
+  pub accessed-clear : Accessed → firstOf (accessRows x caller right other closed) ≡ 0
+  accessed-clear a = sym (access-0 Granted (sym (a .right-given)) refl (a .kind) (a .opened))
+
+  pub clear-accessed : firstOf (accessRows x caller right other closed) ≡ 0 → Accessed
+  unfolding accessRows
+  clear-accessed none =
+      let first = none-given (not (may right caller (x .uic) (x .protect))) 0o6 _ (λ is. omega (arith, is)) none in
+      let second = none-given (eqb (x .kind) other) 0o43 _ (λ is. omega (arith, is)) (first .1) in
+      let third = none-given closed 0o45 [] (λ is. omega (arith, is)) (second .1) in
+      record { right-given = not-false _ (first .0); kind = eqb-false (x .kind) other (second .0); opened = third .0 }

@@ -1,0 +1,15 @@
+-- The size that a lent buffer must have.
+use Prim.Native.Nat.{ℕ}
+use mathlib.Core.Bool.{Bool, not}
+use mathlib.Core.List.{List}
+use lib.Dec.{eqb}
+use lib.ListN.{length}
+use Rattle.pack.specs.Geometry.{geometryOf, blockBytes, payloadBytes}
+
+-- "41: .. buffer not of the size asked": "buffer of 512", the bytes of a block of the image's form
+abbrev pub wrongBlock : List ℕ → List ℕ → Bool
+wrongBlock img buffer = not (eqb (length buffer) (blockBytes (geometryOf img)))
+
+-- "buffer of 510": the bytes of a payload of the image's form
+abbrev pub wrongPayload : List ℕ → List ℕ → Bool
+wrongPayload img buffer = not (eqb (length buffer) (payloadBytes (geometryOf img)))

@@ -1,0 +1,113 @@
+-- The check says exactly whether an image is consistent, and its map then says how often each block is held.
+use Prim.Native.Nat.{ℕ, zero, _≤_, _<_}
+use mathlib.Core.Path.{_≡_, refl, subst}
+use mathlib.Core.Bool.{Bool, true, false, cond, _&&_}
+use mathlib.Core.List.{List}
+use mathlib.Core.Logic.{inl, inr, _↔_}
+use native.Mathlib.Omega.{arith}
+use native.Mathlib.Decide.{decLt}
+use lib.ListN.{length, getD, length-replicate, getD-replicate, List·getD-eq-default}
+use Rattle.pack.specs.declared.Geometry.{Geometry}
+use Rattle.pack.specs.Form.{mostBlocks}
+use Rattle.pack.specs.Geometry.{geometryOf, slots}
+use Rattle.pack.specs.GeometrySized.{Sized}
+use Rattle.pack.specs.HeaderTest.{headerTest}
+use Rattle.pack.specs.Entry.{entryWord, entryOf, Empty, RightEntry}
+use Rattle.pack.specs.Key.{keyIn, SameKey}
+use Rattle.pack.specs.Consistent.{heldIn, held, Consistent}
+use Rattle.answers.proofs.RefusalsTests.{and-left, and-right, and-both}
+use Rattle.pack.proofs.HeaderTestWhole.{header-iff}
+use Rattle.pack.proofs.HeaderRules.{header-sized}
+use Rattle.radix.proofs.Names.{name-not-zero}
+use Rattle.consistency.specs.declared.Opened.the-variants.{Good, Bad}
+use Rattle.consistency.specs.ConsistentTest.{scanTest, markAll, emptyMap, entriesTest, consistent, openedOf}
+use Rattle.consistency.proofs.DifferTest.{differ-iff}
+use Rattle.consistency.proofs.ConsistentTestScan.{scan-fine, fine-scan, scan-counts}
+
+pub empty-long : length emptyMap ≡ mostBlocks
+empty-long = length-replicate {A = ℕ} mostBlocks 0
+
+pub empty-zero : (b : ℕ) → getD emptyMap b 0 ≡ 0
+empty-zero b =
+    elim (decLt b mostBlocks) [
+      | yes inside ↦ getD-replicate mostBlocks b 0 0 inside
+      | no outside ↦ let beyond : length emptyMap ≤ b = omega (arith, outside, empty-long) in List·getD-eq-default emptyMap 0 beyond
+    ]
+
+-- the rules of all entries, at given measures
+module _ (img : List ℕ) (g : Geometry) where
+  pub record Entries : Type 0 where
+    pub entries : (e : ℕ) → e < slots g → RightEntry img g e
+    pub differ : (e f : ℕ) → e < f → f < slots g → (Empty img g e → ⊥) → SameKey (keyIn (entryOf img g e)) (keyIn (entryOf img g f)) → ⊥
+    pub once : (b : ℕ) → heldIn img g b ≤ 1
+
+  -- a right entry whose first word is 0 is empty
+  named : (e : ℕ) → RightEntry img g e → (Empty img g e → ⊥) → entryWord img g e 0 ≡ 0 → ⊥
+  unfolding entryOf
+  named e (inl empty) used is = used empty
+  named e (inr u) used is = name-not-zero _ _ (u .name) is
+
+  module _ (few : g .blocks ≤ mostBlocks) where
+    long : g .blocks ≤ length emptyMap
+    long = omega (arith, empty-long)
+
+    entries-means : entriesTest img g ≡ true → Entries
+    unfolding entriesTest
+    entries-means test =
+        let fine = scan-fine img g emptyMap 0 (slots g) long (λ b. omega (arith, empty-zero b)) (and-left (scanTest img g emptyMap 0 (slots g)) _ test) in
+        let apart = differ-iff img g 0 (slots g) .0 (and-right (scanTest img g emptyMap 0 (slots g)) _ test) in
+        record {
+          entries = λ e below. fine .right e (omega arith) (omega arith);
+          differ = λ e f less below used same. apart e f (omega arith) less (omega arith) (named e (fine .right e (omega arith) (omega arith)) used) same;
+          once = λ b. omega (arith, fine .once b);
+        }
+
+    entries-tested : Entries → entriesTest img g ≡ true
+    unfolding entriesTest
+    entries-tested h =
+        and-both (fine-scan img g emptyMap 0 (slots g) long (record { right = λ e low high. h .entries e (omega arith); once = λ b. omega (arith, h .once b, empty-zero b) }))
+        (differ-iff img g 0 (slots g) .1 (λ e f low less high used same. h .differ e f less (omega arith) (λ empty. used (empty .zero 0 (omega arith))) same))
+
+    pub entries-iff : entriesTest img g ≡ true ↔ Entries
+    entries-iff = (entries-means, entries-tested)
+
+    -- the map that the scan leaves
+    pub entries-held : entriesTest img g ≡ true → (b : ℕ) → getD (markAll img g emptyMap 0 (slots g)) b 0 ≡ heldIn img g b
+    unfolding entriesTest
+    entries-held test b = omega (arith, empty-zero b, scan-counts img g emptyMap 0 (slots g) long (and-left (scanTest img g emptyMap 0 (slots g)) _ test) b)
+
+-- the check says exactly whether the image is consistent
+pub consistent-iff : (img : List ℕ) → consistent img ≡ true ↔ Consistent img
+unfolding consistent held
+consistent-iff img = (means, tested)
+  where
+    means : (headerTest img && entriesTest img (geometryOf img)) ≡ true → Consistent img
+    means test =
+        let header = header-iff img .0 (and-left (headerTest img) _ test) in
+        let h = entries-iff img (geometryOf img) (header-sized img header .most) .0 (and-right (headerTest img) _ test) in
+        record { header = header; entries = h .entries; differ = h .differ; once = h .once }
+
+    tested : Consistent img → (headerTest img && entriesTest img (geometryOf img)) ≡ true
+    tested h =
+        and-both (header-iff img .1 (h .header))
+        (entries-iff img (geometryOf img) (header-sized img (h .header) .most) .1 (record { entries = h .entries; differ = h .differ; once = h .once }))
+
+-- what the answer of a pack opened says
+by-good : (test : Bool) (g h : Geometry) → cond test (Good g) Bad ≡ Good h → (test ≡ true) × (g ≡ h)
+by-good true g h is = (refl, cc)
+by-good false g h is = (cc, cc)
+
+pub opened-good : (img : List ℕ) (g : Geometry) → openedOf img ≡ Good g → Consistent img × (geometryOf img ≡ g) × Sized img g
+unfolding openedOf
+opened-good img g is =
+    let h = by-good (consistent img) _ _ is in
+    let c = consistent-iff img .0 (h .0) in
+    (c, h .1, subst (Sized img) (h .1) (header-sized img (c .header)))
+
+by-bad : (test : Bool) (g : Geometry) → cond test (Good g) Bad ≡ Bad → test ≡ false
+by-bad true g is = cc
+by-bad false g is = refl
+
+pub opened-bad : (img : List ℕ) → openedOf img ≡ Bad → consistent img ≡ false
+unfolding openedOf
+opened-bad img is = by-bad (consistent img) _ is

@@ -1,0 +1,39 @@
+-- Means: the check of a whole image as a test; proofs/ConsistentTestIff.antt has that it is true exactly if the image is consistent.
+use Prim.Native.Nat.{ℕ, suc, zero, _+_}
+use mathlib.Core.Bool.{Bool, true, cond, _&&_}
+use mathlib.Core.List.{List}
+use lib.ListN.{replicate}
+use Rattle.pack.specs.declared.Geometry.{Geometry}
+use Rattle.pack.specs.Form.{mostBlocks}
+use Rattle.pack.specs.Geometry.{geometryOf, slots}
+use Rattle.pack.specs.HeaderTest.{headerTest}
+use Rattle.pack.specs.Entry.{blocksAt}
+use Rattle.consistency.specs.declared.Opened.{Opened}
+use Rattle.consistency.specs.declared.Opened.the-variants.{Good, Bad}
+use Rattle.consistency.specs.Walk.{mark}
+use Rattle.consistency.specs.EntryTest.{entryTest}
+use Rattle.consistency.specs.DifferTest.{differTest}
+
+-- the `k` entries from e on are right, each with its blocks taken on the map that those before it left
+unfoldable pub scanTest : List ℕ → Geometry → List ℕ → ℕ → ℕ → Bool
+scanTest img g map e zero = true
+scanTest img g map e (suc k) = entryTest img g map e && scanTest img g (mark map (blocksAt img g e)) (e + 1) k
+
+-- the map that they leave
+unfoldable pub markAll : List ℕ → Geometry → List ℕ → ℕ → ℕ → List ℕ
+markAll img g map e zero = map
+markAll img g map e (suc k) = markAll img g (mark map (blocksAt img g e)) (e + 1) k
+
+-- the map on which no block is taken
+abbrev pub emptyMap : List ℕ
+emptyMap = replicate mostBlocks 0
+
+-- the entries of an image are right, and their files differ
+unfoldable pub entriesTest : List ℕ → Geometry → Bool
+entriesTest img g = scanTest img g emptyMap 0 (slots g) && differTest img g 0 (slots g)
+
+unfoldable pub consistent : List ℕ → Bool
+consistent img = headerTest img && entriesTest img (geometryOf img)
+
+unfoldable pub openedOf : List ℕ → Opened
+openedOf img = cond (consistent img) (Good (geometryOf img)) Bad

@@ -1,0 +1,51 @@
+-- Means: the rules of one entry as tests, in the order in which the code makes them.
+use Prim.Native.Nat.{ℕ, _+_, _-_}
+use mathlib.Core.Bool.{Bool, true, cond, not, _&&_}
+use mathlib.Core.List.{List}
+use lib.Dec.{eqb, leb, ltb}
+use Rattle.radix.specs.NamesTest.{legalName, legalExtension}
+use Rattle.pack.specs.declared.Geometry.{Geometry}
+use Rattle.pack.specs.declared.Entry.{Entry}
+use Rattle.pack.specs.Geometry.{entryAt}
+use Rattle.pack.specs.HeaderTest.{zeros, listed}
+use Rattle.pack.specs.File.{nextOf, after, lastOf, blocksOf, one}
+use Rattle.pack.specs.Entry.{entryOf}
+use Rattle.consistency.specs.Walk.{takes}
+
+-- a legal name, a legal extension, a UIC of the list
+unfoldable pub keyTest : List ℕ → Entry → Bool
+keyTest img x = legalName (x .name1) (x .name2) && (legalExtension (x .extension) && listed img (x .uic))
+
+-- length and writer go with the kind
+unfoldable pub kindTest : ℕ → ℕ → ℕ → Bool
+kindTest kind length writer =
+    cond (eqb kind 1) (leb 1 length && leb writer 1) (eqb kind 2 && (not (eqb writer 1) && leb writer 3))
+
+-- readers, plus 1 if there is a writer, are at most 62
+unfoldable pub opensTest : ℕ → ℕ → Bool
+opensTest writer readers = leb (readers + one (ltb 0 writer)) 62
+
+-- the fields of an entry in use
+unfoldable pub fieldsTest : List ℕ → Entry → Bool
+fieldsTest img x =
+    keyTest img x && (leb (x .protect) 255 && (kindTest (x .kind) (x .length) (x .writer) && opensTest (x .writer) (x .readers)))
+
+-- the blocks of a file end at its last block, and a chain ends in link 0
+unfoldable pub endTest : List ℕ → Geometry → Entry → Bool
+endTest img g x =
+    eqb (lastOf (nextOf img g (x .kind)) 0 (x .length) (x .first .0)) (x .last .0)
+    && cond (eqb (x .kind) 1) true (eqb (after (nextOf img g (x .kind)) (x .length) (x .first .0)) 0)
+
+-- they can be taken on the map, and end so
+unfoldable pub bodyTest : List ℕ → Geometry → List ℕ → Entry → Bool
+bodyTest img g map x = takes (g .bodies .0) (g .blocks) map (blocksOf img g x) && endTest img g x
+
+-- the words of entry e from word i on are 0
+unfoldable pub restTest : List ℕ → Geometry → ℕ → ℕ → Bool
+restTest img g e i = zeros img (entryAt g e + i) (16 - i)
+
+-- an entry whose first word is 0 is all zero; another is that of a file
+unfoldable pub entryTest : List ℕ → Geometry → List ℕ → ℕ → Bool
+entryTest img g map e =
+    cond (eqb (entryOf img g e .name1) 0) (restTest img g e 0)
+    (fieldsTest img (entryOf img g e) && (restTest img g e 11 && bodyTest img g map (entryOf img g e)))

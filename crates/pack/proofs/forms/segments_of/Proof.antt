@@ -1,0 +1,16 @@
+-- Rests on the definition of `segmentsOf`: its test of the form is the code's.
+use borrow.Author.Tests.{eq-eqb, ne-eqb}
+use Rattle.pack.specs.Form.{segmentsOf}
+use Rattle.pack.proofs.forms.segments_of.Statement.{statement}
+use Rattle.pack.proofs.forms.segments_of.Tie as tie
+
+returns : tie.Need-returns
+unfolding segmentsOf
+returns c = rw (eq-eqb _ 1 (c .if1 .taken))
+
+returns-2 : tie.Need-returns-2
+unfolding segmentsOf
+returns-2 c = rw (ne-eqb _ 1 (c .if1 .left))
+
+pub segments-of-spec : {M : Type 1} → statement M
+segments-of-spec = tie.close (tie.spec returns returns-2)

@@ -1,0 +1,16 @@
+-- Means: what every reader of an image with a right header counts on (proofs/HeaderRules.antt, `header-sized`).
+use Prim.Native.Nat.{ℕ, _*_, _≤_, _<_}
+use mathlib.Core.Path.{_≡_}
+use mathlib.Core.List.{List}
+use lib.ListN.{length}
+use Rattle.pack.specs.declared.Geometry.{Geometry}
+use Rattle.pack.specs.Form.{mostBlocks, mostSegments}
+use Rattle.pack.specs.Geometry.{blockBytes}
+
+pub record Sized (img : List ℕ) (g : Geometry) : Type 0 where
+  pub long : length img ≡ g .blocks * blockBytes g
+  pub some : 0 < g .segments .0
+  pub few : g .segments .0 ≤ mostSegments
+  pub contents : g .contents < g .bodies .0
+  pub bodies : g .bodies .0 < g .blocks
+  pub most : g .blocks ≤ mostBlocks

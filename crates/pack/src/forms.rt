@@ -1,0 +1,40 @@
+// The numbers that a form of the pack decides.
+ghost use mathlib.Core.Path.{_≡_};
+ghost use Prim.Native.Nat.{_≤_};
+ghost use Rattle.pack.specs.Form.{segmentsOf, mostBlocksOf, mostContentsOf, mostUicsOf, bodiesOf};
+use crate::BlockNo;
+use crate::Segments;
+
+pub fn segments_of(form: usize) -> Segments
+    ensures { λ r. ⌜ r .0 ≡ segmentsOf form ⌝ }
+{
+    if form == 1 {
+        return Segments(4);
+    }
+    Segments(0)
+}
+
+pub fn most_blocks(form: usize) -> usize
+    ensures { λ r. ⌜ r ≡ mostBlocksOf form ⌝ }
+{
+    1024
+}
+
+pub fn most_contents(form: usize) -> usize
+    ensures { λ r. ⌜ r ≡ mostContentsOf form ⌝ }
+{
+    8
+}
+
+pub fn most_uics(form: usize) -> usize
+    ensures { λ r. ⌜ r ≡ mostUicsOf form ⌝ }
+{
+    64
+}
+
+pub fn bodies_of(form: usize, contents: usize) -> BlockNo
+    requires { ⌜ contents ≤ mostContentsOf form ⌝ }
+    ensures { λ r. ⌜ r .0 ≡ bodiesOf form contents ⌝ }
+{
+    BlockNo(contents + 1)
+}

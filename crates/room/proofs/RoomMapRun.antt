@@ -1,0 +1,155 @@
+-- The free run sought downwards with a count of free blocks: the step laws of the loop, and that the map says what the image says.
+use Prim.Native.Nat.{ℕ, suc, zero, _+_, _-_, _≤_, _<_}
+use mathlib.Core.Path.{_≡_, refl, sym, ap, subst, _∙_}
+use mathlib.Core.Bool.{Bool, true, false, cond, _&&_}
+use mathlib.Core.List.{List}
+use mathlib.Core.Option.{none, some}
+use native.Mathlib.Omega.{arith}
+use native.Mathlib.Decide.{ℕ-discrete, decLe, decLt}
+use lib.Dec.{eqb, leb}
+use lib.ListN.{getD}
+use borrow.Author.Tests.{eq-eqb, ne-eqb, lt-ltb, le-ltb, le-leb, lt-leb}
+use Rattle.pack.specs.declared.Geometry.{Geometry}
+use Rattle.pack.specs.Geometry.{geometryOf}
+use Rattle.answers.proofs.RefusalsTests.{and-both}
+use Rattle.room.specs.Room.{isFreeBlock, areFree, runBelow, highestRun}
+use Rattle.room.specs.RoomMap.{Says, isFreeOn, isFreeBody, areFreeOn, runOn, freeAfter, freeFrom}
+
+-- the count behind one block more
+pub after-free : (times free : ℕ) → times ≡ 0 → free + 1 ≡ freeAfter (eqb times 0) free
+unfolding freeAfter
+after-free times free is = rw (eq-eqb times 0 is)
+
+pub after-held : (times free : ℕ) → (times ≡ 0 → ⊥) → 0 ≡ freeAfter (eqb times 0) free
+unfolding freeAfter
+after-held times free never = rw (ne-eqb times 0 never)
+
+after-most : (is-free : Bool) (free : ℕ) → freeAfter is-free free ≤ free + 1
+unfolding freeAfter
+after-most true free = omega arith
+after-most false free = omega arith
+
+-- so it passes no length by more than one block
+pub after-short : (is-free : Bool) (free next length : ℕ) → next ≡ freeAfter is-free free → free < length → (next ≡ length → ⊥) → next < length
+after-short is-free free next length counted short other = omega (arith, counted, after-most is-free free, other)
+
+module _ (map : List ℕ) where
+  pub from-most : (b k : ℕ) → freeFrom map b k ≤ k
+  unfolding freeFrom
+  from-most b zero = omega arith
+  from-most b (suc k) = omega (arith, after-most (isFreeOn map b) (freeFrom map (b + 1) k), from-most (b + 1) k)
+
+  from-none : (b k : ℕ) → k ≡ 0 → freeFrom map b k ≡ 0
+  unfolding freeFrom
+  from-none b k is = ap (freeFrom map b) is
+
+  from-step : (b end : ℕ) → b < end → freeFrom map b (end - b) ≡ freeAfter (isFreeOn map b) (freeFrom map (b + 1) (end - (b + 1)))
+  unfolding freeFrom
+  from-step b end less = let left : end - b ≡ suc (end - (b + 1)) = omega arith in ap (freeFrom map b) left
+
+  -- at the end of the pack nothing is counted yet
+  pub from-start : (end : ℕ) → 0 ≡ freeFrom map end (end - end)
+  from-start end = let none-left : end - end ≡ 0 = omega arith in sym (from-none end (end - end) none-left)
+
+  -- one block down
+  pub from-down : (end b free next : ℕ) → 0 < b → b ≤ end → free ≡ freeFrom map b (end - b) → next ≡ freeAfter (isFreeOn map (b - 1)) free
+      → next ≡ freeFrom map (b - 1) (end - (b - 1))
+  from-down end b free next positive below is counted =
+      let up : b - 1 + 1 ≡ b = omega arith in
+      counted
+      ∙ ap (freeAfter (isFreeOn map (b - 1))) is
+      ∙ sym (from-step (b - 1) end (omega arith) ∙ ap (λ (x : ℕ). freeAfter (isFreeOn map (b - 1)) (freeFrom map x (end - x))) up)
+
+  module _ (low end : ℕ) where
+    free-here : (b : ℕ) → low ≤ b → b < end → getD map b 0 ≡ 0 → isFreeBody map low end b ≡ true
+    unfolding isFreeBody
+    free-here b above below is = and-both (le-leb low b above) (and-both (lt-ltb b end below) (eq-eqb (getD map b 0) 0 is))
+
+    held-here : (b : ℕ) → low ≤ b → b < end → (getD map b 0 ≡ 0 → ⊥) → isFreeBody map low end b ≡ false
+    unfolding isFreeBody
+    held-here b above below never = rw (le-leb low b above, lt-ltb b end below, ne-eqb (getD map b 0) 0 never)
+
+    past-here : (b : ℕ) → low ≤ b → end ≤ b → isFreeBody map low end b ≡ false
+    unfolding isFreeBody
+    past-here b above past = rw (le-leb low b above, le-ltb b end past)
+
+    before-here : (b : ℕ) → b < low → isFreeBody map low end b ≡ false
+    unfolding isFreeBody
+    before-here b below = rw (lt-leb low b below)
+
+    one-more : (k free : ℕ) → leb k free ≡ leb (suc k) (free + 1)
+    one-more k free = by (decLe k free)
+      where
+        by : Dec (k ≤ free) → leb k free ≡ leb (suc k) (free + 1)
+        by (yes is) = le-leb k free is ∙ sym (le-leb (suc k) (free + 1) (omega arith))
+        by (no not) = lt-leb k free (omega (arith, not)) ∙ sym (lt-leb (suc k) (free + 1) (omega (arith, not)))
+
+    -- a run of a length is free exactly if the count is at least that
+    pub free-counted : (length b : ℕ) → low ≤ b → areFreeOn map low end b length ≡ leb length (freeFrom map b (end - b))
+    unfolding areFreeOn
+    free-counted zero b above = sym (le-leb 0 (freeFrom map b (end - b)) (omega arith))
+    free-counted (suc k) b above = by (decLt b end) (ℕ-discrete (getD map b 0) 0) (free-counted k (b + 1) (omega arith))
+      where
+        by : Dec (b < end) → Dec (getD map b 0 ≡ 0) → areFreeOn map low end (b + 1) k ≡ leb k (freeFrom map (b + 1) (end - (b + 1)))
+            → (isFreeBody map low end b && areFreeOn map low end (b + 1) k) ≡ leb (suc k) (freeFrom map b (end - b))
+        by (yes below) (yes is) later =
+            rw (free-here b above below is)
+            (later ∙ (one-more k (freeFrom map (b + 1) (end - (b + 1))) ∙ ap (leb (suc k)) (after-free (getD map b 0) _ is ∙ sym (from-step b end below))))
+        by (yes below) (no never) later =
+            rw (held-here b above below never)
+            (sym (lt-leb (suc k) (freeFrom map b (end - b)) (omega (arith, from-step b end below, after-held (getD map b 0) (freeFrom map (b + 1) (end - (b + 1))) never))))
+        by (no past) d later =
+            let none-left : end - b ≡ 0 = omega (arith, past) in
+            rw (past-here b above (omega (arith, past)))
+            (sym (lt-leb (suc k) (freeFrom map b (end - b)) (omega (arith, from-none b (end - b) none-left))))
+
+    module _ (length : ℕ) where
+      run-step : (b : ℕ) → 0 < b → runOn map low end length b ≡ cond (areFreeOn map low end (b - 1) length) (some (b - 1)) (runOn map low end length (b - 1))
+      unfolding runOn
+      run-step b positive = let up : b ≡ suc (b - 1) = omega arith in ap (runOn map low end length) up
+
+      -- the count has come to the length: here the run starts
+      pub run-here : (b free : ℕ) → low < b → free ≡ freeFrom map (b - 1) (end - (b - 1)) → free ≡ length → runOn map low end length b ≡ some (b - 1)
+      run-here b free above is reached =
+          run-step b (omega arith)
+          ∙ rw (free-counted length (b - 1) (omega arith) ∙ le-leb length (freeFrom map (b - 1) (end - (b - 1))) (omega (arith, is, reached)))
+
+      pub run-next : (b free : ℕ) → low < b → free ≡ freeFrom map (b - 1) (end - (b - 1)) → free < length
+          → runOn map low end length b ≡ runOn map low end length (b - 1)
+      run-next b free above is short =
+          run-step b (omega arith)
+          ∙ rw (free-counted length (b - 1) (omega arith) ∙ lt-leb length (freeFrom map (b - 1) (end - (b - 1))) (omega (arith, is, short)))
+
+      -- below the bodies nothing is free
+      not-before : (b : ℕ) → b < low → 0 < length → areFreeOn map low end b length ≡ false
+      unfolding areFreeOn
+      not-before b below positive =
+          let one-at-least : length ≡ suc (length - 1) = omega arith in
+          ap (areFreeOn map low end b) one-at-least ∙ rw (before-here b below)
+
+      pub run-end : (b : ℕ) → b ≤ low → 0 < length → runOn map low end length b ≡ none
+      unfolding runOn
+      run-end zero below positive = refl
+      run-end (suc b) below positive = rw (not-before b (omega arith) positive) (run-end b (omega arith) positive)
+
+-- a map that says how often each block is held
+module _ (img map : List ℕ) (says : Says map img) where
+  free-says : (b : ℕ) → isFreeBody map (geometryOf img .bodies .0) (geometryOf img .blocks) b ≡ isFreeBlock img b
+  unfolding isFreeBody isFreeBlock
+  free-says b = rw (says b)
+
+  all-says : (b k : ℕ) → areFreeOn map (geometryOf img .bodies .0) (geometryOf img .blocks) b k ≡ areFree img b k
+  unfolding areFreeOn areFree
+  all-says b zero = refl
+  all-says b (suc k) = rw (free-says b, all-says (b + 1) k)
+
+  run-says : (length s : ℕ) → runOn map (geometryOf img .bodies .0) (geometryOf img .blocks) length s ≡ runBelow img length s
+  unfolding runOn runBelow
+  run-says length zero = refl
+  run-says length (suc s) = rw (all-says s length, run-says length s)
+
+  pub run-is : (g : Geometry) → geometryOf img ≡ g → (length : ℕ) → runOn map (g .bodies .0) (g .blocks) length (g .blocks) ≡ highestRun img length
+  unfolding highestRun
+  run-is g measures length =
+      subst (λ (h : Geometry). runOn map (h .bodies .0) (h .blocks) length (h .blocks) ≡ runBelow img length (geometryOf img .blocks)) measures
+      (run-says length (geometryOf img .blocks))

@@ -1,0 +1,3 @@
+-- What is free in a pack: as the paper says it, and on a map.
+pub mod Room
+pub mod RoomMap

@@ -1,0 +1,94 @@
+// What is free in a pack, on the map that the check of an image fills: the free run with the highest start, how many blocks are free, taking one.
+ghost use mathlib.Core.Path.{_≡_};
+ghost use Prim.Native.Nat.{_-_, _≤_, _<_};
+ghost use lib.Dec.{eqb, leb};
+ghost use lib.ListN.{length, set};
+ghost use Rattle.pack.specs.Form.{mostBlocks};
+ghost use Rattle.room.specs.RoomMap.{runOn, freeAfter, startIn, freeOn, FreeOn};
+use pack::BlockNo;
+use pack::Geometry;
+
+// A count of blocks.
+pub struct Blocks(pub usize);
+
+// Where a free run starts, or that there is none.
+pub enum Run {
+    Start(BlockNo),
+    Nowhere,
+}
+
+// Downwards, with a count of the free blocks from here on: the first run that is long enough has the highest start.
+pub fn highest_run(map: &[u8], g: Geometry, count: Blocks) -> Run
+    requires { ⌜ (length (now map) ≡ mostBlocks) × (g .blocks ≤ mostBlocks) × (0 < count .0) ⌝ }
+    ensures { λ r. ⌜ startIn r ≡ runOn (now (map .entry)) (g .bodies .0) (g .blocks) (count .0) (g .blocks) ⌝ }
+{
+    let low = g.bodies.0;
+    let mut b = g.blocks;
+    let mut free = 0;
+    while low < b {
+        b -= 1;
+        free = free_after(map[b], free);
+        if free == count.0 {
+            return Run::Start(BlockNo(b));
+        }
+    }
+    Run::Nowhere
+}
+
+fn free_after(times: u8, free: usize) -> usize
+    requires { ⌜ free ≤ mostBlocks ⌝ }
+    ensures { λ r. ⌜ r ≡ freeAfter (eqb times 0) free ⌝ }
+{
+    if times == 0 {
+        return free + 1;
+    }
+    0
+}
+
+pub fn free_count(map: &[u8], g: Geometry) -> usize
+    requires { ⌜ g .blocks ≤ length (now map) ⌝ }
+    requires { ⌜ g .bodies .0 ≤ g .blocks ⌝ }
+    ensures { λ r. ⌜ r ≡ freeOn (now (map .entry)) (g .bodies .0) (g .blocks - g .bodies .0) ⌝ }
+{
+    let end = g.blocks;
+    let mut b = g.bodies.0;
+    let mut free = 0;
+    while b < end {
+        if map[b] == 0 {
+            free += 1;
+        }
+        b += 1;
+    }
+    free
+}
+
+// Upwards, and no further than where enough were seen: it is cheap where few are needed.
+pub fn has_room(map: &[u8], g: Geometry, needed: Blocks) -> bool
+    requires { ⌜ g .blocks ≤ length (now map) ⌝ }
+    ensures { λ r. ⌜ r ≡ leb (needed .0) (freeOn (now (map .entry)) (g .bodies .0) (g .blocks - g .bodies .0)) ⌝ }
+{
+    let end = g.blocks;
+    let mut b = g.bodies.0;
+    let mut left = needed.0;
+    while b < end {
+        if left == 0 {
+            return true;
+        }
+        if map[b] == 0 {
+            left -= 1;
+        }
+        b += 1;
+    }
+    left == 0
+}
+
+// A block taken for any use. The image is lent too, for what taking a block does to it: nothing so far.
+pub fn take_block(img: &mut [u8], map: &mut [u8], g: Geometry, b: BlockNo)
+    requires { ⌜ g .blocks ≤ length (now map) ⌝ }
+    requires { ⌜ FreeOn (now map) g (b .0) ⌝ }
+    ensures { λ r. ⌜ now (img .exit) ≡ now (img .entry) ⌝ }
+    ensures { λ r. ⌜ now (map .exit) ≡ set (now (map .entry)) (b .0) 1 ⌝ }
+{
+    let at = b.0;
+    map[at] = 1;
+}

@@ -1,3 +1,0 @@
--- Laws for the boundary.
-pub mod Keys
-pub mod Lines

@@ -1,0 +1,52 @@
+-- Rests on `AccessStage`: what `ask_file` refuses is refused, and of a file that is found the rows of access decide.
+use borrow.Author.Needs.{needs}
+use Rattle.transfer.proofs.linked_read.ask_linked_read.Statement.{statement}
+use Rattle.transfer.proofs.linked_read.ask_linked_read.Tie as tie
+use mathlib.Core.Path.{refl}
+use lib.Dec.{eqb}
+use Rattle.asking.proofs.AccessStage.{access-refused, access-stopped, access-passed}
+
+slice-aggregate-ask-file : tie.Need-slice-aggregate-ask-file
+slice-aggregate-ask-file c = search needs
+
+ask-file-requires : tie.Need-ask-file-requires
+ask-file-requires c κs = search needs
+
+enum-known-asked : tie.Need-enum-known-asked
+enum-known-asked c = search needs
+
+enum-told : tie.Need-enum-told
+enum-told c = search needs
+
+returns : tie.Need-returns
+returns c = access-refused _ _ _ _ _ _ (λ x. eqb (x .readers) 0) _ (c .before .before .before .ask-file .ensures .0) _ (c .enum-told .given .1)
+
+judge-access-requires : tie.Need-judge-access-requires
+judge-access-requires c κs = search needs
+
+returns-2 : tie.Need-returns-2
+returns-2 c =
+    let ask-file = c .before .before .before .before .before .before .before .ask-file in
+    let asked = c .before .before .before .before .asked in
+    access-stopped _ _ _ _ _ _ (λ x. eqb (x .readers) 0) _ (ask-file .ensures .0) _ _ _ (asked .given .1) _ refl _ (c .before .judge-access .ensures)
+    (c .if1 .taken)
+
+returns-3 : tie.Need-returns-3
+returns-3 c =
+    let ask-file = c .before .before .before .before .before .before .before .ask-file in
+    let asked = c .before .before .before .before .asked in
+    access-passed _ _ _ _ _ _ (λ x. eqb (x .readers) 0) _ (ask-file .ensures .0) _ _ _ (asked .given .1) _ refl _ (c .before .judge-access .ensures)
+    (c .if1 .left)
+
+pub ask-linked-read-spec : {M : Type 1} → statement M
+ask-linked-read-spec =
+    tie.close
+    (tie.spec
+    slice-aggregate-ask-file
+    ask-file-requires
+    enum-known-asked
+    enum-told
+    returns
+    judge-access-requires
+    returns-2
+    returns-3)
