@@ -144,7 +144,8 @@ module _ {img : List ℕ} (right : Consistent img) (key : Key) (legal : legalKey
     λ never. nowhere never (findFrom img (geometryOf img) key 0 (slots (geometryOf img))) refl,
   )
     where
-      nowhere : ((e : ℕ) → e < slots (geometryOf img) → SameKey (keyIn (entryOf img (geometryOf img) e)) key → ⊥) → (o : Option ℕ) → findFrom img (geometryOf img) key 0 (slots (geometryOf img)) ≡ o
+      nowhere : ((e : ℕ) → e < slots (geometryOf img) → SameKey (keyIn (entryOf img (geometryOf img) e)) key → ⊥) → (o : Option ℕ)
+          → findFrom img (geometryOf img) key 0 (slots (geometryOf img)) ≡ o
           → findFrom img (geometryOf img) key 0 (slots (geometryOf img)) ≡ none
       nowhere never none is = is
       nowhere never (some e) is = let k = found-keyed img (geometryOf img) key 0 (slots (geometryOf img)) e is in absurd (never e (omega (arith, k .high)) (k .keyed))

@@ -11,16 +11,17 @@ use borrow.Rule.Slice.PartMut.{putMid}
 use Rattle.words.proofs.WordSlices.{part-back}
 use Rattle.pack.specs.declared.Geometry.{Geometry}
 use Rattle.pack.specs.GeometrySized.{Sized}
-use Rattle.pack.specs.Geometry.{blockAt, blockBytes, payloadBytes}
+use Rattle.pack.specs.Form.{mostBlocks, mostSegments}
+use Rattle.pack.specs.Geometry.{segmentBytes, blockAt, blockBytes, payloadBytes}
 use Rattle.pack.proofs.GeometryRoom.{block-room, few-words}
 use Rattle.bodies.specs.BlockBytes.{partOf, withPart, blockStart, blockOf, payloadStart, payloadOf}
 
 -- a block of the pack is within the image, which is not too long to count
 pub record BlockRoom (img : List ℕ) (g : Geometry) (b : ℕ) : Type 0 where
-  pub some : 128 ≤ blockBytes g
-  pub few : blockBytes g ≤ 512
+  pub some : segmentBytes 1 ≤ blockBytes g
+  pub few : blockBytes g ≤ segmentBytes mostSegments
   pub inside : blockStart g b + blockBytes g ≤ length img
-  pub small : length img ≤ 524288
+  pub small : length img ≤ mostBlocks * segmentBytes mostSegments
 
 pub room-of : (img : List ℕ) (g : Geometry) (b : ℕ) → Sized img g → b < g .blocks → BlockRoom img g b
 room-of img g b sized below =

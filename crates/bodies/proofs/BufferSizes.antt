@@ -8,8 +8,8 @@ use borrow.Author.Tests.{eqb-true, not-false}
 use lib.ListN.{length, getD, List·getD-eq-default}
 use Rattle.words.specs.Word.{wordAt}
 use Rattle.pack.specs.declared.Geometry.{Geometry}
-use Rattle.pack.specs.Form.{segmentsOf}
-use Rattle.pack.specs.Geometry.{geometryOf, blockBytes, payloadBytes}
+use Rattle.pack.specs.Form.{segmentsOf, mostSegments}
+use Rattle.pack.specs.Geometry.{segmentBytes, geometryOf, blockBytes, payloadBytes}
 use Rattle.pack.proofs.FormBounds.{segments-few}
 use Rattle.bodies.specs.BufferSizes.{wrongBlock, wrongPayload}
 
@@ -40,9 +40,9 @@ form-of-one img short =
     let high : length img ≤ 2 * 0 + 1 = omega arith in
     omega (arith, List·getD-eq-default img 0 high)
 
-pub bytes-few : (form segments : ℕ) → segments ≡ segmentsOf form → segments ≤ 4
+pub bytes-few : (form segments : ℕ) → segments ≡ segmentsOf form → segments ≤ mostSegments
 bytes-few form segments is = omega (arith, segments-few form)
 
-pub bytes-stated : (img : List ℕ) (form segments : ℕ) → form ≡ wordAt img 0 → segments ≡ segmentsOf form → 128 * segments ≡ blockBytes (geometryOf img)
+pub bytes-stated : (img : List ℕ) (form segments : ℕ) → form ≡ wordAt img 0 → segments ≡ segmentsOf form → segmentBytes segments ≡ blockBytes (geometryOf img)
 unfolding geometryOf
-bytes-stated img form segments word is = ap (λ (n : ℕ). 128 * n) (is ∙ ap segmentsOf word)
+bytes-stated img form segments word is = ap segmentBytes (is ∙ ap segmentsOf word)

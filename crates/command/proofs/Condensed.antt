@@ -8,7 +8,7 @@ use native.Mathlib.Omega.{arith}
 use lib.ListN.{length, take, drop, getD, set, drop-of-length-le}
 use lib.Seq.{drop-cons, take-suc-set, length-take-le}
 use Rattle.command.specs.Condensed.{isDropped, condensed}
-use Rattle.command.specs.Laid.{Kept, CondensedTo}
+use Rattle.command.specs.Laid.{LaidOne, CondensedTo}
 
 -- one character and the rest
 by-character : (x : ℕ) (line : List ℕ) → condensed (x ∷ line) ≡ condensed (x ∷ []) ++ condensed line
@@ -28,11 +28,11 @@ unfolding condensed
 kept-one x is = rw is
 
 -- one character dropped, or laid behind the others
-pub keep-dropped : (characters : List ℕ) (count x : ℕ) → isDropped x ≡ true → Kept characters characters count count x
+pub keep-dropped : (characters : List ℕ) (count x : ℕ) → isDropped x ≡ true → LaidOne characters characters count count x
 keep-dropped characters count x is = record { few = omega arith; laid = rw (dropped-none x is, append-nil) }
 
 pub keep-laid : (characters : List ℕ) (count x : ℕ) → count < length characters → isDropped x ≡ false
-    → Kept characters (set characters count x) count (count + 1) x
+    → LaidOne characters (set characters count x) count (count + 1) x
 keep-laid characters count x inside is =
     record { few = omega arith; laid = rw (add-one, kept-one x is) (take-suc-set characters count x inside) }
 
@@ -45,7 +45,7 @@ pub laid-start : (line characters : List ℕ) → Laid line characters 0 0
 laid-start line characters = record { few = omega arith; due = refl }
 
 pub laid-next : {line characters after : List ℕ} {count next i : ℕ} → i < length line → Laid line characters count i
-    → Kept characters after count next (getD line i 0) → Laid line after next (i + 1)
+    → LaidOne characters after count next (getD line i 0) → Laid line after next (i + 1)
 laid-next {line} {characters} {after} {count} {next} {i} inside laid kept =
     record {
       few = omega (arith, laid .few, kept .few);

@@ -3,16 +3,16 @@ use Prim.Native.Nat.{ℕ}
 use mathlib.Core.Path.{_≡_, ap, _∙_}
 use mathlib.Core.List.{List}
 use native.Mathlib.Omega.{arith}
-use Rattle.cursor.specs.declared.Cursor.{Cursor}
-use Rattle.grammar.specs.Reader.{no}
-use Rattle.grammar.proofs.Lines.{said-by, placed-by}
-use Rattle.sides.specs.Sought.{LocatedIn}
-use Rattle.sides.specs.Sought as S
-use Rattle.sides.specs.declared.Located.{Located}
-use Rattle.sides.specs.declared.Located.the-variants as L
+use Rattle.command_cursor.specs.declared.Cursor.{Cursor}
+use Rattle.command_grammar.specs.Reader.{no}
+use Rattle.command_grammar.proofs.ReaderLines.{said-by, placed-by}
+use Rattle.command_sides.specs.Sought.{LocatedIn}
+use Rattle.command_sides.specs.Sought as S
+use Rattle.command_sides.specs.declared.Located.{Located}
+use Rattle.command_sides.specs.declared.Located.the-variants as L
 use Rattle.command.specs.Judged.{Judged}
 use Rattle.command.specs.Judged as Q
-use Rattle.command.specs.declared.Judgement.the-variants as J
+use Rattle.command.specs.declared.csi1.Judgement.the-variants as J
 
 pub judged-refused : {line : List ℕ} {side k place : ℕ} {located : Located} → LocatedIn line side k located → located ≡ L.Refused place
     → Judged line (J.Wrong place)

@@ -1,13 +1,15 @@
--- The laws of CSI1 and CSI2. Only, Causes, Asked, Whole and Together are what a reader wants, the rest is how they and the code are proved.
+-- The laws of CSI1 and CSI2. The files Only, Causes, Absent and Then of each, and those of Known, are what a reader wants, the rest is how they and
+-- the code are proved.
 pub mod Condensed
-pub mod Kept
 pub mod Judged
-pub mod Room
-pub mod Giving
-pub mod Stages
-pub mod Decoding
-pub mod Only
-pub mod Causes
-pub mod Asked
-pub mod Together
-pub mod Whole
+pub mod GivenAt
+pub mod Csi1Stage
+pub mod Csi1Only
+pub mod Csi1Causes
+pub mod Csi2Stage
+pub mod Csi2Only
+pub mod KnownDecoded
+pub mod KnownSides
+pub mod KnownReading
+pub mod Csi2Absent
+pub mod Csi1Then

@@ -4,12 +4,12 @@ use Prim.Native.Nat.{ℕ, _≤_, _<_}
 use mathlib.Core.List.{List, _++_}
 use lib.ListN.{length, drop}
 use Rattle.answers.specs.declared.Answer.{Answer}
-use Rattle.grammar.specs.Parsed.{Parsed}
-use Rattle.grammar.specs.Grammar.{Command}
-use Rattle.grammar.specs.Place.{Place}
+use Rattle.command_grammar.specs.Parsed.{Parsed}
+use Rattle.command_grammar.specs.Grammar.{Command}
+use Rattle.command_grammar.specs.LinePlace.{LinePlace}
 use Rattle.command.specs.Condensed.{condensed, TooLong}
-use Rattle.command.specs.declared.Condensing.{Condensing}
-use Rattle.command.specs.declared.Condensing.the-variants as C
+use Rattle.command.specs.declared.csi1.Condensing.{Condensing}
+use Rattle.command.specs.declared.csi1.Condensing.the-variants as C
 
 -- the code, and the number: "Success returns the condensed length", 50 "with the place"
 abbrev pub condensingAnswer : Condensing → Answer
@@ -25,7 +25,7 @@ pub data Csi1 (line buffer : List ℕ) : Condensing → List ℕ → Type 0 wher
   -- "52, buffer shorter than the condensed line"
   short : (TooLong line → ⊥) → length buffer < length (condensed line) → Csi1 line buffer C.NoRoom buffer
   -- "50, not in the grammar, with the place"
-  wrong : (TooLong line → ⊥) → length (condensed line) ≤ length buffer → {place : ℕ} → Place (condensed line) place
+  wrong : (TooLong line → ⊥) → length (condensed line) ≤ length buffer → {place : ℕ} → LinePlace (condensed line) place
       → Csi1 line buffer (C.Wrong place) buffer
   -- "writes the rest to the start of a lent buffer, whose remainder stays"
   accepted : (TooLong line → ⊥) → length (condensed line) ≤ length buffer → {said : Parsed} → Command (condensed line) said

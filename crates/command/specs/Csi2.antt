@@ -5,15 +5,15 @@ use mathlib.Core.Path.{_≡_}
 use mathlib.Core.List.{List, _++_}
 use mathlib.Core.Option.{none, some}
 use lib.ListN.{length, drop}
-use Rattle.grammar.specs.Parsed.{Specification}
-use Rattle.grammar.specs.Reading.{Reading, Reads, sideOf, specificationAt}
-use Rattle.grammar.specs.Place.{Place}
-use Rattle.parts.specs.Numbers.{numbersOf}
+use Rattle.command_grammar.specs.Parsed.{Specification}
+use Rattle.command_grammar.specs.Reading.{Reading, Reads, sideOf, specificationAt}
+use Rattle.command_grammar.specs.LinePlace.{LinePlace}
+use Rattle.command_parts.specs.Numbers.{numbersOf}
 use Rattle.command.specs.Condensed.{lineLimit}
-use Rattle.switches.specs.Encoded.{encoded}
-use Rattle.command.specs.declared.SpecificationAnswer.{SpecificationAnswer}
-use Rattle.command.specs.declared.Asking.{Asking}
-use Rattle.command.specs.declared.Asking.the-variants as A
+use Rattle.command_switches.specs.Encoded.{encoded}
+use Rattle.command.specs.declared.csi2.SpecificationAnswer.{SpecificationAnswer}
+use Rattle.command.specs.declared.csi2.Asking.{Asking}
+use Rattle.command.specs.declared.csi2.Asking.the-variants as A
 
 -- a refusal: its code, the place with 50, "any other number in the answer 0"
 abbrev pub refusal : ℕ → ℕ → SpecificationAnswer
@@ -57,7 +57,7 @@ pub data Csi2 (line : List ℕ) (side k : ℕ) (buffer : List ℕ) : Asking → 
   -- "53, over 128"
   long : lineLimit < length line → Csi2 line side k buffer A.TooLong buffer
   -- "50"
-  wrong : length line ≤ lineLimit → {place : ℕ} → Place line place → Csi2 line side k buffer (A.Wrong place) buffer
+  wrong : length line ≤ lineLimit → {place : ℕ} → LinePlace line place → Csi2 line side k buffer (A.Wrong place) buffer
   -- "51, no such side or specification"
   missing : length line ≤ lineLimit → {reading : Reading} → Reads line reading → specificationAt k (sideOf side reading) ≡ none
       → Csi2 line side k buffer A.Missing buffer

@@ -84,7 +84,8 @@ module _ (img : List ℕ) (g : Geometry) where
     marks-start = ap (markAll img g map 0) whole
 
   module _ (map : List ℕ) (e end : ℕ) (below : e < end) where
-    pub scan-step : entryTest img g map e ≡ true → (map′ : List ℕ) → map′ ≡ mark map (blocksAt img g e) → scanTest img g map e (end - e) ≡ scanTest img g map′ (e + 1) (end - (e + 1))
+    pub scan-step : entryTest img g map e ≡ true → (map′ : List ℕ) → map′ ≡ mark map (blocksAt img g e)
+        → scanTest img g map e (end - e) ≡ scanTest img g map′ (e + 1) (end - (e + 1))
     unfolding scanTest
     scan-step right map′ is = ap (scanTest img g map e) (left-of e end below) ∙ simp (right, is)
 

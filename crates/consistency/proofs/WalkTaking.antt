@@ -89,7 +89,8 @@ takes-once low end map (x ∷ xs) long flags test b =
     ]
 
 -- and the other way: blocks in range, each named at most once and not taken before, can be taken
-pub takes-all : (low end : ℕ) (map bs : List ℕ) → end ≤ length map → ((b : ℕ) → 0 < count b bs → (low ≤ b) × (b < end)) → ((b : ℕ) → getD map b 0 + count b bs ≤ 1) → takes low end map bs ≡ true
+pub takes-all : (low end : ℕ) (map bs : List ℕ) → end ≤ length map → ((b : ℕ) → 0 < count b bs → (low ≤ b) × (b < end))
+    → ((b : ℕ) → getD map b 0 + count b bs ≤ 1) → takes low end map bs ≡ true
 unfolding takes
 takes-all low end map [] long range once = refl
 takes-all low end map (x ∷ xs) long range once =

@@ -28,7 +28,8 @@ created-at img x g e measures number =
 
 module _ {img : List ℕ} {key : Key} {caller protect : ℕ} {wrong : Bool} (ready : Creatable img key caller protect wrong) where
   -- and there it can be written
-  pub writable : ((i : ℕ) → getD img i 0 < 256) → (shape : Shape) → shape .kind < 65536 → shape .first .0 < 65536 → shape .length < 65536 → shape .last .0 < 65536 → shape .writer < 65536
+  pub writable : ((i : ℕ) → getD img i 0 < 256) → (shape : Shape) → shape .kind < 65536 → shape .first .0 < 65536 → shape .length < 65536 → shape .last .0 < 65536
+      → shape .writer < 65536
       → WordFields (newFile key protect shape)
   writable bytes shape kind first length last writer =
       let words = legal-words key (ready .legal) in

@@ -24,7 +24,8 @@ used-uic img g e header (inl empty) used is = used empty
 used-uic img g e header (inr rules) used is = header .uics .some (4 + rules .uic .at) (omega arith) (omega (arith, rules .uic .within)) (rules .uic .is ∙ is)
 
 -- an entry like one in use is in use
-pub alike-used : (img : List ℕ) (g : Geometry) (e f : ℕ) → RightHeader img → RightEntry img g e → (Empty img g e → ⊥) → SameKey (keyIn (entryOf img g e)) (keyIn (entryOf img g f)) → Empty img g f → ⊥
+pub alike-used : (img : List ℕ) (g : Geometry) (e f : ℕ) → RightHeader img → RightEntry img g e → (Empty img g e → ⊥)
+    → SameKey (keyIn (entryOf img g e)) (keyIn (entryOf img g f)) → Empty img g f → ⊥
 alike-used img g e f header right used alike empty = used-uic img g e header right used (alike .uic ∙ empty-uic img g f empty)
 
 -- "used entries .. differ in name, extension or UIC", whichever of the two stands first

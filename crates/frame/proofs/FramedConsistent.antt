@@ -62,7 +62,8 @@ module _
   right-x : (e : ℕ) → e < slots g → Only x e → RightEntry img′ g e
   right-x e inside is = subst (RightEntry img′ g) (sym is) right
 
-  unlike-named : (z : ℕ) → z < slots g → Only x z → (e : ℕ) → e < slots g → (e ≡ z → ⊥) → (Empty img′ g e → ⊥) → SameKey (keyIn (entryOf img′ g e)) (keyIn (entryOf img′ g z)) → ⊥
+  unlike-named : (z : ℕ) → z < slots g → Only x z → (e : ℕ) → e < slots g → (e ≡ z → ⊥) → (Empty img′ g e → ⊥)
+      → SameKey (keyIn (entryOf img′ g e)) (keyIn (entryOf img′ g z)) → ⊥
   unlike-named z inside is e inside₂ other used alike =
       unlike-x distinct e inside₂ (λ same. other (same ∙ sym is)) used (subst (λ i. SameKey (keyIn (entryOf img′ g e)) (keyIn (entryOf img′ g i))) is alike)
 
@@ -103,7 +104,8 @@ module _
       unlike img g stated consistent e x inside within other (λ none. used (empty-framed stated consistent framed e inside (neither other not) .0 none))
       (subst (λ z. SameKey (keyIn z) (keyIn (entryOf img g x))) (entry-framed stated consistent framed e inside (neither other not)) (same-through alike same))
 
-  unlike-two : (z : ℕ) → z < slots g → Either x y z → (e : ℕ) → e < slots g → (e ≡ z → ⊥) → (Empty img′ g e → ⊥) → SameKey (keyIn (entryOf img′ g e)) (keyIn (entryOf img′ g z)) → ⊥
+  unlike-two : (z : ℕ) → z < slots g → Either x y z → (e : ℕ) → e < slots g → (e ≡ z → ⊥) → (Empty img′ g e → ⊥)
+      → SameKey (keyIn (entryOf img′ g e)) (keyIn (entryOf img′ g z)) → ⊥
   unlike-two z inside (inl is) e inside₂ other used alike =
       unlike-first e inside₂ (λ same-number. other (same-number ∙ sym is)) used (subst (λ i. SameKey (keyIn (entryOf img′ g e)) (keyIn (entryOf img′ g i))) is alike) (ℕ-discrete e y)
   unlike-two z inside (inr is) e inside₂ other used alike =

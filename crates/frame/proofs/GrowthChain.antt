@@ -53,7 +53,8 @@ module _
     (once : count final blocks ≤ 1)
     (agree : (x : ℕ) → 0 < count x blocks → (x ≡ final → ⊥) → f′ x ≡ f x)
     (joint : 0 < size → f′ final ≡ first₂) where
-  last-two : (k : ℕ) → size₂ ≡ k → (other last′ : ℕ) → (size₂ ≡ 0 → last′ ≡ other) → (0 < size₂ → last′ ≡ final₂) → lastOf f′ other size₂ first₂ ≡ last′
+  last-two : (k : ℕ) → size₂ ≡ k → (other last′ : ℕ) → (size₂ ≡ 0 → last′ ≡ other) → (0 < size₂ → last′ ≡ final₂)
+      → lastOf f′ other size₂ first₂ ≡ last′
   last-two zero is other last′ ended going = last-none f′ other size₂ first₂ is ∙ sym (ended is)
   last-two (suc k) is other last′ ended going = last-any f′ other 0 size₂ first₂ (omega arith) ∙ walked₂ .last ∙ sym (going (omega arith))
 
@@ -91,7 +92,8 @@ module _
       (subst (λ (b : ℕ). EndedChain f′ b (size + size₂) last′ ([] ++ blocks₂)) (sym begins)
       (subst (λ (n : ℕ). EndedChain f′ first₂ n last′ ([] ++ blocks₂)) (sym sum) made))
 
-  pub ended-join : (first′ last′ : ℕ) → (0 < size → first′ ≡ first) → (size ≡ 0 → first′ ≡ first₂) → (size₂ ≡ 0 → last′ ≡ final) → (0 < size₂ → last′ ≡ final₂)
+  pub ended-join : (first′ last′ : ℕ) → (0 < size → first′ ≡ first) → (size ≡ 0 → first′ ≡ first₂) → (size₂ ≡ 0 → last′ ≡ final)
+      → (0 < size₂ → last′ ≡ final₂)
       → EndedChain f′ first′ (size + size₂) last′ (blocks ++ blocks₂)
   ended-join first′ last′ starts begins ended going = by size refl
     where

@@ -74,7 +74,8 @@ module _
   grown-right = resized-right (grown .resized) right linked walked-grown (λ uic. listed-framed stated consistent grown-framed uic .0) bodies
 
   pub grown-consistent : Consistent img′
-  grown-consistent = consistent-one stated consistent grown-framed within grown-right (known (resized-alike (grown .resized))) (λ z. single z (ℕ-discrete z b)) (λ z some. own z some (ℕ-discrete z b))
+  grown-consistent = consistent-one stated consistent grown-framed within grown-right (known (resized-alike (grown .resized))) (λ z. single z (ℕ-discrete z b))
+      (λ z some. own z some (ℕ-discrete z b))
     where
       single : (z : ℕ) → Dec (z ≡ b) → count z (blocksAt img′ g x) ≤ 1
       single z (yes is) = omega (arith, count-grown z, count-same z b [] is, count-nil z, not-held, ap (λ (i : ℕ). count i (blocksAt img g x)) is)

@@ -71,7 +71,8 @@ total-two f i j e (suc k) apart low high low₂ high₂ =
     ]
 
 -- one summand exchanged, and two
-pub total-swap : (f f′ : ℕ → ℕ) (j e k : ℕ) → ((i : ℕ) → e ≤ i → i < e + k → (i ≡ j → ⊥) → f′ i ≡ f i) → e ≤ j → j < e + k → total f′ e k + f j ≡ total f e k + f′ j
+pub total-swap : (f f′ : ℕ → ℕ) (j e k : ℕ) → ((i : ℕ) → e ≤ i → i < e + k → (i ≡ j → ⊥) → f′ i ≡ f i) → e ≤ j → j < e + k
+    → total f′ e k + f j ≡ total f e k + f′ j
 unfolding total
 total-swap f f′ j e zero same low high = absurd (omega arith)
 total-swap f f′ j e (suc k) same low high =

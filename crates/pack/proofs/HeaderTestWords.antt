@@ -178,7 +178,8 @@ module _ (img : List ℕ) (from k : ℕ) (some : 0 < k) where
   unfolding distinct
   distinct-again word is never t = ap (distinct img from) (down k some) ∙ simp (ne-eqb _ 0 never, rw is at t)
 
-  pub distinct-step : (word : ℕ) → word ≡ wordAt img from → (wordAt img from ≡ 0 → ⊥) → among img word (from + 1) (k - 1) ≡ false → distinct img from k ≡ distinct img (from + 1) (k - 1)
+  pub distinct-step : (word : ℕ) → word ≡ wordAt img from → (wordAt img from ≡ 0 → ⊥) → among img word (from + 1) (k - 1) ≡ false
+      → distinct img from k ≡ distinct img (from + 1) (k - 1)
   unfolding distinct
   distinct-step word is never t = ap (distinct img from) (down k some) ∙ simp (ne-eqb _ 0 never, rw is at t)
 

@@ -43,7 +43,8 @@ copy-end s t p at i most end is =
 pub put-part : (s v : List ℕ) (at end : ℕ) → end ≡ at + length v → end ≤ length s → Put s (putMid at (end - at) s v) at end v
 put-part s v at end is inside =
     record {
-      text = ap (λ (l : List ℕ). take at s ++ (v ++ l)) (post-is at end s (omega arith)) ∙ rw is (sym (append-assoc (take at s) v (drop (at + length v) s)) ∙ sym (sets-eq v s at (omega arith)));
+      text = ap (λ (l : List ℕ). take at s ++ (v ++ l)) (post-is at end s (omega arith))
+          ∙ rw is (sym (append-assoc (take at s) v (drop (at + length v) s)) ∙ sym (sets-eq v s at (omega arith)));
       behind = is;
     }
 

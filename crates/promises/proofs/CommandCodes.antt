@@ -7,15 +7,15 @@ use mathlib.Core.Option.{Option, none, some}
 use native.Mathlib.Omega.{arith}
 use lib.ListN.{length}
 use Rattle.answers.specs.declared.Answer.{Answer}
-use Rattle.grammar.specs.Parsed.{Parsed, Specification}
-use Rattle.grammar.specs.Grammar.{Command}
-use Rattle.grammar.specs.Reading.{Reading, Reads, reads, sideOf, specificationAt}
-use Rattle.grammar.specs.Place.{Wrong, Place}
-use Rattle.grammar.proofs.Theorems.{reads-one}
-use Rattle.switches.specs.Encoded.{encoded}
-use Rattle.command.specs.declared.Condensing.{Condensing}
-use Rattle.command.specs.declared.Asking.{Asking}
-use Rattle.command.specs.declared.SpecificationAnswer.{SpecificationAnswer}
+use Rattle.command_grammar.specs.Parsed.{Parsed, Specification}
+use Rattle.command_grammar.specs.Grammar.{Command}
+use Rattle.command_grammar.specs.Reading.{Reading, Reads, reads, sideOf, specificationAt}
+use Rattle.command_grammar.specs.LinePlace.{Wrong, LinePlace}
+use Rattle.command_grammar.proofs.GrammarOne.{reads-one}
+use Rattle.command_switches.specs.Encoded.{encoded}
+use Rattle.command.specs.declared.csi1.Condensing.{Condensing}
+use Rattle.command.specs.declared.csi2.Asking.{Asking}
+use Rattle.command.specs.declared.csi2.SpecificationAnswer.{SpecificationAnswer}
 use Rattle.command.specs.Condensed.{condensed}
 use Rattle.command.specs.Csi1.{condensingAnswer, Csi1, Csi1Answered}
 use Rattle.command.specs.Csi1 as First
@@ -112,7 +112,7 @@ module _ (line : List ℕ) (side k : ℕ) (buffer : List ℕ) where
   csi2-kept answer after (Second.Csi2Answered.answered (Second.Csi2.given fits read is room)) refused = absurd (refused refl)
 
   -- 3.4 for CSI2
-  pub csi2-place : (answer : SpecificationAnswer) (after : List ℕ) → Csi2Answered line side k buffer answer after → answer .code ≡ 0o50 → Place line (answer .place)
+  pub csi2-place : (answer : SpecificationAnswer) (after : List ℕ) → Csi2Answered line side k buffer answer after → answer .code ≡ 0o50 → LinePlace line (answer .place)
   csi2-place answer after (Second.Csi2Answered.answered (Second.Csi2.long over)) code = absurd (omega arith)
   csi2-place answer after (Second.Csi2Answered.answered (Second.Csi2.wrong fits at)) code = at
   csi2-place answer after (Second.Csi2Answered.answered (Second.Csi2.missing fits read is)) code = absurd (omega arith)

@@ -5,19 +5,21 @@ use mathlib.Core.Logic.{_↔_}
 use mathlib.Core.List.{List}
 use lib.ListN.{length, take}
 use Rattle.answers.specs.declared.Answer.{Answer}
-use Rattle.grammar.specs.Parsed.{Parsed}
-use Rattle.grammar.specs.Grammar.{Command}
-use Rattle.grammar.specs.Reading.{Reading, Reads, sideOf}
-use Rattle.grammar.specs.Place.{Viable, Place}
-use Rattle.grammar.proofs.Theorems.{reads-one, place-one, viable-iff, end-iff}
+use Rattle.command_grammar.specs.Parsed.{Parsed}
+use Rattle.command_grammar.specs.Grammar.{Command}
+use Rattle.command_grammar.specs.Reading.{Reading, Reads, sideOf}
+use Rattle.command_grammar.specs.LinePlace.{Viable, LinePlace}
+use Rattle.command_grammar.proofs.GrammarOne.{reads-one}
+use Rattle.command_grammar.proofs.LinePlace.{place-one, viable-iff, end-iff}
 use Rattle.command.specs.Condensed.{condensed, TooLong}
 use Rattle.command.specs.Csi1.{Csi1Answered}
 use Rattle.command.specs.Csi2.{Csi2Answered}
-use Rattle.command.specs.declared.SpecificationAnswer.{SpecificationAnswer}
-use Rattle.command.specs.Asked.{Reply, Asked, KnownUpTo51, knownOf}
-use Rattle.command.proofs.Only.{csi1-answered-one, csi2-answered-one}
-use Rattle.command.proofs.Causes.{csi1-accepted-iff, csi1-refused-iff}
-use Rattle.command.proofs.Together.{csi1-then-side}
+use Rattle.command.specs.declared.csi2.SpecificationAnswer.{SpecificationAnswer}
+use Rattle.command.specs.Known.{Reply, Replied, KnownUpTo51, knownOf}
+use Rattle.command.proofs.Csi1Only.{csi1-answered-one}
+use Rattle.command.proofs.Csi2Only.{csi2-answered-one}
+use Rattle.command.proofs.Csi1Causes.{csi1-accepted-iff, csi1-refused-iff}
+use Rattle.command.proofs.Csi1Then.{csi1-then-side}
 
 -- 3.1 "For any command line within the length limits, with room lent for the result, the line is accepted exactly when the grammar writes it
 -- with blanks and fill characters removed."
@@ -32,22 +34,22 @@ line-reading = reads-one
 -- 3.3 "Asking for each side's specifications by place yields that reading, all of it and no more."
 pub line-asked : (line buffer : List ℕ) (answer : Answer) (after : List ℕ) → Csi1Answered line buffer answer after → answer .code ≡ 0
     → (reading : Reading) × Reads (condensed line) reading
-    × ((side : ℕ) (replies : ℕ → Reply) → Asked (take (answer .number) after) side replies → KnownUpTo51 replies 0 (knownOf (sideOf side reading)))
+    × ((side : ℕ) (replies : ℕ → Reply) → Replied (take (answer .number) after) side replies → KnownUpTo51 replies 0 (knownOf (sideOf side reading)))
 line-asked = csi1-then-side
 
 -- 3.4 "A refused line is answered with the place, in what remains, of the first character with which no command could go on, or with its end if
 -- it only stops too soon."
 pub line-refused : (line buffer : List ℕ) (answer : Answer) (after : List ℕ) → (TooLong line → ⊥) → length (condensed line) ≤ length buffer
-    → Csi1Answered line buffer answer after → answer .code ≡ 0o50 ↔ Place (condensed line) (answer .number)
+    → Csi1Answered line buffer answer after → answer .code ≡ 0o50 ↔ LinePlace (condensed line) (answer .number)
 line-refused = csi1-refused-iff
 
-pub place-single : (line : List ℕ) (p q : ℕ) → Place line p → Place line q → p ≡ q
+pub place-single : (line : List ℕ) (p q : ℕ) → LinePlace line p → LinePlace line q → p ≡ q
 place-single = place-one
 
-pub place-viable : (line : List ℕ) (p : ℕ) → Place line p → (count : ℕ) → count ≤ length line → Viable (take count line) ↔ count ≤ p
+pub place-viable : (line : List ℕ) (p : ℕ) → LinePlace line p → (count : ℕ) → count ≤ length line → Viable (take count line) ↔ count ≤ p
 place-viable = viable-iff
 
-pub place-end : (line : List ℕ) (p : ℕ) → Place line p → p ≡ length line ↔ Viable line
+pub place-end : (line : List ℕ) (p : ℕ) → LinePlace line p → p ≡ length line ↔ Viable line
 place-end = end-iff
 
 -- for given inputs one answer and one final buffer

@@ -11,11 +11,11 @@ use Rattle.numerals.specs.Digits.{valueOf, numberOf, digitsOf}
 use Rattle.numerals.specs.Decimal.{d2bin, bin2d}
 use Rattle.numerals.specs.Octal.{o2bin, bin2o}
 use Rattle.asking.specs.Rights.{may, inField}
-use Rattle.cursor.specs.Words.{filledWord}
-use Rattle.grammar.specs.Reading.{reads, kept, sideOf, specificationAt}
-use Rattle.grammar.specs.Reader.{readLine}
-use Rattle.grammar.proofs.Lines.{said-by, placed-by}
-use Rattle.parts.specs.Numbers.{numbersOf}
+use Rattle.command_cursor.specs.FilledWord.{filledWord}
+use Rattle.command_grammar.specs.Reading.{reads, kept, sideOf, specificationAt}
+use Rattle.command_grammar.specs.Reader.{readLine}
+use Rattle.command_grammar.proofs.ReaderLines.{said-by, placed-by}
+use Rattle.command_parts.specs.Numbers.{numbersOf}
 use Rattle.promises.specs.Examples.{Examples, gives}
 
 pub examples : Examples

@@ -46,15 +46,15 @@ use Rattle.creation.proofs.FormatRows.{format-iff}
 use Rattle.creation.proofs.FormatEffect.{format-consistent, format-free}
 use Rattle.transfer.specs.LinkedRead.{linkedRead}
 use Rattle.adding.specs.LinkedAdd.{linkedAdd}
-use Rattle.grammar.specs.Parsed.{Parsed}
-use Rattle.grammar.specs.Grammar.{Command}
-use Rattle.grammar.specs.Reading.{Reading, Reads, sideOf}
-use Rattle.grammar.specs.Place.{Viable, Place}
-use Rattle.command.specs.declared.SpecificationAnswer.{SpecificationAnswer}
+use Rattle.command_grammar.specs.Parsed.{Parsed}
+use Rattle.command_grammar.specs.Grammar.{Command}
+use Rattle.command_grammar.specs.Reading.{Reading, Reads, sideOf}
+use Rattle.command_grammar.specs.LinePlace.{Viable, LinePlace}
+use Rattle.command.specs.declared.csi2.SpecificationAnswer.{SpecificationAnswer}
 use Rattle.command.specs.Condensed.{condensed, TooLong}
 use Rattle.command.specs.Csi1.{Csi1Answered}
 use Rattle.command.specs.Csi2.{Csi2Answered}
-use Rattle.command.specs.Asked.{Reply, Asked, KnownUpTo51, knownOf}
+use Rattle.command.specs.Known.{Reply, Replied, KnownUpTo51, knownOf}
 use Rattle.requests.specs.Request.{Request, outcome, Names, bufferLent, numbersAnswered}
 use Rattle.requests.specs.Contract.{Meets}
 use Rattle.requests.proofs.RequestConsistent
@@ -245,17 +245,17 @@ line-reading = Commands.line-reading
 -- 3.3 "Asking for each side's specifications by place yields that reading, all of it and no more."
 pub line-asked : (line buffer : List ℕ) (answer : Answer) (after : List ℕ) → Csi1Answered line buffer answer after → answer .code ≡ 0
     → (reading : Reading) × Reads (condensed line) reading
-    × ((side : ℕ) (replies : ℕ → Reply) → Asked (take (answer .number) after) side replies → KnownUpTo51 replies 0 (knownOf (sideOf side reading)))
+    × ((side : ℕ) (replies : ℕ → Reply) → Replied (take (answer .number) after) side replies → KnownUpTo51 replies 0 (knownOf (sideOf side reading)))
 line-asked = Commands.line-asked
 
 -- 3.4 "A refused line is answered with the place, in what remains, of the first character with which no command could go on, or with its end if
 -- it only stops too soon."
 pub line-refused : (line buffer : List ℕ) (answer : Answer) (after : List ℕ) → (TooLong line → ⊥) → length (condensed line) ≤ length buffer
-    → Csi1Answered line buffer answer after → answer .code ≡ 0o50 ↔ Place (condensed line) (answer .number)
+    → Csi1Answered line buffer answer after → answer .code ≡ 0o50 ↔ LinePlace (condensed line) (answer .number)
 line-refused = Commands.line-refused
 
-pub place-viable : (line : List ℕ) (p : ℕ) → Place line p → (count : ℕ) → count ≤ length line → Viable (take count line) ↔ count ≤ p
+pub place-viable : (line : List ℕ) (p : ℕ) → LinePlace line p → (count : ℕ) → count ≤ length line → Viable (take count line) ↔ count ≤ p
 place-viable = Commands.place-viable
 
-pub place-end : (line : List ℕ) (p : ℕ) → Place line p → p ≡ length line ↔ Viable line
+pub place-end : (line : List ℕ) (p : ℕ) → LinePlace line p → p ≡ length line ↔ Viable line
 place-end = Commands.place-end

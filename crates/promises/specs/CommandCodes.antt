@@ -4,10 +4,10 @@ use mathlib.Core.Path.{_≡_}
 use mathlib.Core.List.{List, [], _∷_}
 use mathlib.Core.Option.{none, some}
 use lib.ListN.{length}
-use Rattle.grammar.specs.Parsed.{Specification}
-use Rattle.grammar.specs.Reading.{Reading, Reads, sideOf, specificationAt}
-use Rattle.grammar.specs.Place.{Wrong}
-use Rattle.switches.specs.Encoded.{encoded}
+use Rattle.command_grammar.specs.Parsed.{Specification}
+use Rattle.command_grammar.specs.Reading.{Reading, Reads, sideOf, specificationAt}
+use Rattle.command_grammar.specs.LinePlace.{Wrong}
+use Rattle.command_switches.specs.Encoded.{encoded}
 use Rattle.command.specs.Condensed.{condensed, lineLimit, TooLong}
 use Rattle.promises.specs.GivenWhen.{Case, _when_}
 

@@ -15,11 +15,11 @@ use Rattle.numerals.specs.Octal.{o2bin, bin2o}
 use Rattle.words.specs.Text.{bytes}
 use Rattle.asking.specs.declared.Right.the-variants.{Read, Write}
 use Rattle.asking.specs.Rights.{may}
-use Rattle.grammar.specs.Parsed.{Specification}
-use Rattle.grammar.specs.Reading.{Reading, Reads, sideOf, specificationAt}
-use Rattle.grammar.specs.Place.{Place}
-use Rattle.parts.specs.declared.Numbers.{Numbers}
-use Rattle.parts.specs.Numbers.{numbersOf}
+use Rattle.command_grammar.specs.Parsed.{Specification}
+use Rattle.command_grammar.specs.Reading.{Reading, Reads, sideOf, specificationAt}
+use Rattle.command_grammar.specs.LinePlace.{LinePlace}
+use Rattle.command_parts.specs.declared.Numbers.{Numbers}
+use Rattle.command_parts.specs.Numbers.{numbersOf}
 
 -- a text converts to a number, and the number to the text, in a buffer of that size whatever it held
 pub record Converts (toNumber : List ℕ → Answer) (toCharacters : ℕ → List ℕ → Converted) (size : ℕ) (text : String) (number : ℕ) : Type 0 where
@@ -63,9 +63,9 @@ pub record Examples : Type 0 where
   pub p8 : Gives (bytes "DT1:FREQ.DAT<PR:") 0 0
       (record { present = 7; device = 7200; unit = 1; name1 = 10325; name2 = 27200; extension = 6460; group = 0; user = 0; switches = 0 })
   -- P9 `A<B<C` place 3. P10 `ABCDEFG` 6. P11 `DT8:` 3. P12 `/S:` 3.
-  pub p9 : Place (bytes "A<B<C") 3
-  pub p10 : Place (bytes "ABCDEFG") 6
-  pub p11 : Place (bytes "DT8:") 3
-  pub p12 : Place (bytes "/S:") 3
+  pub p9 : LinePlace (bytes "A<B<C") 3
+  pub p10 : LinePlace (bytes "ABCDEFG") 6
+  pub p11 : LinePlace (bytes "DT8:") 3
+  pub p12 : LinePlace (bytes "/S:") 3
   -- P13 protect 3, owner [23,10]: [12,4] may read, not write.
   pub p13 : (may Read (uicWord 0o12 0o4) (uicWord 0o23 0o10) 3 ≡ true) × (may Write (uicWord 0o12 0o4) (uicWord 0o23 0o10) 3 ≡ false)

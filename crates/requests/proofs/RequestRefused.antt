@@ -25,7 +25,8 @@ use Rattle.transfer.proofs.BlockOutput.{block-out-refused}
 use Rattle.transfer.proofs.LinkedReadStage.{linked-read-refused}
 use Rattle.appending.proofs.AppndEffect.{appnd-refused}
 use Rattle.adding.proofs.LinkedAddEffect.{add-refused}
-use Rattle.requests.specs.Request.{Request, outcome, bufferLent, numbersAnswered, FORMAT, ALLOC, OPENO, OPEN, CLOSE, DELET, RENAM, APPND, LOOK, KEEP, BLOCK-INPUT, BLOCK-OUTPUT, LINKED-READ, LINKED-ADD, OWNER}
+use Rattle.requests.specs.Request.{Request, outcome, bufferLent, numbersAnswered, FORMAT, ALLOC, OPENO, OPEN, CLOSE}
+use Rattle.requests.specs.Request.{DELET, RENAM, APPND, LOOK, KEEP, BLOCK-INPUT, BLOCK-OUTPUT, LINKED-READ, LINKED-ADD, OWNER}
 
 look-unchanged : (img : List ℕ) (key : Key) → (look img key .code ≡ 0 → ⊥) → Unchanged (look img key) (replicate 6 0) img []
 unfolding look

@@ -9,6 +9,7 @@ use lib.Dec.{eqb, leb}
 use borrow.Author.Tests.{lt-ltb, le-ltb, le-leb, lt-leb, leb-false}
 use Rattle.answers.specs.Refusals.{row, firstOf}
 use Rattle.answers.proofs.Refusals.{refuse, pass, clear, none-given}
+use Rattle.pack.specs.Form.{mostBlocks}
 use Rattle.pack.specs.declared.Geometry.{Geometry}
 use Rattle.pack.specs.declared.Entry.{Entry}
 use Rattle.pack.specs.declared.Key.{Key}
@@ -54,7 +55,7 @@ pub record BlockAsked (img : List ℕ) (key : Key) (wrong : Bool) (g : Geometry)
   pub held : 0 < count (blockAtPlace x place) (blocksOf img g x)
   pub body : g .bodies .0 ≤ blockAtPlace x place
   pub below : blockAtPlace x place < g .blocks
-  pub few : g .blocks ≤ 1024
+  pub few : g .blocks ≤ mostBlocks
 
 pub block-asked : {img : List ℕ} {key : Key} {wrong : Bool} {caller : ℕ} {right : Right} {closed : Entry → Bool} {g : Geometry} {e : ℕ} {x : Entry} {place : ℕ}
     → Reached img key wrong caller right 2 closed g e x → place < x .length → BlockAsked img key wrong g e x place

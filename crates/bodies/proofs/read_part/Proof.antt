@@ -13,13 +13,31 @@ bytes-requires : tie.Need-bytes-requires
 bytes-requires c κs = search needs
 
 mul-start : tie.Need-mul-start
-mul-start c = let s = c .before .before .before .before .before in omega (arith, start-read (s .args .g) (s .args .b .0) (c .before .bytes .ensures), room-of _ _ (s .args .b .0) (s .pre .0) (s .pre .1 .0))
+mul-start c =
+    let s = c .before .before .before .before .before in
+    omega (arith, start-read (s .args .g) (s .args .b .0) (c .before .bytes .ensures), room-of _ _ (s .args .b .0) (s .pre .0) (s .pre .1 .0))
 
 add-start : tie.Need-add-start
-add-start c = let s = c .before .before .before .before .before in omega (arith, s .pre .1 .1, start-read (s .args .g) (s .args .b .0) (c .before .bytes .ensures), room-of _ _ (s .args .b .0) (s .pre .0) (s .pre .1 .0))
+add-start c =
+    let s = c .before .before .before .before .before in
+    omega (
+      arith,
+      s .pre .1 .1,
+      start-read (s .args .g) (s .args .b .0) (c .before .bytes .ensures),
+      room-of _ _ (s .args .b .0) (s .pre .0)
+          (s .pre .1 .0),
+    )
 
 add-end : tie.Need-add-end
-add-end c = let s = c .before .before .before .before .before in omega (arith, s .pre .1 .1, start-read (s .args .g) (s .args .b .0) (c .before .bytes .ensures), room-of _ _ (s .args .b .0) (s .pre .0) (s .pre .1 .0))
+add-end c =
+    let s = c .before .before .before .before .before in
+    omega (
+      arith,
+      s .pre .1 .1,
+      start-read (s .args .g) (s .args .b .0) (c .before .bytes .ensures),
+      room-of _ _ (s .args .b .0) (s .pre .0)
+          (s .pre .1 .0),
+    )
 
 sub-fill : tie.Need-sub-fill
 sub-fill c = search needs
@@ -28,7 +46,10 @@ part-fill-start : tie.Need-part-fill-start
 part-fill-start c = search needs
 
 part-fill-end : tie.Need-part-fill-end
-part-fill-end c = let s = c .before .before .before .before .before .before in omega (arith, s .pre .1 .1, start-read (s .args .g) (s .args .b .0) (c .before .before .bytes .ensures), room-of _ _ (s .args .b .0) (s .pre .0) (s .pre .1 .0))
+part-fill-end c =
+    let s = c .before .before .before .before .before .before in
+    let bytes = c .before .before .bytes in
+    omega (arith, s .pre .1 .1, start-read (s .args .g) (s .args .b .0) (bytes .ensures), room-of _ _ (s .args .b .0) (s .pre .0) (s .pre .1 .0))
 
 fill-requires : tie.Need-fill-requires
 fill-requires c κs = search needs

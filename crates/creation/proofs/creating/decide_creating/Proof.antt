@@ -25,7 +25,9 @@ same-length : tie.Need-same-length
 same-length c = search needs
 
 returns : tie.Need-returns
-returns c = (creating-40 _ _ _ _ _ (opened-bad _ (sym (c .before .before .before .before .open-pack .ensures .0) ∙ c .enum-told .given .1)), (c .before .before .before .before .open-pack .ensures .1))
+returns c =
+    let opened = c .before .before .before .before .open-pack in
+    (creating-40 _ _ _ _ _ (opened-bad _ (sym (opened .ensures .0) ∙ c .enum-told .given .1)), opened .ensures .1)
 
 is-legal-requires : tie.Need-is-legal-requires
 is-legal-requires c κs = search needs

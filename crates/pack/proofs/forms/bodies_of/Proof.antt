@@ -1,13 +1,13 @@
--- Rests on the definition of `bodiesOf`; the sum fits since the form bounds the blocks of contents.
+-- Rests on the definition of `bodiesOf`; the sum fits since `contents-most` bounds the blocks of contents of any form.
 use mathlib.Core.Path.{refl}
 use native.Mathlib.Omega.{arith}
-use Rattle.pack.specs.Form.{bodiesOf, mostContentsOf}
+use Rattle.pack.specs.Form.{bodiesOf}
+use Rattle.pack.proofs.FormBounds.{contents-most}
 use Rattle.pack.proofs.forms.bodies_of.Statement.{statement}
 use Rattle.pack.proofs.forms.bodies_of.Tie as tie
 
 add-t3 : tie.Need-add-t3
-unfolding mostContentsOf
-add-t3 c = omega arith
+add-t3 c = omega (arith, contents-most (c .args .form), c .pre)
 
 returns : tie.Need-returns
 unfolding bodiesOf

@@ -1,0 +1,58 @@
+-- The stages of CSI2: what each return answers.
+use Prim.Native.Nat.{ℕ, _≤_, _<_}
+use mathlib.Core.Path.{_≡_, sym, ap, _∙_}
+use mathlib.Core.List.{List}
+use mathlib.Core.Option.{none, some}
+use native.Mathlib.Omega.{arith}
+use lib.ListN.{length}
+use Rattle.command_cursor.specs.declared.Cursor.{Cursor}
+use Rattle.command_grammar.specs.Parsed.{Specification, Parsed}
+use Rattle.command_grammar.specs.Grammar.{Command}
+use Rattle.command_grammar.specs.Reading.{reads, sideOf, specificationAt}
+use Rattle.command_grammar.specs.Reader.{no, specification, from}
+use Rattle.command_grammar.proofs.ReaderLines.{said-by, placed-by}
+use Rattle.command_grammar.proofs.ReadingKept.{kept-at}
+use Rattle.command_sides.specs.Sought.{LocatedIn}
+use Rattle.command_sides.specs.Sought as S
+use Rattle.command_sides.specs.declared.Located.{Located}
+use Rattle.command_sides.specs.declared.Located.the-variants as L
+use Rattle.command.specs.Condensed.{lineLimit}
+use Rattle.command.specs.Csi2.{Csi2}
+use Rattle.command.specs.Csi2 as Two
+use Rattle.command.specs.GivenAt.{SpecificationGiven, GivenAt}
+use Rattle.command.specs.GivenAt as R
+use Rattle.command.specs.declared.csi2.Asking.{Asking}
+use Rattle.command.specs.declared.csi2.Asking.the-variants as A
+
+pub line-long : (line : List ℕ) (side k : ℕ) (buffer : List ℕ) → lineLimit < length line → Csi2 line side k buffer A.TooLong buffer
+line-long line side k buffer over = Two.Csi2.long over
+
+pub line-wrong : {line : List ℕ} {side k : ℕ} (buffer : List ℕ) {place : ℕ} {located : Located} → length line ≤ lineLimit
+    → LocatedIn line side k located → located ≡ L.Refused place → Csi2 line side k buffer (A.Wrong place) buffer
+line-wrong {line} buffer {place} few (S.LocatedIn.refused {place = found} is) same =
+    let z : found ≡ place = cc in
+    Two.Csi2.wrong few (placed-by line place (is ∙ ap no z))
+line-wrong buffer few (S.LocatedIn.missing is none-at) same = let z : _≡_ {A = ℕ} 0 1 = cc in absurd (omega arith)
+line-wrong buffer few (S.LocatedIn.located is some-at begins) same = let z : _≡_ {A = ℕ} 0 1 = cc in absurd (omega arith)
+
+pub none-there : {line : List ℕ} {side k : ℕ} (buffer : List ℕ) {located : Located} → length line ≤ lineLimit
+    → LocatedIn line side k located → located ≡ L.Missing → Csi2 line side k buffer A.Missing buffer
+none-there buffer few (S.LocatedIn.refused is) same = let z : _≡_ {A = ℕ} 0 1 = cc in absurd (omega arith)
+none-there {line} {side} {k} buffer few (S.LocatedIn.missing {said} {n} is none-at) same =
+    Two.Csi2.missing few (reads (said-by line said n is)) (kept-at side k said none none-at)
+none-there buffer few (S.LocatedIn.located is some-at begins) same = let z : _≡_ {A = ℕ} 0 1 = cc in absurd (omega arith)
+
+by-given : {line : List ℕ} {side k : ℕ} {buffer : List ℕ} (said : Parsed) (v : Specification) {answer : Asking} {after : List ℕ} → length line ≤ lineLimit
+    → Command line said → specificationAt k (sideOf side said) ≡ some v → SpecificationGiven v buffer answer after → Csi2 line side k buffer answer after
+by-given {side} {k} said v few saying is (R.SpecificationGiven.short less) = Two.Csi2.short few (reads saying) (kept-at side k said (some v) is) less
+by-given {side} {k} said v few saying is (R.SpecificationGiven.given room) = Two.Csi2.given few (reads saying) (kept-at side k said (some v) is) room
+
+pub one-there : {line : List ℕ} {side k : ℕ} {buffer : List ℕ} {start : Cursor} {located : Located} {answer : Asking} {after : List ℕ}
+    → length line ≤ lineLimit → LocatedIn line side k located → located ≡ L.At start → GivenAt line (start .at) buffer answer after
+    → Csi2 line side k buffer answer after
+one-there few (S.LocatedIn.refused is) same given = let z : _≡_ {A = ℕ} 0 1 = cc in absurd (omega arith)
+one-there few (S.LocatedIn.missing is none-at) same given = let z : _≡_ {A = ℕ} 0 1 = cc in absurd (omega arith)
+one-there {line} {start} few (S.LocatedIn.located {said} {n} {start = at} {end} {v} is some-at begins) same given =
+    let cursor : _≡_ {A = Cursor} (record { at = at }) start = cc in
+    let z : at ≡ start .at = ap (λ (c : Cursor). c .at) cursor in
+    by-given said v few (said-by line said n is) some-at (given .gives v end (ap (from specification line) (sym z) ∙ begins))

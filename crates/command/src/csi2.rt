@@ -1,0 +1,117 @@
+// CSI2: the numbers of one specification of a condensed line, and the bytes of its switches.
+ghost use mathlib.Core.Path.{_≡_};
+ghost use Prim.Native.Nat.{_≤_};
+ghost use lib.ListN.{length};
+ghost use Rattle.command.specs.Condensed.{lineLimit};
+ghost use Rattle.command.specs.Csi2.{refusal, askingAnswer, Csi2};
+ghost use Rattle.command.specs.GivenAt.{GivenAt};
+ghost use Rattle.command.specs.declared.csi2.Asking.the-variants.{Given};
+use crate::LINE_LIMIT;
+use command_cursor::Cursor;
+use command_parts::Numbers;
+use command_parts::PartsRead;
+use command_sides::Located;
+
+// What CSI2 answers: the numbers of a specification, or why it is refused.
+pub enum Asking {
+    Given(Numbers),
+    TooLong,
+    Wrong(usize),
+    Missing,
+    NoRoom,
+}
+
+// CSI2's answer in the numbers that a host sees: the code first, a refusal's other numbers 0 but for the place with 50.
+#[repr(C)]
+pub struct SpecificationAnswer {
+    pub code: usize,
+    pub place: usize,
+    pub present: usize,
+    pub device: usize,
+    pub unit: usize,
+    pub name1: usize,
+    pub name2: usize,
+    pub extension: usize,
+    pub group: usize,
+    pub user: usize,
+    pub switches: usize,
+}
+
+// The specification at the cursor. Where none stands nothing is promised of the answer: the line was read, so one does.
+fn give(line: &[u8], c: Cursor, buffer: &mut [u8]) -> Asking
+    requires { ⌜ length (now line) ≤ lineLimit ⌝ }
+    ensures { λ r. ⌜ GivenAt (now (line .entry)) (c .at) (now (buffer .entry)) r (now (buffer .exit)) ⌝ }
+{
+    let PartsRead::Read(found, _) = command_parts::read_parts(line, c) else {
+        return Asking::Missing;
+    };
+    let numbers = found.numbers;
+    if buffer.len() < 6 * numbers.switches + 4 * found.values {
+        return Asking::NoRoom;
+    }
+    command_switches::write_switches(line, found.start, buffer);
+    Asking::Given(numbers)
+}
+
+// "Order: 53, over 128; 50; 51, no such side or specification; 52, switch buffer too short."
+pub fn csi2(line: &[u8], side: usize, k: usize, buffer: &mut [u8]) -> Asking
+    ensures { λ r. ⌜ Csi2 (now (line .entry)) side k (now (buffer .entry)) r (now (buffer .exit)) ⌝ }
+{
+    if LINE_LIMIT < line.len() {
+        return Asking::TooLong;
+    }
+    let located = command_sides::read_line(line, side, k);
+    match located {
+        Located::Refused(place) => Asking::Wrong(place),
+        Located::Missing => Asking::Missing,
+        Located::At(start) => give(line, start, buffer),
+    }
+}
+
+fn refused(code: usize, place: usize) -> SpecificationAnswer
+    ensures { λ r. ⌜ r ≡ refusal code place ⌝ }
+{
+    SpecificationAnswer {
+        code,
+        place,
+        present: 0,
+        device: 0,
+        unit: 0,
+        name1: 0,
+        name2: 0,
+        extension: 0,
+        group: 0,
+        user: 0,
+        switches: 0,
+    }
+}
+
+fn given(numbers: Numbers) -> SpecificationAnswer
+    ensures { λ r. ⌜ r ≡ askingAnswer (Given numbers) ⌝ }
+{
+    SpecificationAnswer {
+        code: 0,
+        place: 0,
+        present: numbers.present,
+        device: numbers.device,
+        unit: numbers.unit,
+        name1: numbers.name1,
+        name2: numbers.name2,
+        extension: numbers.extension,
+        group: numbers.group,
+        user: numbers.user,
+        switches: numbers.switches,
+    }
+}
+
+pub fn asking_answer(answer: Asking) -> SpecificationAnswer
+    ensures { λ r. ⌜ r ≡ askingAnswer answer ⌝ }
+{
+    match answer {
+        Asking::Given(numbers) => given(numbers),
+        Asking::TooLong => refused(0o53, 0),
+        Asking::Wrong(place) => refused(0o50, place),
+        Asking::Missing => refused(0o51, 0),
+        Asking::NoRoom => refused(0o52, 0),
+    }
+}

@@ -1,0 +1,177 @@
+// A cursor over a command line: a value whose methods return the advanced cursor. And what stands between two places of a line: a number, a word, a name.
+pub mod characters;
+
+ghost use mathlib.Core.Path.{_≡_};
+ghost use Prim.Native.Nat.{_+_, _-_, _<_, _≤_};
+ghost use lib.ListN.{length, take, drop};
+ghost use Rattle.answers.specs.Missing.{orElse};
+ghost use Rattle.radix.specs.Characters.{codeOf};
+ghost use Rattle.radix.specs.Names.{isLetter, isLetterOrDigit};
+ghost use Rattle.command_grammar.specs.Grammar.{octal, All};
+ghost use Rattle.command_grammar.specs.Reading.{low8};
+ghost use Rattle.command_grammar.specs.Reader.{is, span, oneCharacter};
+ghost use Rattle.command_cursor.specs.Classes.{classOf};
+ghost use Rattle.command_cursor.specs.CursorAt.{partAt, characterAt};
+ghost use Rattle.command_cursor.specs.FilledWord.{filledWord, firstWord, secondWord};
+use radix::Code;
+use radix::Radix50;
+use radix::code_of;
+
+// The classes of characters that a cursor passes over.
+pub enum Class {
+    Letter,
+    Octal,
+    LetterOrDigit,
+}
+
+// A place of a line.
+pub struct Cursor {
+    pub at: usize,
+}
+
+// Where the cursor stands then, or the place of the refusal.
+pub enum Part {
+    Read(Cursor),
+    Refused(usize),
+}
+
+fn is_letter(character: u8) -> bool
+    ensures { λ r. ⌜ r ≡ isLetter character ⌝ }
+{
+    65 <= character && character <= 90
+}
+
+fn is_letter_or_digit(character: u8) -> bool
+    ensures { λ r. ⌜ r ≡ isLetterOrDigit character ⌝ }
+{
+    if is_letter(character) {
+        return true;
+    }
+    48 <= character && character <= 57
+}
+
+pub fn belongs(class: Class, character: u8) -> bool
+    ensures { λ r. ⌜ r ≡ classOf class character ⌝ }
+{
+    match class {
+        Class::Letter => is_letter(character),
+        Class::Octal => 48 <= character && character <= 55,
+        Class::LetterOrDigit => is_letter_or_digit(character),
+    }
+}
+
+impl Cursor {
+    // Behind the characters of a class that stand here, at most so many.
+    pub fn run(self, line: &[u8], class: Class, most: usize) -> Self
+        ensures { λ r. ⌜ r .at ≡ self .at + span (classOf class) most (drop (self .at) (now (line .entry))) ⌝ }
+    {
+        let mut i = self.at;
+        let mut left = most;
+        while 0 < left {
+            if line.len() <= i {
+                return Cursor { at: i };
+            }
+            if !belongs(class, line[i]) {
+                return Cursor { at: i };
+            }
+            i += 1;
+            left -= 1;
+        }
+        Cursor { at: i }
+    }
+
+    // Behind the character, if it stands here.
+    pub fn one(self, line: &[u8], character: u8) -> Part
+        ensures { λ r. ⌜ r ≡ partAt (self .at) (oneCharacter (is character) (drop (self .at) (now (line .entry)))) ⌝ }
+    {
+        let at = self.at;
+        if line.len() <= at {
+            return Part::Refused(at);
+        }
+        if line[at] == character {
+            Part::Read(Cursor { at: at + 1 })
+        } else {
+            Part::Refused(at)
+        }
+    }
+}
+
+fn digit(character: u8) -> usize
+    ensures { λ r. ⌜ r ≡ character - 48 ⌝ }
+{
+    if character < 48 {
+        0
+    } else {
+        (character - 48) as usize
+    }
+}
+
+// "of unit, group and user the low 8 bits are kept": those of the octal number that stands from one place to another, of any length.
+pub fn low_octal(line: &[u8], first: usize, end: usize) -> usize
+    requires { ⌜ (first ≤ end) × (end ≤ length (now line)) ⌝ }
+    ensures { λ r. ⌜ r ≡ low8 (octal (take (end - first) (drop first (now (line .entry))))) ⌝ }
+{
+    let mut number = 0;
+    let mut i = first;
+    while i < end {
+        number = (number * 8 + digit(line[i])) % 256;
+        i += 1;
+    }
+    number
+}
+
+// The code of the character at a place; that of a blank from the end on.
+fn code_at(line: &[u8], place: usize, end: usize) -> usize
+    requires { ⌜ end ≤ length (now line) ⌝ }
+    ensures { λ r. ⌜ r ≡ orElse 0 (codeOf (characterAt (now (line .entry)) place end)) ⌝ }
+    ensures { λ r. ⌜ r < 40 ⌝ }
+{
+    if end <= place {
+        return 0;
+    }
+    match code_of(line[place]) {
+        Code::Of(code) => code,
+        Code::Nothing => 0,
+    }
+}
+
+// The word of up to three letters and digits.
+pub fn word_of(line: &[u8], first: usize, end: usize) -> usize
+    requires { ⌜ (first ≤ end) × (end ≤ length (now line)) ⌝ }
+    requires { ⌜ end ≤ first + 3 ⌝ }
+    requires { ⌜ All isLetterOrDigit (take (end - first) (drop first (now line))) ⌝ }
+    ensures { λ r. ⌜ r ≡ filledWord (take (end - first) (drop first (now (line .entry)))) ⌝ }
+    ensures { λ r. ⌜ r < 65536 ⌝ }
+{
+    let a = code_at(line, first, end);
+    let b = code_at(line, first + 1, end);
+    let c = code_at(line, first + 2, end);
+    let word = Radix50::pack(a, b, c);
+    word.0
+}
+
+// The two words of a name.
+pub struct NameWords {
+    pub first: usize,
+    pub second: usize,
+}
+
+// The words of up to six letters and digits.
+pub fn name_words(line: &[u8], first: usize, end: usize) -> NameWords
+    requires { ⌜ (first ≤ end) × (end ≤ length (now line)) ⌝ }
+    requires { ⌜ end ≤ first + 6 ⌝ }
+    requires { ⌜ All isLetterOrDigit (take (end - first) (drop first (now line))) ⌝ }
+    ensures { λ r. ⌜ (r .first ≡ firstWord (take (end - first) (drop first (now (line .entry))))) × (r .second ≡ secondWord (take (end - first) (drop first (now (line .entry))))) ⌝ }
+    ensures { λ r. ⌜ (r .first < 65536) × (r .second < 65536) ⌝ }
+{
+    if end <= first + 3 {
+        return NameWords {
+            first: word_of(line, first, end),
+            second: Radix50::BLANK,
+        };
+    }
+    NameWords {
+        first: word_of(line, first, first + 3),
+        second: word_of(line, first + 3, end),
+    }
+}

@@ -1,0 +1,140 @@
+-- The values of a switch and the switch, as the code finds them.
+use Prim.Native.Nat.{ℕ, suc, _+_, _-_, _≤_, _<_}
+use mathlib.Core.Path.{_≡_, refl, sym, ap, _∙_}
+use mathlib.Core.List.{List, [], _∷_}
+use mathlib.Core.Bool.{Bool, true, false, cond}
+use native.Mathlib.Nat.{add-zero}
+use native.Mathlib.Omega.{arith}
+use lib.ListN.{length, take, drop, getD}
+use Rattle.radix.specs.Names.{isLetter, isLetterOrDigit}
+use Rattle.command_grammar.specs.LineCharacters.{colon, slash}
+use Rattle.command_grammar.specs.Parsed.{Switch}
+use Rattle.command_grammar.specs.Reader.{is, Res, ok, no, mapped, moved, from, seq, second, mkSwitch, many, word, span, oneCharacter, switchValue, switch}
+use Rattle.command_grammar.proofs.ReaderParts.{value-reads, value-first, is-out}
+use Rattle.command_grammar.proofs.ReaderPlaces.{from-seq, from-seq-no, from-many-missed, from-many-found}
+use Rattle.command_cursor.specs.CursorAt.{partAt}
+use Rattle.command_cursor.specs.declared.Cursor.{Cursor}
+use Rattle.command_cursor.specs.declared.Part.the-variants as P
+use Rattle.command_cursor.proofs.CursorAtSteps.{one-end, one-here, one-not}
+use Rattle.command_cursor.proofs.CursorAtRuns.{found, missed, found-place, run-up, run-within, run-read, run-short}
+use Rattle.command_parts.specs.Counted.{valuesOf, countedImage}
+use Rattle.command_parts.specs.declared.switch.Counted.the-variants as C
+
+abbrev values : List ℕ → Res (List (List ℕ))
+values = many (is colon) switchValue
+
+value-counted : (n : ℕ) (v : List ℕ) (r : Res (List (List ℕ))) → countedImage length (n + 1) r ≡ countedImage length n (mapped (_∷_ v) r)
+unfolding countedImage
+value-counted n v (ok vs end) = let q : n + 1 + length vs ≡ n + suc (length vs) = omega arith in rw q
+value-counted n v (no place) = refl
+
+module _ (s : List ℕ) (i n : ℕ) where
+  pub values-none : (p : ℕ) → partAt i (oneCharacter (is colon) (drop i s)) ≡ P.Refused p → C.Read n (record { at = i }) ≡ countedImage length n (from values s i)
+  unfolding countedImage
+  values-none p h = rw (from-many-missed colon switchValue s i p (missed colon s i p h), add-zero)
+
+  module _ (a : Cursor) (h : partAt i (oneCharacter (is colon) (drop i s)) ≡ P.Read a) (e : ℕ) (q : e ≡ a .at + span isLetterOrDigit 6 (drop (a .at) s)) where
+    on : from values s i ≡ from (seq _∷_ switchValue values) s i
+    on = let f = found colon s i a h in from-many-found colon value-reads value-first (is-out colon isLetterOrDigit refl) s i (f .0) (a .at) (f .1)
+
+    inner : from switchValue s i ≡ mapped (second (found colon s i a h .0)) (from (word 1 (span isLetterOrDigit 6)) s (a .at))
+    unfolding switchValue
+    inner = let f = found colon s i a h in from-seq second (oneCharacter (is colon)) (word 1 (span isLetterOrDigit 6)) s i (f .0) (a .at) (f .1)
+
+    pub values-short : e ≡ a .at → C.Refused e ≡ countedImage length n (from values s i)
+    unfolding countedImage
+    values-short z =
+        let few : e - a .at < 1 = omega arith in
+        let w : from switchValue s i ≡ no e = inner ∙ ap (mapped (second (found colon s i a h .0))) (run-short isLetterOrDigit 6 s (a .at) e q 1 few) in
+        rw (on, from-seq-no _∷_ switchValue values s i e w)
+
+    pub values-more : (e ≡ a .at → ⊥) → countedImage length (n + 1) (from values s e) ≡ countedImage length n (from values s i)
+    values-more z =
+        let v = take (e - a .at) (drop (a .at) s) in
+        let least : 1 ≤ e - a .at = omega (arith, run-up isLetterOrDigit 6 s (a .at) e q) in
+        let w : from switchValue s i ≡ ok v e = inner ∙ ap (mapped (second (found colon s i a h .0))) (run-read isLetterOrDigit 6 s (a .at) e q 1 least) in
+        value-counted n v (from values s e) ∙ ap (countedImage length n) (sym (on ∙ from-seq _∷_ switchValue values s i v e w))
+
+    -- the place goes on, and stays within the line
+    pub values-on : (i < e) × (e ≤ length s)
+    values-on =
+        let o = found-place colon s i a h in
+        (omega (arith, o .0, run-up isLetterOrDigit 6 s (a .at) e q), run-within isLetterOrDigit 6 s (a .at) e q (o .1))
+
+-- the same, as a look at the character finds it
+module _ (s : List ℕ) (i n : ℕ) where
+  pub values-at-end : length s ≤ i → C.Read n (record { at = i }) ≡ countedImage length n (from values s i)
+  values-at-end l = values-none s i n (i + 0) (ap (partAt i) (one-end colon s i l))
+
+  pub values-at-other : i < length s → (getD s i 0 ≡ colon → ⊥) → C.Read n (record { at = i }) ≡ countedImage length n (from values s i)
+  values-at-other l z = values-none s i n (i + 0) (ap (partAt i) (one-not colon s i l z))
+
+  module _ (l : i < length s) (h : getD s i 0 ≡ colon) (e : ℕ) (q : e ≡ i + 1 + span isLetterOrDigit 6 (drop (i + 1) s)) where
+    here : partAt i (oneCharacter (is colon) (drop i s)) ≡ P.Read (record { at = i + 1 })
+    here = ap (partAt i) (one-here colon s i l h)
+
+    pub values-at-short : e ≡ i + 1 → C.Refused e ≡ countedImage length n (from values s i)
+    values-at-short z = values-short s i n (record { at = i + 1 }) here e q z
+
+    pub values-at-more : (e ≡ i + 1 → ⊥) → countedImage length (n + 1) (from values s e) ≡ countedImage length n (from values s i)
+    values-at-more z = values-more s i n (record { at = i + 1 }) here e q z
+
+    pub values-at-on : (i < e) × (e ≤ length s)
+    values-at-on = values-on s i n (record { at = i + 1 }) here e q
+
+-- a run of at most one letter is one letter, or none
+one-letter : (s : List ℕ) (j m : ℕ) → m ≡ j + span isLetter 1 (drop j s)
+    → (m ≡ j → from (oneCharacter isLetter) s j ≡ no m) × ((m ≡ j → ⊥) → (x : ℕ) × (from (oneCharacter isLetter) s j ≡ ok x m))
+unfolding from oneCharacter span
+one-letter s j m q = go (drop j s) q
+  where
+    pick : (x : ℕ) (b : Bool) → m ≡ j + cond b 1 0
+        → (m ≡ j → moved j (cond b (ok x 1) (no 0)) ≡ no m) × ((m ≡ j → ⊥) → (y : ℕ) × (moved j (cond b (ok x 1) (no 0)) ≡ ok y m))
+    pick x true q = (λ z. absurd (omega arith), λ z. (x, ap (ok x) (sym q)))
+    pick x false q = (λ z. ap no (sym q), λ z. absurd (z (omega arith)))
+
+    go : (d : List ℕ) → m ≡ j + span isLetter 1 d
+        → (m ≡ j → moved j (oneCharacter isLetter d) ≡ no m) × ((m ≡ j → ⊥) → (x : ℕ) × (moved j (oneCharacter isLetter d) ≡ ok x m))
+    go [] q = (λ z. ap no (sym q), λ z. absurd (z (omega arith)))
+    go (x ∷ d) q = pick x (isLetter x) q
+
+abbrev named : List ℕ → Res (List ℕ)
+named = seq _∷_ (oneCharacter isLetter) (word 0 (span isLetterOrDigit 5))
+
+abbrev body : List ℕ → Res Switch
+body = seq mkSwitch named values
+
+switch-counted : (n x : ℕ) (name : List ℕ) (r : Res (List (List ℕ))) → countedImage length n r ≡ countedImage valuesOf n (mapped (second x) (mapped (mkSwitch name) r))
+unfolding countedImage
+switch-counted n x name (ok vs end) = refl
+switch-counted n x name (no place) = refl
+
+module _ (s : List ℕ) (i n : ℕ) where
+  pub switch-none : (p : ℕ) → partAt i (oneCharacter (is slash) (drop i s)) ≡ P.Refused p → C.Refused p ≡ countedImage valuesOf n (from switch s i)
+  unfolding countedImage switch
+  switch-none p h = rw (from-seq-no second (oneCharacter (is slash)) body s i p (missed slash s i p h))
+
+  module _ (a : Cursor) (h : partAt i (oneCharacter (is slash) (drop i s)) ≡ P.Read a) (m : ℕ) (q : m ≡ a .at + span isLetter 1 (drop (a .at) s)) where
+    behind : from switch s i ≡ mapped (second (found slash s i a h .0)) (from body s (a .at))
+    unfolding switch
+    behind = let f = found slash s i a h in from-seq second (oneCharacter (is slash)) body s i (f .0) (a .at) (f .1)
+
+    pub switch-short : m ≡ a .at → C.Refused m ≡ countedImage valuesOf n (from switch s i)
+    unfolding countedImage
+    switch-short z =
+        let w : from named s (a .at) ≡ no m = from-seq-no _∷_ (oneCharacter isLetter) (word 0 (span isLetterOrDigit 5)) s (a .at) m (one-letter s (a .at) m q .0 z) in
+        rw (behind, from-seq-no mkSwitch named values s (a .at) m w)
+
+    module _ (e : ℕ) (d : e ≡ m + span isLetterOrDigit 5 (drop m s)) where
+      pub switch-on : (m ≡ a .at → ⊥) → countedImage length n (from values s e) ≡ countedImage valuesOf n (from switch s i)
+      switch-on z =
+          let x = one-letter s (a .at) m q .1 z in
+          let rest = take (e - m) (drop m s) in
+          let v : from named s (a .at) ≡ ok (x .0 ∷ rest) e =
+          from-seq _∷_ (oneCharacter isLetter) (word 0 (span isLetterOrDigit 5)) s (a .at) (x .0) m (x .1)
+          ∙ ap (mapped (_∷_ (x .0))) (run-read isLetterOrDigit 5 s m e d 0 (omega arith)) in
+          switch-counted n (found slash s i a h .0) (x .0 ∷ rest) (from values s e)
+          ∙ ap (countedImage valuesOf n) (sym (behind ∙ ap (mapped (second (found slash s i a h .0))) (from-seq mkSwitch named values s (a .at) (x .0 ∷ rest) e v)))
+
+      pub switch-up : i ≤ e
+      switch-up = omega (arith, found-place slash s i a h .0, run-up isLetter 1 s (a .at) m q, run-up isLetterOrDigit 5 s m e d)

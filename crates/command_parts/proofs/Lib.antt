@@ -1,0 +1,11 @@
+-- The laws of the parts: what each reader finds, as the code comes upon it.
+pub mod Passed
+pub mod PassedDevice
+pub mod PassedFile
+pub mod PassedHead
+pub mod PassedUic
+pub mod MadeFront
+pub mod MadeUic
+pub mod CountedValues
+pub mod CountedSwitches
+pub mod Ends

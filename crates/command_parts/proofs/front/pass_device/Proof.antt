@@ -1,0 +1,28 @@
+-- Rests on `PassedDevice`: fewer than two letters, or the colon behind letters and digits.
+use borrow.Author.Needs.{needs}
+use mathlib.Core.Path.{_∙_}
+use Rattle.command_parts.proofs.PassedDevice.{pass-few, pass-colon}
+use Rattle.command_parts.proofs.front.pass_device.Statement.{statement}
+use Rattle.command_parts.proofs.front.pass_device.Tie as tie
+
+run-requires : tie.Need-run-requires
+run-requires c κs = search needs
+
+sub-if1 : tie.Need-sub-if1
+sub-if1 c = search needs
+
+returns : tie.Need-returns
+returns c = pass-few _ _ _ (c .before .run .ensures) (c .if1 .taken)
+
+run-requires-2 : tie.Need-run-requires-2
+run-requires-2 c κs = search needs
+
+one-requires : tie.Need-one-requires
+one-requires c κs = search needs
+
+returns-2 : tie.Need-returns-2
+returns-2 c = c .one .ensures ∙ pass-colon _ _ _ (c .before .before .before .run .ensures) (c .before .before .if1 .left) _ (c .before .run2 .ensures)
+
+pub pass-device-spec : {M : Type 1} → statement M
+pass-device-spec =
+    tie.close (tie.spec run-requires sub-if1 returns run-requires-2 one-requires returns-2)

@@ -1,0 +1,38 @@
+-- Means: where a reader of a line ends, whatever it read there; or the place of the refusal.
+use Prim.Native.Nat.{ℕ}
+use mathlib.Core.Path.{_≡_}
+use mathlib.Core.List.{List}
+use mathlib.Core.Option.{Option}
+use Rattle.radix.specs.Names.{isLetterOrDigit}
+use Rattle.command_grammar.specs.LineCharacters.{isOctal, comma, period, slash, opening, closing}
+use Rattle.command_grammar.specs.Parsed.{Uic, Switch}
+use Rattle.command_grammar.specs.Reader.{is, Res, ok, no, from, seq, opt, many, oneCharacter, word, span, spanAll, first, second, uic, switch, mkTail, Tail}
+use Rattle.command_cursor.specs.declared.Part.{Part}
+use Rattle.command_cursor.specs.declared.Part.the-variants.{Read, Refused}
+
+unfoldable pub passed : {A : Type 0} → Res A → Part
+passed (ok a end) = Read (record { at = end })
+passed (no place) = Refused place
+
+-- what the reader reads stands from one place of the line to another
+pub record Stands {A : Type 0} (reader : List ℕ → Res A) (line : List ℕ) (at end : ℕ) : Type 0 where
+  pub what : A
+  pub stands : from reader line at ≡ ok what end
+
+-- what stands behind a name
+abbrev pub extension : List ℕ → Res (Option (List ℕ))
+extension = opt (is period) (seq second (oneCharacter (is period)) (word 1 (span isLetterOrDigit 3)))
+
+-- what stands behind a group's digits
+abbrev pub user : List ℕ → Res (List ℕ)
+user = seq second (oneCharacter (is comma)) (seq first (word 1 (spanAll isOctal)) (oneCharacter (is closing)))
+
+abbrev pub brackets : List ℕ → Res (Option Uic)
+brackets = opt (is opening) uic
+
+abbrev pub switches : List ℕ → Res (List Switch)
+switches = many (is slash) switch
+
+-- what stands behind device and file
+abbrev pub tail : List ℕ → Res Tail
+tail = seq mkTail brackets switches

@@ -1,0 +1,110 @@
+// Switches: how many there are, and how many values they have in all.
+ghost use mathlib.Core.Path.{_≡_};
+ghost use Prim.Native.Nat.{_≤_};
+ghost use lib.ListN.{length};
+ghost use Rattle.command_grammar.specs.LineCharacters.{colon, slash};
+ghost use Rattle.command_grammar.specs.Reader.{is, many, switchValue, switch, from};
+ghost use Rattle.command_parts.specs.Counted.{valuesOf, countedImage, switchesImage, CountWithin};
+use command_cursor::Class;
+use command_cursor::Cursor;
+use command_cursor::Part;
+use command_cursor::characters::COLON;
+use command_cursor::characters::SLASH;
+
+pub enum Counted {
+    Read(usize, Cursor),
+    Refused(usize),
+}
+
+// The values of a switch, behind n others. A count is no more than the characters before it, so it fits.
+fn read_values(line: &[u8], c: Cursor, n: usize) -> Counted
+    requires { ⌜ n ≤ c .at ⌝ }
+    ensures { λ r. ⌜ r ≡ countedImage length n (from (many (is colon) switchValue) (now (line .entry)) (c .at)) ⌝ }
+    ensures { λ r. ⌜ CountWithin r ⌝ }
+{
+    let mut at = c.at;
+    let mut count = n;
+    while at < line.len() {
+        if line[at] != COLON {
+            return Counted::Read(count, Cursor { at });
+        }
+        let start = Cursor { at: at + 1 };
+        let characters = start.run(line, Class::LetterOrDigit, 6);
+        let end = characters.at;
+        if end == at + 1 {
+            return Counted::Refused(end);
+        }
+        at = end;
+        count += 1;
+    }
+    Counted::Read(count, Cursor { at })
+}
+
+// A switch, behind n values of others: how many values there are then.
+fn read_switch(line: &[u8], c: Cursor, n: usize) -> Counted
+    requires { ⌜ n ≤ c .at ⌝ }
+    ensures { λ r. ⌜ r ≡ countedImage valuesOf n (from switch (now (line .entry)) (c .at)) ⌝ }
+    ensures { λ r. ⌜ CountWithin r ⌝ }
+{
+    let p = c.one(line, SLASH);
+    match p {
+        Part::Refused(place) => Counted::Refused(place),
+        Part::Read(a) => {
+            let start = a.at;
+            let letter = a.run(line, Class::Letter, 1);
+            let middle = letter.at;
+            if middle == start {
+                return Counted::Refused(middle);
+            }
+            let name = letter.run(line, Class::LetterOrDigit, 5);
+            read_values(line, name, n)
+        }
+    }
+}
+
+pub struct Counts {
+    pub switches: usize,
+    pub values: usize,
+}
+
+pub enum SwitchesRead {
+    Read(Counts, Cursor),
+    Refused(usize),
+}
+
+// The switches, behind so many others with so many values.
+pub fn read_switches(line: &[u8], c: Cursor, switches: usize, values: usize) -> SwitchesRead
+    requires { ⌜ (switches ≤ c .at) × (values ≤ c .at) ⌝ }
+    ensures { λ r. ⌜ r ≡ switchesImage switches values (from (many (is slash) switch) (now (line .entry)) (c .at)) ⌝ }
+{
+    let mut at = c.at;
+    let mut number = switches;
+    let mut total = values;
+    while at < line.len() {
+        if line[at] != SLASH {
+            return SwitchesRead::Read(
+                Counts {
+                    switches: number,
+                    values: total,
+                },
+                Cursor { at },
+            );
+        }
+        let w = read_switch(line, Cursor { at }, total);
+        match w {
+            Counted::Refused(place) => return SwitchesRead::Refused(place),
+            Counted::Read(more, next) => {
+                at = next.at;
+                total = more;
+                number += 1;
+            }
+        }
+    }
+    SwitchesRead::Read(
+        Counts {
+            switches: number,
+            values: total,
+        },
+        Cursor { at },
+    )
+}

@@ -1,4 +1,0 @@
--- A cursor over a line, and what stands between two places of it.
-pub mod Classes
-pub mod Words
-pub mod Parts

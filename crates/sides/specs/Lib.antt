@@ -1,3 +1,0 @@
--- Sides of a line, and the whole line.
-pub mod Sought
-pub mod Joined

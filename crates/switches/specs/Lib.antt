@@ -1,4 +1,0 @@
--- The bytes of switches.
-pub mod Encoded
-pub mod Writable
-pub mod Written
