@@ -36,7 +36,8 @@ use Rattle.room.proofs.RoomMapTaken.{free-on}
 use Rattle.bodies.specs.BufferSizes.{wrongPayload}
 use Rattle.bodies.proofs.BufferSizes.{payload-fits}
 use Rattle.bodies.proofs.EntryChainLinked.{last-body}
-use Rattle.adding.specs.LinkedAdd.{addedBlock, added, linkedAddRows, linkedAdd}
+use Rattle.adding.specs.LinkedAddRows.{linkedAddRows}
+use Rattle.adding.specs.LinkedAdd.{addedBlock, added, linkedAdd}
 use Rattle.adding.specs.LinkedAddStage.{Addable, Ready}
 use Rattle.adding.proofs.LinkedAddStage.{Admitted, admitted, free-block, block-free}
 use Rattle.adding.proofs.LinkedAddMap.{map-enlarged}

@@ -41,7 +41,8 @@ use Rattle.bodies.specs.BufferSizes.{wrongPayload}
 use Rattle.bodies.specs.Payloads.{payloadsOf}
 use Rattle.bodies.proofs.BufferSizes.{payload-fits}
 use Rattle.bodies.proofs.Payloads.{payloads-one, payloads-append, payloads-same}
-use Rattle.adding.specs.LinkedAdd.{openForAdding, addedBlock, added, linkedAddRows, linkedAdd}
+use Rattle.adding.specs.LinkedAddRows.{openForAdding, linkedAddRows}
+use Rattle.adding.specs.LinkedAdd.{addedBlock, added, linkedAdd}
 use Rattle.adding.proofs.LinkedAddStage.{Admitted, admitted, add-rows-last, block-free, block-highest}
 use Rattle.adding.proofs.LinkedAddEnlarged.{Touched, Enlarged, enlarged}
 

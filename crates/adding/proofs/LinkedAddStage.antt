@@ -36,7 +36,8 @@ use Rattle.room.proofs.RoomHighest.{run-highest}
 use Rattle.room.proofs.RoomMapCount.{free-at}
 use Rattle.room.proofs.RoomNeeds.{needs-one}
 use Rattle.bodies.proofs.EntryChainLinked.{linked-kind}
-use Rattle.adding.specs.LinkedAdd.{openForAdding, highestFree, addedBlock, linkedAddRows}
+use Rattle.adding.specs.LinkedAddRows.{openForAdding, linkedAddRows}
+use Rattle.adding.specs.LinkedAdd.{highestFree, addedBlock}
 
 -- 40, 15, 41, 2, 6, 43, 45 and 42 stand in the order of the table
 pub add-ordered : (img : List ℕ) (key : Key) (caller : ℕ) (wrong : Bool) (needed : ℕ) → inOrder tableOrder 0 (linkedAddRows img key caller wrong needed) ≡ true

@@ -1,3 +1,4 @@
 -- Linked add.
+pub mod LinkedAddRows
 pub mod LinkedAdd
 pub mod LinkedAddStage

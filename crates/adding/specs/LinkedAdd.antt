@@ -1,40 +1,26 @@
 -- Linked add.
 use Prim.Native.Nat.{ℕ, _+_}
-use mathlib.Core.Bool.{Bool, not, cond, _||_}
-use mathlib.Core.List.{List, [], _∷_, _++_}
+use mathlib.Core.Bool.{cond}
+use mathlib.Core.List.{List, [], _∷_}
 use mathlib.Core.Option.{Option}
-use lib.Dec.{eqb, ltb}
-use Rattle.answers.specs.Refusals.{Row, row}
+use lib.Dec.{eqb}
 use Rattle.answers.specs.Missing.{orElse}
 use Rattle.words.specs.Word.{setWord}
 use Rattle.pack.specs.declared.Geometry.{Geometry}
 use Rattle.pack.specs.declared.Entry.{Entry}
 use Rattle.pack.specs.declared.Key.{Key}
 use Rattle.pack.specs.Geometry.{geometryOf, blockAt}
-use Rattle.pack.specs.Owner.{freeCount}
-use Rattle.asking.specs.declared.Right.the-variants.{Write}
 use Rattle.asking.specs.Outcome.{Outcome, settled}
-use Rattle.asking.specs.Asked.{fileRows, entryNo, fileOf}
-use Rattle.asking.specs.Access.{accessRows}
-use Rattle.room.specs.Room.{highestRun}
+use Rattle.asking.specs.Asked.{entryNo, fileOf}
+use Rattle.room.specs.RoomTest.{highestRun}
 use Rattle.bodies.specs.BlockBytes.{payloadStart, withPart}
 use Rattle.bodies.specs.BufferSizes.{wrongPayload}
 use Rattle.bodies.specs.EntryChain.{resized}
-
--- "writer 2 or 3"
-abbrev pub openForAdding : Entry → Bool
-openForAdding x = eqb (x .writer) 2 || eqb (x .writer) 3
+use Rattle.adding.specs.LinkedAddRows.{linkedAddRows}
 
 -- "the highest free block": a free run of one block
 abbrev pub highestFree : List ℕ → Option ℕ
 highestFree img = highestRun img 1
-
--- "Linked add: payload of 510, write right, writer 2 or 3", of no contiguous file, whose kind is 1; behind its access, "42: no free block":
--- fewer blocks are free than are needed. `wrong` says that an argument is wrong.
-unfoldable pub linkedAddRows : List ℕ → Key → ℕ → Bool → ℕ → List Row
-linkedAddRows img key caller wrong needed =
-    fileRows img key wrong
-    ++ (accessRows (fileOf img key) caller Write 1 (not (openForAdding (fileOf img key))) ++ (row (ltb (freeCount img) needed) 0o42 ∷ []))
 
 -- the new block: "with link 0", and "its payload is the 510 bytes that start at byte 2 of a block"
 unfoldable pub blockWith : List ℕ → Geometry → ℕ → List ℕ → List ℕ

@@ -29,7 +29,7 @@ use Rattle.pack.proofs.ConsistentTotal.{total-two}
 use Rattle.owners.proofs.OwnerSum.{sum-of-blocks}
 use Rattle.bodies.proofs.EntryChainLinked.{linked-kind, first-small, last-small, last-body}
 use Rattle.pack.proofs.KeySame.{same-key-iff, same-back, same-through}
-use Rattle.appending.specs.Appnd.{nameRows, permitRows, appndRows}
+use Rattle.appending.specs.AppndRows.{nameRows, permitRows, appndRows}
 use Rattle.appending.specs.AppndStage.{Joinable}
 
 -- one file of the two

@@ -18,7 +18,8 @@ use Rattle.asking.specs.Asked.{entryNo, fileOf}
 use Rattle.pack.specs.EntryWords.{clearEntry}
 use Rattle.asking.proofs.Outcome.{settled-refused, settled-success}
 use Rattle.pack.proofs.GeometryRoom.{sized-same}
-use Rattle.appending.specs.Appnd.{appndRows, chainJoined, appnd}
+use Rattle.appending.specs.AppndRows.{appndRows}
+use Rattle.appending.specs.Appnd.{chainJoined, appnd}
 use Rattle.appending.specs.AppndStage.{appendingOf, Joinable}
 use Rattle.appending.specs.declared.appnd.Appending.{Appending}
 use Rattle.appending.specs.declared.appnd.Appending.the-variants.{Join, Refused}

@@ -27,7 +27,8 @@ use Rattle.frame.proofs.EntrySame.{right-bodies}
 use Rattle.frame.proofs.UntouchedFramed.{untouched-framed, untouched-refl}
 use Rattle.frame.proofs.GrowthConsistent.{joined-framed, joined-blocks, joined-consistent}
 use Rattle.bodies.proofs.EntryChainLinked.{Joint}
-use Rattle.appending.specs.Appnd.{appndRows, chainJoined, appnd}
+use Rattle.appending.specs.AppndRows.{appndRows}
+use Rattle.appending.specs.Appnd.{chainJoined, appnd}
 use Rattle.bodies.specs.Payloads.{payloadsOf}
 use Rattle.appending.proofs.AppndAccepted.{Accepted, accepted}
 use Rattle.appending.proofs.AppndAnswers.{appnd-success}

@@ -15,7 +15,7 @@ use Rattle.asking.specs.Rights.{may}
 use Rattle.asking.specs.AskedStage.{granted}
 use Rattle.asking.specs.Opens.{isOpen}
 use Rattle.pack.specs.Key.{sameKey}
-use Rattle.appending.specs.Appnd.{nameRows, permitRows, appndRows}
+use Rattle.appending.specs.AppndRows.{nameRows, permitRows, appndRows}
 
 -- the rows stand in the order of the table
 pub appnd-ordered : (img : List ℕ) (first second : Key) (caller : ℕ) → inOrder tableOrder 0 (appndRows img first second caller) ≡ true

@@ -20,7 +20,7 @@ use Rattle.asking.specs.Keys.{legalKey, found, findFrom}
 use Rattle.asking.specs.Asked.{entryNo, fileOf}
 use Rattle.asking.proofs.AskedStage.{found-at, number-found}
 use Rattle.pack.specs.Key.{sameKey}
-use Rattle.appending.specs.Appnd.{nameRows, permitRows, appndRows}
+use Rattle.appending.specs.AppndRows.{nameRows, permitRows, appndRows}
 use Rattle.appending.specs.AppndStage.{bothAt, bothOf, appendingOf}
 use Rattle.appending.specs.declared.appnd.Both.the-variants.{Files, Missing}
 use Rattle.appending.specs.declared.appnd.Appending.the-variants.{Join, Refused}

@@ -11,7 +11,7 @@ use Rattle.pack.specs.GeometrySized.{Sized}
 use Rattle.pack.specs.Entry.{entryOf}
 use Rattle.asking.specs.Keys.{findFrom}
 use Rattle.asking.specs.Asked.{entryNo, fileOf}
-use Rattle.appending.specs.Appnd.{appndRows}
+use Rattle.appending.specs.AppndRows.{appndRows}
 use Rattle.appending.specs.declared.appnd.Both.{Both}
 use Rattle.appending.specs.declared.appnd.Both.the-variants.{Files, Missing}
 use Rattle.appending.specs.declared.appnd.Appending.{Appending}

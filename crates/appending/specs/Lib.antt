@@ -1,3 +1,4 @@
 -- APPND.
+pub mod AppndRows
 pub mod Appnd
 pub mod AppndStage

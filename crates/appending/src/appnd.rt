@@ -2,7 +2,8 @@
 ghost use mathlib.Core.Path.{_≡_};
 ghost use Rattle.pack.specs.GeometrySized.{Sized};
 ghost use Rattle.answers.specs.Refusals.{firstOf};
-ghost use Rattle.appending.specs.Appnd.{nameRows, permitRows, chainJoined, appnd};
+ghost use Rattle.appending.specs.AppndRows.{nameRows, permitRows};
+ghost use Rattle.appending.specs.Appnd.{chainJoined, appnd};
 ghost use Rattle.appending.specs.AppndStage.{bothOf, appendingOf, Joinable};
 use asking::Found;
 use asking::Grant;

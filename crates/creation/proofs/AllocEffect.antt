@@ -28,7 +28,8 @@ use Rattle.asking.proofs.Outcome.{code-is, success-image, success-numbers, refu
 use Rattle.asking.specs.Outcome.{Unchanged}
 use Rattle.creation.specs.Creating.{creatingRows, created, LowestEmpty, newFile, entryFor}
 use Rattle.creation.specs.Alloc.{lengthFor, startFor, allocRows, alloc, extentFrom}
-use Rattle.room.specs.Room.{FreeRun, HighestRun, highestRun}
+use Rattle.room.specs.RoomTest.{highestRun}
+use Rattle.room.specs.Room.{FreeRun, HighestRun}
 use Rattle.room.proofs.RoomHighest.{run-none}
 use Rattle.creation.proofs.CreatingStage.{creatable}
 use Rattle.creation.proofs.AllocStage.{rows-42, rows-clear, Allocatable, segments-some, allocatable}

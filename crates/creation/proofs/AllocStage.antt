@@ -20,7 +20,8 @@ use Rattle.pack.specs.Geometry.{geometryOf, slots}
 use Rattle.pack.specs.GeometrySized.{Sized}
 use Rattle.asking.proofs.Outcome.{done-answer, refused-answer}
 use Rattle.room.specs.declared.Blocks.{Blocks}
-use Rattle.room.specs.Room.{HighestRun, highestRun}
+use Rattle.room.specs.RoomTest.{highestRun}
+use Rattle.room.specs.Room.{HighestRun}
 use Rattle.room.proofs.RoomHighest.{run-highest, run-inside}
 use Rattle.pack.specs.EntryWords.{wordsOf, setEntryWords}
 use Rattle.pack.specs.EntryFields.{WordFields}

@@ -9,7 +9,7 @@ use Rattle.pack.specs.declared.Key.{Key}
 use Rattle.pack.specs.File.{one}
 use Rattle.pack.specs.Geometry.{geometryOf}
 use Rattle.asking.specs.Outcome.{Outcome, settled}
-use Rattle.room.specs.Room.{highestRun}
+use Rattle.room.specs.RoomTest.{highestRun}
 use Rattle.creation.specs.declared.creating.Shape.{Shape}
 use Rattle.creation.specs.Creating.{creatingRows, newFile, created}
 

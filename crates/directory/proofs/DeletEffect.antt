@@ -33,7 +33,8 @@ use Rattle.frame.proofs.FramedEntryWords.{clear-kept}
 use Rattle.pack.proofs.EntryWordsWritten.{clear-empty}
 use Rattle.owners.proofs.OwnerPlaces.{place-none}
 use Rattle.owners.proofs.OneOwner.{owner-free}
-use Rattle.directory.specs.Delet.{deletRows, delet}
+use Rattle.directory.specs.DeletRows.{deletRows}
+use Rattle.directory.specs.Delet.{delet}
 use Rattle.asking.proofs.AskedCleared.{Cleared}
 use Rattle.asking.proofs.Outcome.{code-is, success-image, refusal-keeps, image-by}
 use Rattle.asking.specs.Outcome.{Unchanged}

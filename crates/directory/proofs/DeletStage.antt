@@ -19,7 +19,8 @@ use Rattle.asking.specs.Rights.{may}
 use Rattle.asking.specs.Opens.{isOpen}
 use Rattle.pack.specs.EntryWords.{clearEntry}
 use Rattle.asking.proofs.AskedStage.{stage-clear, stage-refused, stage-stopped, stage-passed, stage-is-file, writing-refused, writing-done}
-use Rattle.directory.specs.Delet.{deletRows, delet}
+use Rattle.directory.specs.DeletRows.{deletRows}
+use Rattle.directory.specs.Delet.{delet}
 use Rattle.asking.proofs.AskedCleared.{FileCleared, asked-cleared, given-cleared}
 use Rattle.directory.proofs.DeletLacking.{lacking, lacking-right, lacking-open, lacking-none}
 

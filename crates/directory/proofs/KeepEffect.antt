@@ -31,7 +31,8 @@ use Rattle.frame.proofs.FramedStays.{geometry-framed}
 use Rattle.frame.proofs.UntouchedFramed.{untouched-refl, untouched-one}
 use Rattle.frame.proofs.FramedWritten.{kept-entry-word}
 use Rattle.pack.proofs.EntryWordsWritten.{entry-set-same, entry-set-other}
-use Rattle.directory.specs.Keep.{keepRows, keptCode, keep}
+use Rattle.directory.specs.KeepRows.{keepRows}
+use Rattle.directory.specs.Keep.{keptCode, keep}
 use Rattle.asking.proofs.Outcome.{code-is, success-image, refusal-keeps, image-by}
 use Rattle.asking.specs.Outcome.{Unchanged}
 use Rattle.asking.proofs.AskedCleared.{Cleared, FileCleared}

@@ -20,7 +20,8 @@ use Rattle.asking.specs.Asked.{fileRows, fileOf}
 use Rattle.asking.specs.AskedStage.{askedOf, stageOf}
 use Rattle.pack.specs.EntryWords.{setEntryWord}
 use Rattle.asking.proofs.AskedStage.{stage-clear, stage-refused, stage-stopped, stage-passed, Given, stage-is-file, writing-refused, writing-done}
-use Rattle.directory.specs.Keep.{keepRows, keptCode, keep}
+use Rattle.directory.specs.KeepRows.{keepRows}
+use Rattle.directory.specs.Keep.{keptCode, keep}
 use Rattle.asking.proofs.AskedCleared.{FileCleared, asked-cleared, given-cleared}
 
 pub keep-ordered : (img : List ℕ) (key : Key) (caller : ℕ) → inOrder tableOrder 0 (keepRows img key caller) ≡ true

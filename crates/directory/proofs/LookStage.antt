@@ -13,7 +13,8 @@ use Rattle.asking.specs.Asked.{fileRows}
 use Rattle.asking.specs.AskedStage.{askedOf}
 use Rattle.asking.proofs.AskedStage.{file-ordered, asked-is-file, asked-is-refused, asked-entry}
 use Rattle.asking.proofs.Outcome.{settled-refused, settled-success}
-use Rattle.directory.specs.Look.{lookNumbers, lookRows, look}
+use Rattle.directory.specs.LookRows.{lookRows}
+use Rattle.directory.specs.Look.{lookNumbers, look}
 
 pub look-ordered : (img : List ℕ) (key : Key) → inOrder tableOrder 0 (lookRows img key) ≡ true
 unfolding lookRows

@@ -31,7 +31,8 @@ use Rattle.frame.proofs.UntouchedFramed.{untouched-refl, untouched-one}
 use Rattle.frame.proofs.FramedWritten.{kept-entry-word}
 use Rattle.frame.proofs.FramedEntryWords.{words-kept}
 use Rattle.pack.proofs.EntryWordsWritten.{entry-set-same, entry-set-other, words-read, words-behind}
-use Rattle.directory.specs.Renam.{renamRows, renamed, renam}
+use Rattle.directory.specs.RenamRows.{renamRows}
+use Rattle.directory.specs.Renam.{renamed, renam}
 use Rattle.asking.proofs.Outcome.{code-is, success-image, refusal-keeps, image-by}
 use Rattle.asking.specs.Outcome.{Unchanged}
 use Rattle.asking.proofs.AskedCleared.{Cleared}

@@ -39,7 +39,8 @@ use Rattle.pack.specs.EntryWords.{setEntryWord, setEntryWords}
 use Rattle.asking.proofs.Keys.{found-keyed}
 use Rattle.asking.proofs.AskedStage.{found-at, stage-refuses, stage-gives, stage-is-file, writing-refused, writing-done, number-found, file-found}
 use Rattle.asking.proofs.KeysLegal.{legal-words}
-use Rattle.directory.specs.Renam.{renamRows, renamed, renam}
+use Rattle.directory.specs.RenamRows.{renamRows}
+use Rattle.directory.specs.Renam.{renamed, renam}
 use Rattle.directory.proofs.DeletLacking.{lacking, lacking-right, lacking-open, lacking-none}
 use Rattle.asking.proofs.AskedCleared.{FileCleared, found-cleared, given-cleared}
 

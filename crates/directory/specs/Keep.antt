@@ -1,18 +1,14 @@
 -- KEEP.
 use Prim.Native.Nat.{ℕ, _+_, _/_, _%_}
-use mathlib.Core.Bool.{false, not, cond}
-use mathlib.Core.List.{List, [], _∷_, _++_}
+use mathlib.Core.Bool.{cond}
+use mathlib.Core.List.{List, []}
 use lib.Dec.{eqb}
-use Rattle.answers.specs.Refusals.{Row, row}
 use Rattle.pack.specs.declared.Key.{Key}
 use Rattle.pack.specs.Geometry.{geometryOf}
 use Rattle.asking.specs.Outcome.{Outcome, settled}
-use Rattle.asking.specs.Asked.{fileRows, entryNo, fileOf}
+use Rattle.asking.specs.Asked.{entryNo, fileOf}
 use Rattle.pack.specs.EntryWords.{setEntryWord}
-
--- "KEEP: owner only"
-unfoldable pub keepRows : List ℕ → Key → ℕ → List Row
-keepRows img key caller = fileRows img key false ++ (row (not (eqb caller (fileOf img key .uic))) 0o6 ∷ [])
+use Rattle.directory.specs.KeepRows.{keepRows}
 
 -- "sets bit 7"
 unfoldable pub keptCode : ℕ → ℕ

@@ -1,5 +1,9 @@
 -- Requests that change one entry at most.
+pub mod LookRows
 pub mod Look
+pub mod DeletRows
 pub mod Delet
+pub mod KeepRows
 pub mod Keep
+pub mod RenamRows
 pub mod Renam

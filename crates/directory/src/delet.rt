@@ -1,7 +1,8 @@
 // DELET.
 ghost use mathlib.Core.Path.{_≡_};
 ghost use Rattle.asking.specs.AskedStage.{stageOf};
-ghost use Rattle.directory.specs.Delet.{deletRows, delet};
+ghost use Rattle.directory.specs.DeletRows.{deletRows};
+ghost use Rattle.directory.specs.Delet.{delet};
 use asking::Asked;
 use asking::Grant;
 use asking::Right;

@@ -2,7 +2,8 @@
 ghost use mathlib.Core.Path.{_≡_};
 ghost use Prim.Native.Nat.{_≤_};
 ghost use Rattle.asking.specs.AskedStage.{stageOf};
-ghost use Rattle.directory.specs.Keep.{keepRows, keptCode, keep};
+ghost use Rattle.directory.specs.KeepRows.{keepRows};
+ghost use Rattle.directory.specs.Keep.{keptCode, keep};
 use asking::Asked;
 use pack::Key;
 

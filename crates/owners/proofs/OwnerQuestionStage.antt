@@ -21,7 +21,8 @@ use Rattle.consistency.proofs.ConsistentTestIff.{consistent-iff, opened-good, o
 use Rattle.asking.specs.Outcome.{Outcome, zeroed}
 use Rattle.asking.proofs.Outcome.{settled-refused, settled-success}
 use Rattle.owners.specs.declared.OwnerAnswer.{OwnerAnswer}
-use Rattle.owners.specs.OwnerQuestion.{ownerRows, ownerNumbers, owner, ownerOutcome}
+use Rattle.owners.specs.OwnerQuestionRows.{ownerRows}
+use Rattle.owners.specs.OwnerQuestion.{ownerNumbers, owner, ownerOutcome}
 
 -- 40 and 44 stand in the order of the table
 pub owner-ordered : (img : List ℕ) (b : ℕ) → inOrder tableOrder 0 (ownerRows img b) ≡ true

@@ -1,20 +1,12 @@
 -- Asking whose a block is: for the audit, no request of document 01.
 use Prim.Native.Nat.{ℕ}
-use mathlib.Core.Bool.{not}
 use mathlib.Core.List.{List, [], _∷_}
-use lib.Dec.{leb}
-use Rattle.answers.specs.Refusals.{Row, row}
 use Rattle.pack.specs.declared.Owner.{Owner}
 use Rattle.pack.specs.declared.Owner.the-variants.{System, Free, Held}
-use Rattle.pack.specs.Geometry.{geometryOf}
 use Rattle.pack.specs.Owner.{ownerOf}
-use Rattle.consistency.specs.ConsistentTest.{consistent}
 use Rattle.asking.specs.Outcome.{Outcome, settled}
 use Rattle.owners.specs.declared.OwnerAnswer.{OwnerAnswer}
-
--- 40, and 44 where the pack has no such block (docs/DECISIONS.md 22)
-unfoldable pub ownerRows : List ℕ → ℕ → List Row
-ownerRows img b = row (not (consistent img)) 0o40 ∷ (row (leb (geometryOf img .blocks) b) 0o44 ∷ [])
+use Rattle.owners.specs.OwnerQuestionRows.{ownerRows}
 
 -- kind: 0 system, 1 free, 2 held; then entry (stored order, from 0) and place in that file, else 0
 unfoldable pub ownerNumbers : Owner → List ℕ

@@ -38,7 +38,8 @@ use Rattle.asking.proofs.AskedCleared.{file-cleared, file-used}
 use Rattle.bodies.specs.BlockBytes.{payloadOf}
 use Rattle.bodies.specs.BufferSizes.{wrongPayload}
 use Rattle.transfer.specs.LinkedRead.{linkedRead}
-use Rattle.adding.specs.LinkedAdd.{linkedAddRows, linkedAdd}
+use Rattle.adding.specs.LinkedAddRows.{linkedAddRows}
+use Rattle.adding.specs.LinkedAdd.{linkedAdd}
 use Rattle.adding.proofs.LinkedAddEnlarged.{Enlarged}
 use Rattle.adding.proofs.LinkedAddEffect.{add-admitted, add-free, add-enlarged}
 use Rattle.promises.specs.AddedAgain.{addedImage, closedImage, openedImage}

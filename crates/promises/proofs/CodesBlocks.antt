@@ -18,9 +18,12 @@ use Rattle.asking.specs.Access.{accessRows}
 use Rattle.asking.specs.Asked.{fileOf}
 use Rattle.asking.specs.Outcome.{settled}
 use Rattle.asking.specs.Rights.{may}
-use Rattle.transfer.specs.Block.{blockIn, blockInRows, blockOut, blockOutRows}
-use Rattle.transfer.specs.LinkedRead.{linkedRead, linkedReadRows}
-use Rattle.adding.specs.LinkedAdd.{linkedAdd, linkedAddRows}
+use Rattle.transfer.specs.BlockRows.{blockInRows, blockOutRows}
+use Rattle.transfer.specs.Block.{blockIn, blockOut}
+use Rattle.transfer.specs.LinkedReadRows.{linkedReadRows}
+use Rattle.transfer.specs.LinkedRead.{linkedRead}
+use Rattle.adding.specs.LinkedAddRows.{linkedAddRows}
+use Rattle.adding.specs.LinkedAdd.{linkedAdd}
 use Rattle.room.proofs.RoomNeeds.{none-free}
 use Rattle.requests.specs.Request.{BLOCK-INPUT, BLOCK-OUTPUT, LINKED-READ, LINKED-ADD}
 use Rattle.promises.specs.GivenWhen.{Case, GivesCode}

@@ -14,16 +14,22 @@ use Rattle.consistency.proofs.ConsistentTestIff.{consistent-iff}
 use Rattle.asking.specs.Asked.{fileRows, fileOf}
 use Rattle.asking.specs.Outcome.{settled}
 use Rattle.asking.proofs.Opens.{open-iff, full-iff}
-use Rattle.owners.specs.OwnerQuestion.{owner, ownerRows}
+use Rattle.owners.specs.OwnerQuestionRows.{ownerRows}
+use Rattle.owners.specs.OwnerQuestion.{owner}
 use Rattle.opening.specs.declared.Opening.{Opening}
 use Rattle.opening.specs.declared.Opening.the-variants.{Input, Update, Extension}
 use Rattle.opening.specs.Open.{opened, openRows}
 use Rattle.opening.specs.Close.{wrongMode, isOpenAs, close, closeRows}
-use Rattle.directory.specs.Look.{look, lookRows}
-use Rattle.directory.specs.Delet.{delet, deletRows}
-use Rattle.directory.specs.Keep.{keep, keepRows}
-use Rattle.directory.specs.Renam.{renam, renamRows}
-use Rattle.appending.specs.Appnd.{appnd, appndRows, nameRows, permitRows}
+use Rattle.directory.specs.LookRows.{lookRows}
+use Rattle.directory.specs.Look.{look}
+use Rattle.directory.specs.DeletRows.{deletRows}
+use Rattle.directory.specs.Delet.{delet}
+use Rattle.directory.specs.KeepRows.{keepRows}
+use Rattle.directory.specs.Keep.{keep}
+use Rattle.directory.specs.RenamRows.{renamRows}
+use Rattle.directory.specs.Renam.{renam}
+use Rattle.appending.specs.AppndRows.{appndRows, nameRows, permitRows}
+use Rattle.appending.specs.Appnd.{appnd}
 use Rattle.requests.specs.Request.{OPEN, CLOSE, DELET, APPND, LOOK, KEEP, OWNER}
 use Rattle.promises.specs.GivenWhen.{Case, behind, GivesCode}
 use Rattle.promises.specs.Codes.{LegalKey, Exists, NoMode, FileCases, RenamCases, casesOf}

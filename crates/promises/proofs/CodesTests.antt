@@ -25,7 +25,8 @@ use Rattle.asking.specs.Rights.{may, May}
 use Rattle.asking.proofs.Keys.{legal-iff, found-iff, absent-iff}
 use Rattle.asking.proofs.Rights.{may-iff}
 use Rattle.creation.specs.CreatingLowest.{lowestEmpty}
-use Rattle.room.specs.Room.{highestRun, FreeRun}
+use Rattle.room.specs.RoomTest.{highestRun}
+use Rattle.room.specs.Room.{FreeRun}
 use Rattle.creation.specs.Alloc.{lengthFor}
 use Rattle.creation.proofs.AllocBlocks.{blocks-some}
 use Rattle.creation.proofs.CreatingLowest.{empty-none}

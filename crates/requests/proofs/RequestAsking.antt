@@ -6,11 +6,15 @@ use Rattle.answers.specs.Refusals.{Row}
 use Rattle.pack.specs.declared.Key.{Key}
 use Rattle.asking.specs.Outcome.{settled}
 use Rattle.asking.proofs.Outcome.{image-by}
-use Rattle.owners.specs.OwnerQuestion.{ownerRows, owner}
-use Rattle.directory.specs.Look.{lookRows, look}
-use Rattle.transfer.specs.Block.{blockInRows, blockIn}
+use Rattle.owners.specs.OwnerQuestionRows.{ownerRows}
+use Rattle.owners.specs.OwnerQuestion.{owner}
+use Rattle.directory.specs.LookRows.{lookRows}
+use Rattle.directory.specs.Look.{look}
+use Rattle.transfer.specs.BlockRows.{blockInRows}
+use Rattle.transfer.specs.Block.{blockIn}
 use Rattle.bodies.specs.BufferSizes.{wrongPayload}
-use Rattle.transfer.specs.LinkedRead.{linkedReadRows, linkedRead}
+use Rattle.transfer.specs.LinkedReadRows.{linkedReadRows}
+use Rattle.transfer.specs.LinkedRead.{linkedRead}
 
 -- an effect that has the image as it was
 asked-image : (rows : List Row) (img buffer numbers given : List ℕ)

@@ -9,13 +9,15 @@ use Rattle.pack.specs.declared.Owner.the-variants.{System, Free, Held}
 use Rattle.pack.specs.Owner.{ownerOf}
 use Rattle.asking.specs.Outcome.{zeroed, Unchanged}
 use Rattle.asking.proofs.Outcome.{refusal-keeps}
-use Rattle.owners.specs.OwnerQuestion.{ownerRows, ownerNumbers, owner}
+use Rattle.owners.specs.OwnerQuestionRows.{ownerRows}
+use Rattle.owners.specs.OwnerQuestion.{ownerNumbers, owner}
 use Rattle.creation.proofs.FormatRows.{format-unchanged}
 use Rattle.creation.proofs.AllocEffect.{alloc-refused}
 use Rattle.creation.proofs.OpenoEffect.{openo-refused}
 use Rattle.opening.proofs.OpenEffect.{open-refused}
 use Rattle.opening.proofs.CloseEffect.{close-refused}
-use Rattle.directory.specs.Look.{lookRows, look}
+use Rattle.directory.specs.LookRows.{lookRows}
+use Rattle.directory.specs.Look.{look}
 use Rattle.directory.specs.Renam.{newKey}
 use Rattle.directory.proofs.DeletEffect.{delet-refused}
 use Rattle.directory.proofs.KeepEffect.{keep-refused}

@@ -13,7 +13,8 @@ use Rattle.pack.specs.Geometry.{geometryOf}
 use Rattle.pack.specs.Owner.{FreeBlock}
 use Rattle.answers.proofs.RefusalsTests.{and-left, and-right, and-both, true-not-false}
 use Rattle.owners.proofs.OwnerPlaces.{neither-below}
-use Rattle.room.specs.Room.{FreeRun, HighestRun, isFreeBlock, areFree, runBelow, highestRun}
+use Rattle.room.specs.RoomTest.{isFreeBlock, areFree, runBelow, highestRun}
+use Rattle.room.specs.Room.{FreeRun, HighestRun}
 
 module _ (img : List ℕ) where
   -- "Free: above c and in no file."

@@ -12,7 +12,7 @@ use borrow.Author.Tests.{eq-eqb, ne-eqb, lt-ltb, le-ltb, le-leb, lt-leb}
 use Rattle.pack.specs.declared.Geometry.{Geometry}
 use Rattle.pack.specs.Geometry.{geometryOf}
 use Rattle.answers.proofs.RefusalsTests.{and-both}
-use Rattle.room.specs.Room.{isFreeBlock, areFree, runBelow, highestRun}
+use Rattle.room.specs.RoomTest.{isFreeBlock, areFree, runBelow, highestRun}
 use Rattle.room.specs.RoomMap.{Says, isFreeOn, isFreeBody, areFreeOn, runOn, freeAfter, freeFrom}
 
 -- the count behind one block more

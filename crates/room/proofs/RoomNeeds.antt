@@ -14,7 +14,8 @@ use Rattle.pack.specs.Owner.{ownerOf, isFree, freeCount, FreeBlock}
 use Rattle.pack.proofs.ConsistentTotal.{total-same, total-each, total-has}
 use Rattle.owners.proofs.OneOwner.{owner-free}
 use Rattle.owners.proofs.OwnerSum.{oneFree, free-total}
-use Rattle.room.specs.Room.{FreeRun, highestRun}
+use Rattle.room.specs.RoomTest.{highestRun}
+use Rattle.room.specs.Room.{FreeRun}
 use Rattle.room.proofs.RoomHighest.{run-none}
 
 module _ (img : List ℕ) where

@@ -25,7 +25,8 @@ use Rattle.asking.proofs.AccessRows.{Accessed}
 use Rattle.bodies.specs.BlockBytes.{blockStart, blockOf}
 use Rattle.bodies.specs.BufferSizes.{wrongBlock}
 use Rattle.bodies.proofs.BlockBytes.{room-of, part-again}
-use Rattle.transfer.specs.Block.{openForInput, blockAtPlace, blockIn, blockOut}
+use Rattle.transfer.specs.BlockRows.{openForInput}
+use Rattle.transfer.specs.Block.{blockAtPlace, blockIn, blockOut}
 use Rattle.transfer.proofs.BlockStage.{BlockAsked}
 use Rattle.transfer.proofs.BlockInput.{block-in-given}
 use Rattle.transfer.proofs.BlockWritten.{blockWritten, written-consistent, written-measures, entry-written, output-access, output-inside, output-asked, output-fits, output-image}

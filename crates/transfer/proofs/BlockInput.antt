@@ -25,7 +25,8 @@ use Rattle.bodies.specs.BlockBytes.{partOf, blockStart, blockOf}
 use Rattle.bodies.specs.BufferSizes.{wrongBlock}
 use Rattle.bodies.proofs.BlockBytes.{block-part}
 use Rattle.bodies.proofs.BufferSizes.{block-fits}
-use Rattle.transfer.specs.Block.{openForInput, blockAtPlace, blockInRows, blockIn}
+use Rattle.transfer.specs.BlockRows.{openForInput, blockInRows}
+use Rattle.transfer.specs.Block.{blockAtPlace, blockIn}
 use Rattle.transfer.proofs.BlockStage.{BlockAsked, block-asked, place-beyond, place-within}
 
 -- 40, 15, 41, 2, 6, 43, 45 and 44 stand in the order of the table

@@ -25,7 +25,8 @@ use Rattle.bodies.specs.BlockBytes.{withPart, blockStart}
 use Rattle.bodies.specs.BufferSizes.{wrongBlock}
 use Rattle.bodies.proofs.BlockBytes.{block-put}
 use Rattle.bodies.proofs.BufferSizes.{block-fits}
-use Rattle.transfer.specs.Block.{blockAtPlace, blockOutRows, blockOut}
+use Rattle.transfer.specs.BlockRows.{blockOutRows}
+use Rattle.transfer.specs.Block.{blockAtPlace, blockOut}
 use Rattle.transfer.proofs.BlockStage.{BlockAsked, block-asked, place-beyond, place-within}
 
 -- 40, 15, 41, 2, 6, 43, 45 and 44 stand in the order of the table

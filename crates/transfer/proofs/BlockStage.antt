@@ -25,7 +25,8 @@ use Rattle.asking.specs.declared.Right.{Right}
 use Rattle.asking.specs.Asked.{fileOf}
 use Rattle.asking.proofs.AskedStage.{FileAsked}
 use Rattle.asking.proofs.AccessStage.{Reached}
-use Rattle.transfer.specs.Block.{openForInput, blockAtPlace}
+use Rattle.transfer.specs.BlockRows.{openForInput}
+use Rattle.transfer.specs.Block.{blockAtPlace}
 
 -- "a reader or writer 1"
 pub open-reader : (x : Entry) → 0 < x .readers → true ≡ openForInput x

@@ -41,7 +41,8 @@ use Rattle.bodies.specs.BlockBytes.{withPart, blockStart}
 use Rattle.bodies.specs.BufferSizes.{wrongBlock}
 use Rattle.bodies.proofs.BlockBytes.{room-of}
 use Rattle.bodies.proofs.BufferSizes.{block-fits}
-use Rattle.transfer.specs.Block.{blockAtPlace, blockOutRows, blockOut}
+use Rattle.transfer.specs.BlockRows.{blockOutRows}
+use Rattle.transfer.specs.Block.{blockAtPlace, blockOut}
 use Rattle.transfer.proofs.BlockStage.{BlockAsked, block-asked, within-place}
 use Rattle.transfer.proofs.BlockOutput.{block-out-refused}
 

@@ -28,7 +28,8 @@ use Rattle.bodies.specs.BufferSizes.{wrongPayload}
 use Rattle.bodies.proofs.BufferSizes.{payload-fits}
 use Rattle.bodies.proofs.BlockBytes.{payload-part}
 use Rattle.bodies.proofs.BlockWalk.{walked-below}
-use Rattle.transfer.specs.LinkedRead.{linkedReadRows, linkedRead}
+use Rattle.transfer.specs.LinkedReadRows.{linkedReadRows}
+use Rattle.transfer.specs.LinkedRead.{linkedRead}
 use Rattle.transfer.proofs.BlockStage.{place-beyond, place-within}
 
 -- 40, 15, 41, 2, 6, 43, 45 and 44 stand in the order of the table

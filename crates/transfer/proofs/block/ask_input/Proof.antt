@@ -5,7 +5,7 @@ use Rattle.transfer.proofs.block.ask_input.Tie as tie
 use mathlib.Core.Path.{ap}
 use mathlib.Core.Bool.{not}
 use Rattle.asking.proofs.AccessStage.{access-refused, access-stopped, access-passed}
-use Rattle.transfer.specs.Block.{openForInput}
+use Rattle.transfer.specs.BlockRows.{openForInput}
 
 slice-aggregate-ask-file : tie.Need-slice-aggregate-ask-file
 slice-aggregate-ask-file c = search needs
