@@ -22,7 +22,8 @@ use Rattle.pack.specs.Untouched.{Untouched}
 use Rattle.pack.proofs.HeaderRules.{header-sized}
 use Rattle.asking.specs.declared.Right.the-variants.{Write}
 use Rattle.asking.specs.Outcome.{Unchanged}
-use Rattle.asking.specs.Asked.{fileRows, entryNo, fileOf}
+use Rattle.asking.specs.AskedStage.{fileRows}
+use Rattle.asking.specs.Asked.{entryNo, fileOf}
 use Rattle.asking.specs.Access.{accessRows}
 use Rattle.asking.proofs.Outcome.{code-is, success-image, success-numbers, refusal-keeps, image-by}
 use Rattle.asking.proofs.AskedStage.{stage-clear}

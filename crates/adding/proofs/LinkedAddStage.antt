@@ -24,8 +24,8 @@ use Rattle.owners.proofs.OwnerSearch.{measured-sized}
 use Rattle.asking.specs.declared.Right.the-variants.{Write}
 use Rattle.asking.specs.declared.Asked.{Asked}
 use Rattle.asking.specs.declared.Asked.the-variants.{File, Refused}
-use Rattle.asking.specs.Asked.{fileRows, entryNo, fileOf}
-use Rattle.asking.specs.AskedStage.{askedOf, stageOf}
+use Rattle.asking.specs.AskedStage.{fileRows, askedOf, stageOf}
+use Rattle.asking.specs.Asked.{entryNo, fileOf}
 use Rattle.asking.specs.Access.{accessRows}
 use Rattle.asking.proofs.Keys.{not-empty}
 use Rattle.asking.proofs.AskedStage.{FileAsked, asked-is-file, stage-refused, stage-stopped, stage-passed}

@@ -27,7 +27,7 @@ unfoldable pub blockWith : List ℕ → Geometry → ℕ → List ℕ → List �
 blockWith img g b payload = withPart (setWord img (blockAt g b) 0) (payloadStart g b) payload
 
 -- "joined at the end": the link of the last block leads to it, or, of a file that had none, the entry's first block; then length and last block.
--- No link is ever written into block 0.
+-- A reading easily got wrong is "Joining an empty file by writing a link into block 0."
 unfoldable pub added : List ℕ → Geometry → ℕ → Entry → ℕ → List ℕ → List ℕ
 added img g e x b payload =
     cond (eqb (x .length) 0)
@@ -38,7 +38,7 @@ added img g e x b payload =
 abbrev pub addedBlock : List ℕ → ℕ
 addedBlock img = orElse 0 (highestFree img)
 
--- "linked add also return[s] the .. added block"; one block is needed
+-- "ALLOC and linked add also return the first or added block"; one block is needed
 unfoldable pub linkedAdd : List ℕ → Key → ℕ → List ℕ → Outcome
 linkedAdd img key caller payload =
     settled (linkedAddRows img key caller (wrongPayload img payload) 1) img payload

@@ -8,7 +8,8 @@ use Rattle.pack.specs.declared.Entry.{Entry}
 use Rattle.pack.specs.declared.Key.{Key}
 use Rattle.pack.specs.Owner.{freeCount}
 use Rattle.asking.specs.declared.Right.the-variants.{Write}
-use Rattle.asking.specs.Asked.{fileRows, fileOf}
+use Rattle.asking.specs.AskedStage.{fileRows}
+use Rattle.asking.specs.Asked.{fileOf}
 use Rattle.asking.specs.Access.{accessRows}
 
 -- "writer 2 or 3"

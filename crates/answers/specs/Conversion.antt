@@ -10,7 +10,7 @@ use Rattle.answers.specs.Refusals.{Row, row, firstOf, answered, lent}
 use Rattle.answers.specs.Missing.{missing, orElse}
 
 -- "Character buffers are of exactly 3, 5 or 6 bytes, else 41." "60: a conversion's input is not of its set, or too large."
--- The table has 41 before 60. `size` is the number of bytes asked, `result` what the input converts to, if it does.
+-- The table has 41 before 60; "Code 40 is not for Format, conversions or command lines." `size` is the number of bytes asked, `result` what the input converts to, if it does.
 unfoldable pub conversionRows : {A : Type 0} → ℕ → List ℕ → Option A → List Row
 conversionRows size bytes result = row (not (eqb (length bytes) size)) 0o41 ∷ row (missing result) 0o60 ∷ []
 

@@ -14,11 +14,28 @@ pub record Row : Type 0 where
 abbrev pub row : Bool → ℕ → Row
 row given code = record { given = given; code = code }
 
--- the codes of document 01 in the order of its table; command lines (50 to 53) have orders of their own
+-- The codes of document 01 in the order of its table ("Codes and UICs are octal; other numbers are decimal"):
+-- "40: image not consistent"
+-- "15: a name or extension is not legal"
+-- "41: argument: N is 0, protect above 255, mode not 1 to 4, buffer not of the size asked, APPND of a file to itself, a bad format argument"
+-- "13: creating: UIC not in the list"
+-- "2: creating, or new name in RENAM: exists. Else: absent. OPENI, OPENE, OPENU also: writer is 2"
+-- "6: right lacking; creating under another's UIC"
+-- "5: OPENE of a contiguous file"
+-- "43: OPENU or BLOCK of a linked file; APPND, linked read or add of a contiguous one"
+-- "4: OPENE, OPENU: there is a writer"
+-- "14: DELET, RENAM, APPND: a file is open"
+-- "45: not open as the request needs, or CLOSE of a mode not open"
+-- "44: no such block in the file"
+-- "3: 62 opens already"
+-- "12: creating: no empty entry"
+-- "42: no free block, or no free run long enough"
+-- "50, 51, 52, 53: see Command lines": they have orders of their own, in `Csi1` and `Csi2`
+-- "60: a conversion's input is not of its set, or too large"
 abbrev pub tableOrder : List ℕ
 tableOrder = 0o40 ∷ 0o15 ∷ 0o41 ∷ 0o13 ∷ 0o2 ∷ 0o6 ∷ 0o5 ∷ 0o43 ∷ 0o4 ∷ 0o14 ∷ 0o45 ∷ 0o44 ∷ 0o3 ∷ 0o12 ∷ 0o42 ∷ 0o60 ∷ []
 
--- where a code stands in a list, or its length
+-- where a code stands in a list; of a code that is not there, how many stand there
 abbrev pub placeIn : List ℕ → ℕ → ℕ
 placeIn [] code = 0
 placeIn (next ∷ order) code = cond (eqb next code) 0 (suc (placeIn order code))

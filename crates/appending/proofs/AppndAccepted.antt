@@ -21,7 +21,7 @@ use Rattle.pack.specs.Key.{keyIn, SameKey, sameKey}
 use Rattle.answers.proofs.RefusalsTests.{true-not-false}
 use Rattle.consistency.specs.ConsistentTest.{consistent}
 use Rattle.consistency.proofs.ConsistentTestIff.{consistent-iff}
-use Rattle.asking.specs.Keys.{legalKey, found}
+use Rattle.asking.specs.KeysTest.{legalKey, found}
 use Rattle.asking.specs.Asked.{entryNo, fileOf}
 use Rattle.asking.proofs.Keys.{found-iff, not-empty}
 use Rattle.pack.proofs.HeaderRules.{header-sized}

@@ -10,10 +10,10 @@ use Rattle.pack.specs.declared.Key.{Key}
 use Rattle.asking.specs.declared.Right.the-variants.{Delete, Write}
 use Rattle.asking.specs.declared.Grant.{Grant}
 use Rattle.asking.specs.declared.Grant.the-variants.{Granted, Denied}
-use Rattle.asking.specs.Keys.{legalKey}
-use Rattle.asking.specs.Rights.{may}
+use Rattle.asking.specs.KeysTest.{legalKey}
+use Rattle.asking.specs.RightsTest.{may}
 use Rattle.asking.specs.AskedStage.{granted}
-use Rattle.asking.specs.Opens.{isOpen}
+use Rattle.asking.specs.OpensTest.{isOpen}
 use Rattle.pack.specs.Key.{sameKey}
 use Rattle.appending.specs.AppndRows.{nameRows, permitRows, appndRows}
 

@@ -16,7 +16,7 @@ use Rattle.pack.specs.declared.Key.{Key}
 use Rattle.pack.specs.Geometry.{geometryOf, slots}
 use Rattle.pack.specs.Entry.{entryOf}
 use Rattle.consistency.specs.ConsistentTest.{consistent}
-use Rattle.asking.specs.Keys.{legalKey, found, findFrom}
+use Rattle.asking.specs.KeysTest.{legalKey, found, findFrom}
 use Rattle.asking.specs.Asked.{entryNo, fileOf}
 use Rattle.asking.proofs.AskedStage.{found-at, number-found}
 use Rattle.pack.specs.Key.{sameKey}

@@ -15,7 +15,8 @@ use Rattle.bodies.specs.EntryChain.{resized}
 use Rattle.appending.specs.AppndRows.{appndRows}
 
 -- "chain joined .. Either may be empty.": an empty second file changes nothing of the first; an empty first file takes the second's
--- blocks as they are; else the link of the first's last block leads on to the second's first. No link is ever written into block 0.
+-- blocks as they are; else the link of the first's last block leads on to the second's first. A reading easily got wrong is
+-- "Joining an empty file by writing a link into block 0."
 unfoldable pub chainJoined : List ℕ → Geometry → ℕ → Entry → Entry → List ℕ
 chainJoined img g e x y =
     cond (eqb (y .length) 0) img

@@ -10,10 +10,10 @@ use Rattle.pack.specs.declared.Key.{Key}
 use Rattle.pack.specs.Key.{sameKey}
 use Rattle.consistency.specs.ConsistentTest.{consistent}
 use Rattle.asking.specs.declared.Right.the-variants.{Delete, Write}
-use Rattle.asking.specs.Keys.{legalKey, found}
+use Rattle.asking.specs.KeysTest.{legalKey, found}
 use Rattle.asking.specs.Asked.{fileOf}
-use Rattle.asking.specs.Rights.{may}
-use Rattle.asking.specs.Opens.{isOpen}
+use Rattle.asking.specs.RightsTest.{may}
+use Rattle.asking.specs.OpensTest.{isOpen}
 
 -- "15: a name or extension is not legal" of both before "41: .. APPND of a file to itself": one name, extension and UIC, where UIC 0 has given place
 -- to the caller's
@@ -21,7 +21,7 @@ unfoldable pub nameRows : Key → Key → List Row
 nameRows first second = row (not (legalKey first)) 0o15 ∷ (row (not (legalKey second)) 0o15 ∷ (row (sameKey first second) 0o41 ∷ []))
 
 -- for the first file and for the second: "6: right lacking" ("APPND needs write on the first, delete on the second"),
--- "43: APPND .. of a contiguous one", "14: .. APPND: a file is open"
+-- "43: .. APPND, .. of a contiguous one" ("both linked"), "14: .. APPND: a file is open"
 unfoldable pub permitRows : ℕ → Entry → Entry → List Row
 permitRows caller x y =
     row (not (may Write caller (x .uic) (x .protect))) 0o6

@@ -9,7 +9,7 @@ use Rattle.pack.specs.declared.Key.{Key}
 use Rattle.pack.specs.Geometry.{geometryOf, slots}
 use Rattle.pack.specs.GeometrySized.{Sized}
 use Rattle.pack.specs.Entry.{entryOf}
-use Rattle.asking.specs.Keys.{findFrom}
+use Rattle.asking.specs.KeysTest.{findFrom}
 use Rattle.asking.specs.Asked.{entryNo, fileOf}
 use Rattle.appending.specs.AppndRows.{appndRows}
 use Rattle.appending.specs.declared.appnd.Both.{Both}

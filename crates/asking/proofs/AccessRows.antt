@@ -12,7 +12,7 @@ use Rattle.pack.specs.declared.Entry.{Entry}
 use Rattle.asking.specs.declared.Right.{Right}
 use Rattle.asking.specs.declared.Grant.{Grant}
 use Rattle.asking.specs.declared.Grant.the-variants.{Granted, Denied}
-use Rattle.asking.specs.Rights.{may}
+use Rattle.asking.specs.RightsTest.{may}
 use Rattle.asking.specs.AskedStage.{granted}
 use Rattle.asking.specs.Access.{accessRows}
 

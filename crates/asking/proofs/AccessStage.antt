@@ -14,8 +14,8 @@ use Rattle.pack.specs.Geometry.{geometryOf}
 use Rattle.asking.specs.declared.Right.{Right}
 use Rattle.asking.specs.declared.Asked.{Asked}
 use Rattle.asking.specs.declared.Asked.the-variants.{File, Refused}
-use Rattle.asking.specs.Asked.{fileRows, entryNo, fileOf}
-use Rattle.asking.specs.AskedStage.{askedOf}
+use Rattle.asking.specs.AskedStage.{fileRows, askedOf}
+use Rattle.asking.specs.Asked.{entryNo, fileOf}
 use Rattle.asking.specs.Access.{accessRows}
 use Rattle.asking.specs.AccessStage.{accessedOf}
 use Rattle.asking.specs.Outcome.{Outcome, zeroed, settled}

@@ -14,8 +14,9 @@ use Rattle.pack.specs.Entry.{entryOf, Used}
 use Rattle.pack.specs.Consistent.{Consistent}
 use Rattle.pack.specs.Key.{keyIn, SameKey}
 use Rattle.pack.proofs.HeaderRules.{header-sized}
-use Rattle.asking.specs.Keys.{legalKey, found}
-use Rattle.asking.specs.Asked.{fileRows, entryNo, fileOf}
+use Rattle.asking.specs.KeysTest.{legalKey, found}
+use Rattle.asking.specs.AskedStage.{fileRows}
+use Rattle.asking.specs.Asked.{entryNo, fileOf}
 use Rattle.asking.proofs.Keys.{found-iff, keyed-used}
 use Rattle.asking.proofs.AskedStage.{FileAsked, Given, stage-clear}
 

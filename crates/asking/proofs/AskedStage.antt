@@ -18,9 +18,9 @@ use Rattle.pack.specs.Consistent.{Consistent}
 use Rattle.pack.specs.Key.{keyIn, SameKey}
 use Rattle.consistency.specs.ConsistentTest.{consistent}
 use Rattle.consistency.proofs.ConsistentTestIff.{consistent-iff}
-use Rattle.asking.specs.Keys.{legalKey, found, findFrom}
-use Rattle.asking.specs.Asked.{fileRows, entryNo, fileOf}
-use Rattle.asking.specs.AskedStage.{stageOf, askedOf}
+use Rattle.asking.specs.KeysTest.{legalKey, found, findFrom}
+use Rattle.asking.specs.AskedStage.{fileRows, stageOf, askedOf}
+use Rattle.asking.specs.Asked.{entryNo, fileOf}
 use Rattle.asking.specs.Outcome.{Outcome, zeroed, settled}
 use Rattle.asking.specs.declared.Asked.{Asked}
 use Rattle.asking.specs.declared.Asked.the-variants.{File, Refused}

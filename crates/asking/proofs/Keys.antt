@@ -19,7 +19,8 @@ use Rattle.pack.specs.Consistent.{Consistent}
 use Rattle.pack.specs.Key.{keyIn, SameKey, sameKey}
 use Rattle.pack.proofs.KeySame.{same-key-iff}
 use Rattle.answers.proofs.RefusalsTests.{and-left, and-right, and-both, go-on, stop, true-not-false}
-use Rattle.asking.specs.Keys.{keyOf, legalKey, findFrom, found}
+use Rattle.asking.specs.KeysTest.{legalKey, findFrom, found}
+use Rattle.asking.specs.Keys.{keyOf}
 
 -- UIC 0 is the caller's
 module _ (caller name1 name2 extension uic : ℕ) where

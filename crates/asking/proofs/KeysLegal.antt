@@ -11,7 +11,7 @@ use Rattle.radix.specs.NamesTest.{nameTest, extensionTest, legalName, legalExte
 use Rattle.radix.proofs.Packing.{characters-end}
 use Rattle.pack.specs.declared.Key.{Key}
 use Rattle.answers.proofs.RefusalsTests.{and-left, and-right, true-not-false}
-use Rattle.asking.specs.Keys.{legalKey}
+use Rattle.asking.specs.KeysTest.{legalKey}
 
 -- a test that words without characters fail
 below : (test : Option (List ℕ) → Bool) (word : ℕ) → test none ≡ false → test (charactersOf word) ≡ true → word < upperEnd

@@ -8,7 +8,8 @@ use native.Mathlib.Decide.{decLe}
 use lib.Dec.{leb, ltb}
 use borrow.Author.Tests.{lt-ltb, le-ltb, ltb-true, leb-true, le-leb, lt-leb}
 use Rattle.pack.specs.declared.Entry.{Entry}
-use Rattle.asking.specs.Opens.{opens, isOpen, isFull}
+use Rattle.asking.specs.OpensTest.{isOpen, isFull}
+use Rattle.asking.specs.Opens.{opens}
 
 module _ (x : Entry) where
   pub open-written : 0 < x .writer → true ≡ isOpen x

@@ -9,7 +9,8 @@ use lib.Dec.{eqb, leb}
 use borrow.Author.Tests.{eq-eqb, ne-eqb, eqb-true, leb-true, le-leb}
 use Rattle.asking.specs.declared.Right.{Right}
 use Rattle.asking.specs.declared.Right.the-variants.{Delete, Write, Read}
-use Rattle.asking.specs.Rights.{othersField, groupField, inField, owners, may, InField, May, delete, write, read, owner-reads, owner-writes, owner-deletes, group, others}
+use Rattle.asking.specs.RightsTest.{inField, owners, may}
+use Rattle.asking.specs.Rights.{othersField, groupField, InField, May, delete, write, read, owner-reads, owner-writes, owner-deletes, group, others}
 
 -- a field
 pub field-delete : (right : Right) (field : ℕ) → right ≡ Delete → eqb field 0 ≡ inField right field

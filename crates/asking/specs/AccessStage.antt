@@ -6,8 +6,8 @@ use Rattle.pack.specs.declared.Entry.{Entry}
 use Rattle.pack.specs.declared.Key.{Key}
 use Rattle.asking.specs.declared.Right.{Right}
 use Rattle.asking.specs.declared.Asked.{Asked}
-use Rattle.asking.specs.Asked.{fileRows, fileOf}
-use Rattle.asking.specs.AskedStage.{stageOf}
+use Rattle.asking.specs.AskedStage.{fileRows, stageOf}
+use Rattle.asking.specs.Asked.{fileOf}
 use Rattle.asking.specs.Access.{accessRows}
 
 -- `closed` is what the request means by a file that is not open as it needs

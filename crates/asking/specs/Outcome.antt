@@ -16,7 +16,7 @@ zeroed [] = []
 zeroed (x ∷ xs) = 0 ∷ zeroed xs
 
 -- "A refusal returns its code, any other number in the answer 0 .., and nothing in the image or a lent buffer changes."
--- `effect` is what there is on success, with code 0.
+-- `effect` is what there is on success, with code 0; the code itself is that of the rows.
 unfoldable pub settled : List Row → List ℕ → List ℕ → Outcome → Outcome
 settled rows image buffer effect =
     record {

@@ -1,8 +1,6 @@
 -- Rights, as document 01 gives Figure 2-7.
 use Prim.Native.Nat.{ℕ, _/_, _%_, _≤_}
 use mathlib.Core.Path.{_≡_}
-use mathlib.Core.Bool.{Bool, true, cond}
-use lib.Dec.{eqb, leb}
 use Rattle.asking.specs.declared.Right.{Right}
 use Rattle.asking.specs.declared.Right.the-variants.{Delete, Write, Read}
 
@@ -14,29 +12,13 @@ abbrev pub groupField : ℕ → ℕ
 groupField protect = (protect / 8) % 8
 
 -- "each: 0 delete, write, read; 1 write, read; 2, 3 read; 4 to 7 none of these."
-unfoldable pub inField : Right → ℕ → Bool
-inField Delete field = eqb field 0
-inField Write field = leb field 1
-inField Read field = leb field 3
-
--- "Bit 6 denies the owner writing and deleting; the owner always reads."
-unfoldable pub owners : Right → ℕ → Bool
-owners Delete protect = eqb ((protect / 64) % 2) 0
-owners Write protect = eqb ((protect / 64) % 2) 0
-owners Read protect = true
-
--- "The owner has the file's UIC; the group has its high byte."
-unfoldable pub may : Right → ℕ → ℕ → ℕ → Bool
-may right caller uic protect =
-    cond (eqb caller uic) (owners right protect)
-    (cond (eqb (caller / 256) (uic / 256)) (inField right (groupField protect)) (inField right (othersField protect)))
-
--- The same as a proposition: who may do what, case by case of the figure. `proofs/Rights.antt` has that the test says exactly this.
 pub data InField : Right → ℕ → Type 0 where
   delete : InField Delete 0
   write : {field : ℕ} → field ≤ 1 → InField Write field
   read : {field : ℕ} → field ≤ 3 → InField Read field
 
+-- "Bit 6 denies the owner writing and deleting; the owner always reads." "The owner has the file's UIC; the group has its high byte."
+-- Exactly one class applies: the owner is no member of the group, and no member of the group is one of the others.
 pub data May (caller uic protect : ℕ) : Right → Type 0 where
   owner-reads : caller ≡ uic → May caller uic protect Read
   owner-writes : caller ≡ uic → (protect / 64) % 2 ≡ 0 → May caller uic protect Write

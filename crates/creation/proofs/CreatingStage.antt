@@ -21,7 +21,7 @@ use Rattle.pack.specs.HeaderTest.{listed}
 use Rattle.pack.proofs.HeaderRules.{header-sized}
 use Rattle.consistency.specs.ConsistentTest.{consistent}
 use Rattle.consistency.proofs.ConsistentTestIff.{consistent-iff}
-use Rattle.asking.specs.Keys.{legalKey, found}
+use Rattle.asking.specs.KeysTest.{legalKey, found}
 use Rattle.creation.specs.CreatingLowest.{lowestEmpty}
 use Rattle.creation.specs.Creating.{creatingRows, LowestEmpty, entryFor}
 use Rattle.creation.specs.CreatingStage.{creatingOf}

@@ -11,7 +11,7 @@ use Rattle.pack.specs.Geometry.{geometryOf, slots}
 use Rattle.pack.specs.Entry.{Empty}
 use Rattle.pack.specs.HeaderTest.{listed}
 use Rattle.consistency.specs.ConsistentTest.{consistent}
-use Rattle.asking.specs.Keys.{legalKey, found}
+use Rattle.asking.specs.KeysTest.{legalKey, found}
 use Rattle.pack.specs.EntryWords.{setEntryWords, wordsOf}
 use Rattle.creation.specs.declared.creating.Shape.{Shape}
 use Rattle.creation.specs.CreatingLowest.{lowestEmpty}

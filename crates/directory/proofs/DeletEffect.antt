@@ -38,7 +38,7 @@ use Rattle.directory.specs.Delet.{delet}
 use Rattle.asking.proofs.AskedCleared.{Cleared}
 use Rattle.asking.proofs.Outcome.{code-is, success-image, refusal-keeps, image-by}
 use Rattle.asking.specs.Outcome.{Unchanged}
-use Rattle.asking.specs.Keys.{found}
+use Rattle.asking.specs.KeysTest.{found}
 use Rattle.asking.proofs.Keys.{absent-iff, one-entry, not-empty}
 use Rattle.directory.proofs.DeletStage.{delet-cleared}
 

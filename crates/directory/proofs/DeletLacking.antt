@@ -7,8 +7,8 @@ use Rattle.answers.specs.Refusals.{Row, row, firstOf}
 use Rattle.answers.proofs.Refusals.{refuse, pass, clear}
 use Rattle.pack.specs.declared.Entry.{Entry}
 use Rattle.asking.specs.declared.Right.{Right}
-use Rattle.asking.specs.Rights.{may}
-use Rattle.asking.specs.Opens.{isOpen}
+use Rattle.asking.specs.RightsTest.{may}
+use Rattle.asking.specs.OpensTest.{isOpen}
 
 abbrev pub lacking : Right → ℕ → Entry → List Row
 lacking right caller x = row (not (may right caller (x .uic) (x .protect))) 0o6 ∷ (row (isOpen x) 0o14 ∷ [])

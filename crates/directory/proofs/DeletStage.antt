@@ -13,10 +13,9 @@ use Rattle.pack.specs.GeometrySized.{Sized}
 use Rattle.asking.specs.declared.Right.the-variants.{Delete}
 use Rattle.asking.specs.declared.Asked.{Asked}
 use Rattle.asking.specs.declared.Asked.the-variants.{File, Refused}
-use Rattle.asking.specs.Asked.{fileRows}
-use Rattle.asking.specs.AskedStage.{askedOf, stageOf}
-use Rattle.asking.specs.Rights.{may}
-use Rattle.asking.specs.Opens.{isOpen}
+use Rattle.asking.specs.AskedStage.{fileRows, askedOf, stageOf}
+use Rattle.asking.specs.RightsTest.{may}
+use Rattle.asking.specs.OpensTest.{isOpen}
 use Rattle.pack.specs.EntryWords.{clearEntry}
 use Rattle.asking.proofs.AskedStage.{stage-clear, stage-refused, stage-stopped, stage-passed, stage-is-file, writing-refused, writing-done}
 use Rattle.directory.specs.DeletRows.{deletRows}

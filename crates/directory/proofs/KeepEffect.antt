@@ -22,8 +22,9 @@ use Rattle.pack.specs.Owner.{ownerOf}
 use Rattle.pack.specs.Untouched.{Untouched}
 use Rattle.pack.proofs.GeometryRoom.{entry-room}
 use Rattle.consistency.proofs.ConsistentTestIff.{consistent-iff}
-use Rattle.asking.specs.Keys.{found}
-use Rattle.asking.specs.Asked.{fileRows, entryNo, fileOf}
+use Rattle.asking.specs.KeysTest.{found}
+use Rattle.asking.specs.AskedStage.{fileRows}
+use Rattle.asking.specs.Asked.{entryNo, fileOf}
 use Rattle.pack.specs.EntryWords.{setEntryWord}
 use Rattle.asking.proofs.AskedStage.{stage-clear, number-found, file-found}
 use Rattle.frame.specs.Framing.Distinct.{known}

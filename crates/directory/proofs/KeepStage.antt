@@ -16,8 +16,8 @@ use Rattle.pack.specs.Geometry.{slots}
 use Rattle.pack.specs.GeometrySized.{Sized}
 use Rattle.asking.specs.declared.Asked.{Asked}
 use Rattle.asking.specs.declared.Asked.the-variants.{File, Refused}
-use Rattle.asking.specs.Asked.{fileRows, fileOf}
-use Rattle.asking.specs.AskedStage.{askedOf, stageOf}
+use Rattle.asking.specs.AskedStage.{fileRows, askedOf, stageOf}
+use Rattle.asking.specs.Asked.{fileOf}
 use Rattle.pack.specs.EntryWords.{setEntryWord}
 use Rattle.asking.proofs.AskedStage.{stage-clear, stage-refused, stage-stopped, stage-passed, Given, stage-is-file, writing-refused, writing-done}
 use Rattle.directory.specs.KeepRows.{keepRows}

@@ -9,8 +9,7 @@ use Rattle.pack.specs.declared.Entry.{Entry}
 use Rattle.pack.specs.declared.Key.{Key}
 use Rattle.asking.specs.declared.Asked.{Asked}
 use Rattle.asking.specs.declared.Asked.the-variants.{File, Refused}
-use Rattle.asking.specs.Asked.{fileRows}
-use Rattle.asking.specs.AskedStage.{askedOf}
+use Rattle.asking.specs.AskedStage.{fileRows, askedOf}
 use Rattle.asking.proofs.AskedStage.{file-ordered, asked-is-file, asked-is-refused, asked-entry}
 use Rattle.asking.proofs.Outcome.{settled-refused, settled-success}
 use Rattle.directory.specs.LookRows.{lookRows}

@@ -17,7 +17,7 @@ use Rattle.pack.specs.Owner.{ownerOf}
 use Rattle.pack.specs.Key.{keyIn, SameKey}
 use Rattle.pack.specs.Untouched.{Untouched}
 use Rattle.pack.proofs.GeometryRoom.{entry-room, sized-same}
-use Rattle.asking.specs.Keys.{found}
+use Rattle.asking.specs.KeysTest.{found}
 use Rattle.asking.specs.Asked.{entryNo, fileOf}
 use Rattle.pack.specs.EntryWords.{setEntryWords}
 use Rattle.asking.proofs.Keys.{legal-iff, one-entry, absent-iff}

@@ -15,7 +15,7 @@ use Rattle.pack.specs.Entry.{entryWord, entryOf, blocksAt}
 use Rattle.pack.specs.Consistent.{Consistent}
 use Rattle.pack.specs.Owner.{placeFrom, ownerOf}
 use Rattle.pack.specs.Key.{keyIn, SameKey}
-use Rattle.asking.specs.Keys.{legalKey, found}
+use Rattle.asking.specs.KeysTest.{legalKey, found}
 use Rattle.asking.proofs.Keys.{found-iff}
 use Rattle.frame.specs.Framed.{Only, Never, Kept}
 use Rattle.frame.specs.Framing.{Framed, Distinct}

@@ -30,11 +30,11 @@ use Rattle.asking.specs.declared.Grant.the-variants.{Granted, Denied}
 use Rattle.asking.specs.declared.Right.the-variants.{Write}
 use Rattle.asking.specs.declared.Asked.{Asked}
 use Rattle.asking.specs.declared.Asked.the-variants.{File, Refused}
-use Rattle.asking.specs.Keys.{legalKey, findFrom, found}
+use Rattle.asking.specs.KeysTest.{legalKey, findFrom, found}
 use Rattle.asking.specs.AskedStage.{foundIn, stageOf, granted}
 use Rattle.asking.specs.Asked.{fileOf}
-use Rattle.asking.specs.Rights.{may}
-use Rattle.asking.specs.Opens.{isOpen}
+use Rattle.asking.specs.RightsTest.{may}
+use Rattle.asking.specs.OpensTest.{isOpen}
 use Rattle.pack.specs.EntryWords.{setEntryWord, setEntryWords}
 use Rattle.asking.proofs.Keys.{found-keyed}
 use Rattle.asking.proofs.AskedStage.{found-at, stage-refuses, stage-gives, stage-is-file, writing-refused, writing-done, number-found, file-found}

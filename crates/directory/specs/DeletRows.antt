@@ -5,9 +5,10 @@ use mathlib.Core.List.{List, [], _∷_, _++_}
 use Rattle.answers.specs.Refusals.{Row, row}
 use Rattle.pack.specs.declared.Key.{Key}
 use Rattle.asking.specs.declared.Right.the-variants.{Delete}
-use Rattle.asking.specs.Asked.{fileRows, fileOf}
-use Rattle.asking.specs.Rights.{may}
-use Rattle.asking.specs.Opens.{isOpen}
+use Rattle.asking.specs.AskedStage.{fileRows}
+use Rattle.asking.specs.Asked.{fileOf}
+use Rattle.asking.specs.RightsTest.{may}
+use Rattle.asking.specs.OpensTest.{isOpen}
 
 -- "6: right lacking", "14: DELET ..: a file is open"
 unfoldable pub deletRows : List ℕ → Key → ℕ → List Row

@@ -10,7 +10,7 @@ use Rattle.asking.specs.Asked.{entryNo, fileOf}
 use Rattle.pack.specs.EntryWords.{setEntryWord}
 use Rattle.directory.specs.KeepRows.{keepRows}
 
--- "sets bit 7"
+-- "sets bit 7"; "Bit 7 keeps the file at Finish."
 unfoldable pub keptCode : ℕ → ℕ
 keptCode protect = cond (eqb ((protect / 128) % 2) 0) (protect + 128) protect
 

@@ -8,7 +8,7 @@ use Rattle.asking.specs.Asked.{fileOf}
 use Rattle.directory.specs.declared.look.LookAnswer.{LookAnswer}
 use Rattle.directory.specs.LookRows.{lookRows}
 
--- "LOOK: kind, first block, length, protect code, writer, readers;"
+-- "LOOK: kind, first block, length, protect code, writer, readers;" these are "LOOK its six numbers"
 abbrev pub lookNumbers : Entry → List ℕ
 lookNumbers x = x .kind ∷ (x .first .0 ∷ (x .length ∷ (x .protect ∷ (x .writer ∷ (x .readers ∷ [])))))
 

@@ -8,13 +8,13 @@ use Rattle.answers.specs.Missing.{missing}
 use Rattle.pack.specs.declared.Key.{Key}
 use Rattle.consistency.specs.ConsistentTest.{consistent}
 use Rattle.asking.specs.declared.Right.the-variants.{Write}
-use Rattle.asking.specs.Keys.{legalKey, found}
+use Rattle.asking.specs.KeysTest.{legalKey, found}
 use Rattle.asking.specs.Asked.{fileOf}
-use Rattle.asking.specs.Rights.{may}
-use Rattle.asking.specs.Opens.{isOpen}
+use Rattle.asking.specs.RightsTest.{may}
+use Rattle.asking.specs.OpensTest.{isOpen}
 
 -- "15: a name or extension is not legal", old or new; "41: .. protect above 255"; "2: .. new name in RENAM: exists. Else: absent", also
--- "The same name again is refused with 2."; "6: right lacking"; "14: .. RENAM ..: a file is open"
+-- "The same name again is refused with 2."; "6: right lacking" ("RENAM needs write"); "14: .. RENAM ..: a file is open"
 unfoldable pub renamRows : List ℕ → Key → Key → ℕ → ℕ → List Row
 renamRows img old new protect caller =
     row (not (consistent img)) 0o40

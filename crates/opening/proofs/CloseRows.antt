@@ -12,8 +12,8 @@ use Rattle.pack.specs.declared.Entry.{Entry}
 use Rattle.pack.specs.declared.Key.{Key}
 use Rattle.asking.specs.declared.Asked.{Asked}
 use Rattle.asking.specs.declared.Asked.the-variants.{File, Refused}
-use Rattle.asking.specs.Asked.{fileRows, fileOf}
-use Rattle.asking.specs.AskedStage.{askedOf}
+use Rattle.asking.specs.AskedStage.{fileRows, askedOf}
+use Rattle.asking.specs.Asked.{fileOf}
 use Rattle.asking.proofs.AskedStage.{FileAsked, asked-is-file, asked-is-refused, asked-entry, file-refused, file-clear}
 use Rattle.opening.specs.declared.change.EntryChange.the-variants.{Set, Refused as No}
 use Rattle.opening.specs.Close.{wrongMode, isOpenAs, closeRows}

@@ -11,8 +11,9 @@ use Rattle.answers.proofs.Refusals.{none-given}
 use Rattle.pack.specs.declared.Entry.{Entry}
 use Rattle.pack.specs.declared.Key.{Key}
 use Rattle.asking.specs.Asked.{fileOf}
-use Rattle.asking.specs.Rights.{may}
-use Rattle.asking.specs.Opens.{opens, isFull}
+use Rattle.asking.specs.RightsTest.{may}
+use Rattle.asking.specs.OpensTest.{isFull}
+use Rattle.asking.specs.Opens.{opens}
 use Rattle.asking.specs.Outcome.{settled}
 use Rattle.asking.proofs.AskedCleared.{FileCleared, file-cleared}
 use Rattle.opening.specs.declared.Opening.{Opening}

@@ -15,10 +15,11 @@ use Rattle.asking.specs.declared.Asked.the-variants.{File, Refused}
 use Rattle.asking.specs.declared.Right.{Right}
 use Rattle.asking.specs.declared.Grant.{Grant}
 use Rattle.asking.specs.declared.Grant.the-variants.{Granted, Denied}
-use Rattle.asking.specs.Asked.{fileRows, fileOf}
-use Rattle.asking.specs.AskedStage.{askedOf, granted}
-use Rattle.asking.specs.Rights.{may}
-use Rattle.asking.specs.Opens.{opens, isFull}
+use Rattle.asking.specs.AskedStage.{fileRows, askedOf, granted}
+use Rattle.asking.specs.Asked.{fileOf}
+use Rattle.asking.specs.RightsTest.{may}
+use Rattle.asking.specs.OpensTest.{isFull}
+use Rattle.asking.specs.Opens.{opens}
 use Rattle.asking.proofs.AskedStage.{FileAsked, asked-is-file, asked-is-refused, asked-entry, file-refused, file-clear}
 use Rattle.opening.specs.declared.Opening.{Opening}
 use Rattle.opening.specs.declared.Opening.the-variants.{Input, Update, Extension}

@@ -8,7 +8,8 @@ use Rattle.pack.specs.declared.Entry.{Entry}
 use Rattle.pack.specs.declared.Key.{Key}
 use Rattle.pack.specs.Geometry.{geometryOf}
 use Rattle.asking.specs.Outcome.{Outcome, settled}
-use Rattle.asking.specs.Asked.{fileRows, entryNo, fileOf}
+use Rattle.asking.specs.AskedStage.{fileRows}
+use Rattle.asking.specs.Asked.{entryNo, fileOf}
 use Rattle.pack.specs.EntryWords.{setEntryWord}
 
 -- "41: .. mode not 1 to 4"

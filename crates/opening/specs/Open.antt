@@ -10,9 +10,10 @@ use Rattle.pack.specs.Geometry.{geometryOf}
 use Rattle.asking.specs.declared.Right.{Right}
 use Rattle.asking.specs.declared.Right.the-variants.{Read, Write}
 use Rattle.asking.specs.Outcome.{Outcome, settled}
-use Rattle.asking.specs.Asked.{fileRows, entryNo, fileOf}
-use Rattle.asking.specs.Rights.{may}
-use Rattle.asking.specs.Opens.{isFull}
+use Rattle.asking.specs.AskedStage.{fileRows}
+use Rattle.asking.specs.Asked.{entryNo, fileOf}
+use Rattle.asking.specs.RightsTest.{may}
+use Rattle.asking.specs.OpensTest.{isFull}
 use Rattle.pack.specs.EntryWords.{setEntryWord}
 use Rattle.opening.specs.declared.Opening.{Opening}
 use Rattle.opening.specs.declared.Opening.the-variants.{Input, Update, Extension}

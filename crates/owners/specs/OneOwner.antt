@@ -19,7 +19,8 @@ pub record HeldByOne (img : List ℕ) (e p b : ℕ) : Type 0 where
   pub at : HeldAt img e p b
   pub only : (f q : ℕ) → HeldAt img f q b → (f ≡ e) × (q ≡ p)
 
--- "each block is system, free, or held by one file": three cases, each of which rules out the other two
+-- "each block is system, free, or held by one file": three cases, each of which rules out the other two. It is said of a block of the
+-- pack, below n: then what is no system block and in no file is a free block
 pub data OneOwner (img : List ℕ) (b : ℕ) : Owner → Type 0 where
   system : b < geometryOf img .bodies .0 → Unheld img b → OneOwner img b System
   free : geometryOf img .bodies .0 ≤ b → Unheld img b → OneOwner img b Free

@@ -8,7 +8,8 @@ use Rattle.asking.specs.Outcome.{Outcome, settled}
 use Rattle.owners.specs.declared.OwnerAnswer.{OwnerAnswer}
 use Rattle.owners.specs.OwnerQuestionRows.{ownerRows}
 
--- kind: 0 system, 1 free, 2 held; then entry (stored order, from 0) and place in that file, else 0
+-- "Where an answer is an enum, a definition gives this paper's number and values for each of its cases.": 0 system, 1 free, 2 held; then the entry
+-- (in stored order, from 0) and the place in that file, else 0
 unfoldable pub ownerNumbers : Owner → List ℕ
 ownerNumbers System = 0 ∷ (0 ∷ (0 ∷ []))
 ownerNumbers Free = 1 ∷ (0 ∷ (0 ∷ []))

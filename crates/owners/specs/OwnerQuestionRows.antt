@@ -7,6 +7,6 @@ use Rattle.answers.specs.Refusals.{Row, row}
 use Rattle.pack.specs.Geometry.{geometryOf}
 use Rattle.consistency.specs.ConsistentTest.{consistent}
 
--- 40, and 44 where the pack has no such block (docs/DECISIONS.md 22)
+-- It refuses with 40, and with 44 where the pack has no such block (docs/DECISIONS.md 22).
 unfoldable pub ownerRows : List ℕ → ℕ → List Row
 ownerRows img b = row (not (consistent img)) 0o40 ∷ (row (leb (geometryOf img .blocks) b) 0o44 ∷ [])

@@ -21,7 +21,7 @@ use Rattle.pack.specs.Owner.{FreeBlock}
 use Rattle.pack.specs.Key.{keyIn, SameKey}
 use Rattle.pack.proofs.KeySame.{same-through}
 use Rattle.asking.specs.declared.Right.the-variants.{Read, Write}
-use Rattle.asking.specs.Keys.{legalKey}
+use Rattle.asking.specs.KeysTest.{legalKey}
 use Rattle.asking.specs.Access.{accessRows}
 use Rattle.asking.specs.Asked.{entryNo, fileOf}
 use Rattle.asking.specs.Outcome.{settled}

@@ -21,7 +21,7 @@ use Rattle.pack.proofs.FileCount.{count-at}
 use Rattle.consistency.proofs.ConsistentTestIff.{consistent-iff}
 use Rattle.pack.proofs.KeySame.{same-through}
 use Rattle.asking.specs.declared.Right.the-variants.{Read}
-use Rattle.asking.specs.Keys.{legalKey, found}
+use Rattle.asking.specs.KeysTest.{legalKey, found}
 use Rattle.asking.specs.Asked.{entryNo, fileOf}
 use Rattle.asking.specs.Rights.{May}
 use Rattle.pack.specs.EntryWords.{setEntryWord}

@@ -17,7 +17,7 @@ use Rattle.asking.specs.declared.Right.{Right}
 use Rattle.asking.specs.Access.{accessRows}
 use Rattle.asking.specs.Asked.{fileOf}
 use Rattle.asking.specs.Outcome.{settled}
-use Rattle.asking.specs.Rights.{may}
+use Rattle.asking.specs.RightsTest.{may}
 use Rattle.transfer.specs.BlockRows.{blockInRows, blockOutRows}
 use Rattle.transfer.specs.Block.{blockIn, blockOut}
 use Rattle.transfer.specs.LinkedReadRows.{linkedReadRows}

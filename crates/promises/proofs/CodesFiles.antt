@@ -11,7 +11,8 @@ use Rattle.pack.specs.declared.Key.{Key}
 use Rattle.pack.specs.Geometry.{geometryOf}
 use Rattle.pack.specs.Consistent.{Consistent}
 use Rattle.consistency.proofs.ConsistentTestIff.{consistent-iff}
-use Rattle.asking.specs.Asked.{fileRows, fileOf}
+use Rattle.asking.specs.AskedStage.{fileRows}
+use Rattle.asking.specs.Asked.{fileOf}
 use Rattle.asking.specs.Outcome.{settled}
 use Rattle.asking.proofs.Opens.{open-iff, full-iff}
 use Rattle.owners.specs.OwnerQuestionRows.{ownerRows}

@@ -20,8 +20,9 @@ use Rattle.answers.proofs.RefusalsTests.{true-not-false}
 use Rattle.consistency.specs.ConsistentTest.{consistent}
 use Rattle.consistency.proofs.ConsistentTestIff.{consistent-iff}
 use Rattle.asking.specs.declared.Right.{Right}
-use Rattle.asking.specs.Keys.{legalKey, found}
-use Rattle.asking.specs.Rights.{may, May}
+use Rattle.asking.specs.KeysTest.{legalKey, found}
+use Rattle.asking.specs.RightsTest.{may}
+use Rattle.asking.specs.Rights.{May}
 use Rattle.asking.proofs.Keys.{legal-iff, found-iff, absent-iff}
 use Rattle.asking.proofs.Rights.{may-iff}
 use Rattle.creation.specs.CreatingLowest.{lowestEmpty}

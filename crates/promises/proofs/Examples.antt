@@ -10,7 +10,7 @@ use Rattle.radix.specs.Radup.{radup}
 use Rattle.numerals.specs.Digits.{valueOf, numberOf, digitsOf}
 use Rattle.numerals.specs.Decimal.{d2bin, bin2d}
 use Rattle.numerals.specs.Octal.{o2bin, bin2o}
-use Rattle.asking.specs.Rights.{may, inField}
+use Rattle.asking.specs.RightsTest.{may, inField}
 use Rattle.command_cursor.specs.FilledWord.{filledWord}
 use Rattle.command_grammar.specs.Reading.{reads, kept, sideOf, specificationAt}
 use Rattle.command_grammar.specs.Reader.{readLine}

@@ -28,10 +28,11 @@ use Rattle.consistency.specs.ConsistentTest.{consistent}
 use Rattle.consistency.proofs.ConsistentTestIff.{consistent-iff}
 use Rattle.asking.specs.declared.Right.{Right}
 use Rattle.asking.specs.declared.Right.the-variants.{Write}
-use Rattle.asking.specs.Outcome.{Outcome, Unchanged}
-use Rattle.asking.specs.Keys.{legalKey, found}
+use Rattle.asking.specs.Outcome.{Unchanged}
+use Rattle.asking.specs.KeysTest.{legalKey, found}
 use Rattle.asking.specs.Asked.{fileOf}
-use Rattle.asking.specs.Rights.{may, May}
+use Rattle.asking.specs.RightsTest.{may}
+use Rattle.asking.specs.Rights.{May}
 use Rattle.asking.proofs.Keys.{found-iff, absent-iff, one-entry}
 use Rattle.asking.proofs.Rights.{may-iff}
 use Rattle.owners.specs.OneOwner.{OneOwner}
@@ -55,8 +56,8 @@ use Rattle.command.specs.Condensed.{condensed, TooLong}
 use Rattle.command.specs.Csi1.{Csi1Answered}
 use Rattle.command.specs.Csi2.{Csi2Answered}
 use Rattle.command.specs.Known.{Reply, Replied, KnownUpTo51, knownOf}
-use Rattle.requests.specs.Request.{Request, outcome, Names, bufferLent, numbersAnswered}
-use Rattle.requests.specs.Contract.{Meets}
+use Rattle.requests.specs.Request.{Request, outcome, Names, bufferLent}
+use Rattle.requests.specs.Contract.{Result, numbersIn, Meets, contractOf}
 use Rattle.requests.proofs.RequestConsistent
 use Rattle.requests.proofs.RequestRefused
 use Rattle.requests.proofs.RequestUntouched
@@ -117,7 +118,7 @@ bin2o-demands = ConversionsDemands.bin2o-demands
 
 -- 1.3 "and the image and each lent buffer then hold what they held before."
 pub refusal-leaves : (r : Request) (img : List ℕ) → (outcome r img .code ≡ 0 → ⊥)
-    → Unchanged (outcome r img) (replicate (numbersAnswered r) 0) img (bufferLent r)
+    → Unchanged (outcome r img) (replicate (numbersIn (contractOf r)) 0) img (bufferLent r)
 refusal-leaves = RequestRefused.refusal-leaves
 
 pub csi1-kept : (line buffer : List ℕ) (answer : Answer) (after : List ℕ) → Csi1Answered line buffer answer after → (answer .code ≡ 0 → ⊥) → after ≡ buffer
@@ -128,9 +129,10 @@ pub csi2-kept : (line : List ℕ) (side k : ℕ) (buffer : List ℕ) (answer : S
 csi2-kept = CommandCodes.csi2-kept
 
 -- 2.1 "From any consistent image, each request has exactly the effect and answer that the build document draws from the handbook."
--- Each contract is an equation with the request's `outcome`, whose definition says every word that changes. It allows one outcome:
-pub one-outcome : (r : Request) (img : List ℕ) (a b : Outcome) → Meets (outcome r img) a → Meets (outcome r img) b → a ≡ b
-one-outcome r img = ContractSingle.outcome-single (outcome r img)
+-- Each contract is an equation with the request's `outcome`, whose definition says every word that changes. It allows one result:
+pub one-result : (r : Request) (img : List ℕ) (a b : Result (contractOf r))
+    → Meets (contractOf r) img (outcome r img) a → Meets (contractOf r) img (outcome r img) b → a ≡ b
+one-result = ContractSingle.one-result
 
 -- and it touches no file that it does not name
 pub who-is-not-named : (r : Request) {img : List ℕ} → Consistent img → (who : Key) → (Names r who → ⊥) → Untouched who img (outcome r img .image)

@@ -14,7 +14,7 @@ use Rattle.numerals.specs.Decimal.{d2bin, bin2d}
 use Rattle.numerals.specs.Octal.{o2bin, bin2o}
 use Rattle.words.specs.Text.{bytes}
 use Rattle.asking.specs.declared.Right.the-variants.{Read, Write}
-use Rattle.asking.specs.Rights.{may}
+use Rattle.asking.specs.RightsTest.{may}
 use Rattle.command_grammar.specs.Parsed.{Specification}
 use Rattle.command_grammar.specs.Reading.{Reading, Reads, sideOf, specificationAt}
 use Rattle.command_grammar.specs.LinePlace.{LinePlace}

@@ -1,51 +1,38 @@
--- For given inputs the contracts of the requests on an image allow one answer, one image and one buffer.
+-- For given inputs the contract of each function on an image allows one result: one answer, and one content of the slice that it may write.
 use Prim.Native.Nat.{ℕ}
 use mathlib.Core.Path.{_≡_, sym, ap, _∙_}
-use mathlib.Core.List.{List, [], _∷_}
+use mathlib.Core.List.{List}
 use lib.ListN.{getD}
-use Rattle.answers.specs.declared.Answer.{Answer}
 use Rattle.asking.specs.Outcome.{Outcome}
-use Rattle.directory.specs.declared.look.LookAnswer.{LookAnswer}
-use Rattle.directory.specs.Look.{lookOutcome}
-use Rattle.owners.specs.declared.OwnerAnswer.{OwnerAnswer}
 use Rattle.owners.specs.OwnerQuestion.{ownerOutcome}
-use Rattle.requests.specs.Contract.{Meets}
+use Rattle.directory.specs.Look.{lookOutcome}
+use Rattle.requests.specs.Request.{Request, outcome}
+use Rattle.requests.specs.Contract.{Contract, code-and-image, answer-and-image, code-and-buffer, look-answer, owner-answer, Result, Meets, contractOf}
 
-pub outcome-single : (outcome a b : Outcome) → Meets outcome a → Meets outcome b → a ≡ b
-outcome-single outcome a b x y =
-    λ i. record {
-      code = (x .code ∙ sym (y .code)) i;
-      numbers = (x .numbers ∙ sym (y .numbers)) i;
-      image = (x .image ∙ sym (y .image)) i;
-      buffer = (x .buffer ∙ sym (y .buffer)) i;
-    }
-
--- LOOK and the owner answer with a struct: an outcome has every member of it
-pub look-single : (img : List ℕ) (outcome : Outcome) (a b : LookAnswer) → lookOutcome img a ≡ outcome → lookOutcome img b ≡ outcome → a ≡ b
-look-single img outcome a b x y =
+pub result-single : (contract : Contract) (img : List ℕ) (due : Outcome) (a b : Result contract)
+    → Meets contract img due a → Meets contract img due b → a ≡ b
+result-single code-and-image img due a b x y = λ i. ((x .0 ∙ sym (y .0)) i, (x .1 ∙ sym (y .1)) i)
+result-single answer-and-image img due a b x y =
+    λ i. (
+      record { code = (x .0 ∙ sym (y .0)) i; number = ap (λ (numbers : List ℕ). getD numbers 0 0) (x .1 ∙ sym (y .1)) i },
+      (x .2 ∙ sym (y .2)) i,
+    )
+result-single code-and-buffer img due a b x y = λ i. ((x .0 ∙ sym (y .0)) i, (x .1 ∙ sym (y .1)) i)
+result-single look-answer img due a b x y =
     let same : lookOutcome img a ≡ lookOutcome img b = x ∙ sym y in
     λ i. record {
-      code = ap (λ (o : Outcome). o .code) same i;
-      kind = ap (λ (o : Outcome). getD (o .numbers) 0 0) same i;
-      first = ap (λ (o : Outcome). getD (o .numbers) 1 0) same i;
-      length = ap (λ (o : Outcome). getD (o .numbers) 2 0) same i;
-      protect = ap (λ (o : Outcome). getD (o .numbers) 3 0) same i;
-      writer = ap (λ (o : Outcome). getD (o .numbers) 4 0) same i;
-      readers = ap (λ (o : Outcome). getD (o .numbers) 5 0) same i;
+      code = same i .code;
+      kind = getD (same i .numbers) 0 0;
+      first = getD (same i .numbers) 1 0;
+      length = getD (same i .numbers) 2 0;
+      protect = getD (same i .numbers) 3 0;
+      writer = getD (same i .numbers) 4 0;
+      readers = getD (same i .numbers) 5 0;
     }
-
-pub owner-single : (img : List ℕ) (outcome : Outcome) (a b : OwnerAnswer) → ownerOutcome img a ≡ outcome → ownerOutcome img b ≡ outcome → a ≡ b
-owner-single img outcome a b x y =
+result-single owner-answer img due a b x y =
     let same : ownerOutcome img a ≡ ownerOutcome img b = x ∙ sym y in
-    λ i. record {
-      code = ap (λ (o : Outcome). o .code) same i;
-      kind = ap (λ (o : Outcome). getD (o .numbers) 0 0) same i;
-      entry = ap (λ (o : Outcome). getD (o .numbers) 1 0) same i;
-      place = ap (λ (o : Outcome). getD (o .numbers) 2 0) same i;
-    }
+    λ i. record { code = same i .code; kind = getD (same i .numbers) 0 0; entry = getD (same i .numbers) 1 0; place = getD (same i .numbers) 2 0 }
 
--- ALLOC and linked add answer with a code and a number
-pub answer-single : (outcome : Outcome) (a b : Answer) → a .code ≡ outcome .code → a .number ∷ [] ≡ outcome .numbers
-    → b .code ≡ outcome .code → b .number ∷ [] ≡ outcome .numbers → a ≡ b
-answer-single outcome a b x p y q =
-    λ i. record { code = (x ∙ sym y) i; number = ap (λ (numbers : List ℕ). getD numbers 0 0) (p ∙ sym q) i }
+pub one-result : (r : Request) (img : List ℕ) (a b : Result (contractOf r))
+    → Meets (contractOf r) img (outcome r img) a → Meets (contractOf r) img (outcome r img) b → a ≡ b
+one-result r img = result-single (contractOf r) img (outcome r img)

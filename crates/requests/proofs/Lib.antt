@@ -1,6 +1,11 @@
 -- What holds of every request on an image, one theorem each.
 pub mod RequestAsking
+pub mod RequestFormat
 pub mod RequestConsistent
 pub mod RequestRefused
 pub mod RequestUntouched
+pub mod ChangesWritten
+pub mod ChangesEntries
+pub mod ChangesBodies
+pub mod Changes
 pub mod ContractSingle

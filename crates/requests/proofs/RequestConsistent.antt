@@ -1,13 +1,8 @@
 -- From a consistent image every request leaves a consistent one, refused or done.
 use Prim.Native.Nat.{ℕ}
-use mathlib.Core.Path.{_≡_, refl, sym, ap, subst}
-use mathlib.Core.Bool.{Bool, true, false}
+use mathlib.Core.Path.{_≡_, refl, sym, subst}
 use mathlib.Core.List.{List}
-use lib.ListN.{length}
 use Rattle.pack.specs.Consistent.{Consistent}
-use Rattle.asking.specs.Outcome.{Outcome}
-use Rattle.creation.specs.Format.{formatTest, format}
-use Rattle.creation.proofs.FormatRows.{format-refused, format-done}
 use Rattle.creation.proofs.FormatEffect.{format-consistent}
 use Rattle.creation.proofs.AllocEffect.{alloc-consistent}
 use Rattle.creation.proofs.OpenoEffect.{openo-consistent}
@@ -21,17 +16,8 @@ use Rattle.transfer.proofs.BlockWritten.{block-out-consistent}
 use Rattle.appending.proofs.AppndEffect.{appnd-consistent}
 use Rattle.adding.proofs.LinkedAddEffect.{add-consistent}
 use Rattle.requests.specs.Request.{Request, outcome, FORMAT, ALLOC, OPENO, OPEN, CLOSE, DELET, RENAM, APPND, LOOK, KEEP, BLOCK-INPUT, BLOCK-OUTPUT, LINKED-READ, LINKED-ADD, OWNER}
+use Rattle.requests.proofs.RequestFormat.{format-by}
 use Rattle.requests.proofs.RequestAsking.{look-image, owner-image, block-input-image, linked-read-image}
-
--- Format: refused it leaves the image, done it leaves an empty pack
-format-stays : (img : List ℕ) (form blocks contents : ℕ) (uics : List ℕ) → Consistent img → Consistent (format img form blocks contents uics .image)
-format-stays img form blocks contents uics right = by (formatTest (length img) form blocks contents uics) refl
-  where
-    by : (test : Bool) → formatTest (length img) form blocks contents uics ≡ test → Consistent (format img form blocks contents uics .image)
-    by true holds =
-        subst Consistent (sym (ap (λ (o : Outcome). o .image) (format-done img form blocks contents uics holds)))
-        (format-consistent img form blocks contents uics holds)
-    by false fails = subst Consistent (sym (ap (λ (o : Outcome). o .image) (format-refused img form blocks contents uics fails))) right
 
 -- the image is as it was
 kept-right : {img after : List ℕ} → after ≡ img → Consistent img → Consistent after
@@ -39,7 +25,7 @@ kept-right same right = subst Consistent (sym same) right
 
 -- 2.2 "The image stays consistent"
 pub stays-consistent : (r : Request) {img : List ℕ} → Consistent img → Consistent (outcome r img .image)
-stays-consistent (FORMAT form blocks contents uics) {img} right = format-stays img form blocks contents uics right
+stays-consistent (FORMAT form blocks contents uics) {img} right = format-by img form blocks contents uics Consistent right (format-consistent img form blocks contents uics)
 stays-consistent (ALLOC key caller protect segments) {img} right = alloc-consistent img key caller protect segments right
 stays-consistent (OPENO key caller protect) {img} right = openo-consistent img key caller protect right
 stays-consistent (OPEN mode key caller) {img} right = open-consistent mode img key caller right

@@ -27,7 +27,8 @@ use Rattle.transfer.proofs.BlockOutput.{block-out-refused}
 use Rattle.transfer.proofs.LinkedReadStage.{linked-read-refused}
 use Rattle.appending.proofs.AppndEffect.{appnd-refused}
 use Rattle.adding.proofs.LinkedAddEffect.{add-refused}
-use Rattle.requests.specs.Request.{Request, outcome, bufferLent, numbersAnswered, FORMAT, ALLOC, OPENO, OPEN, CLOSE}
+use Rattle.requests.specs.Contract.{numbersIn, contractOf}
+use Rattle.requests.specs.Request.{Request, outcome, bufferLent, FORMAT, ALLOC, OPENO, OPEN, CLOSE}
 use Rattle.requests.specs.Request.{DELET, RENAM, APPND, LOOK, KEEP, BLOCK-INPUT, BLOCK-OUTPUT, LINKED-READ, LINKED-ADD, OWNER}
 
 look-unchanged : (img : List ℕ) (key : Key) → (look img key .code ≡ 0 → ⊥) → Unchanged (look img key) (replicate 6 0) img []
@@ -47,7 +48,7 @@ owner-unchanged img block never =
 
 -- 1.3 "and the image and each lent buffer then hold what they held before"; "any other number in the answer 0"
 pub refusal-leaves : (r : Request) (img : List ℕ) → (outcome r img .code ≡ 0 → ⊥)
-    → Unchanged (outcome r img) (replicate (numbersAnswered r) 0) img (bufferLent r)
+    → Unchanged (outcome r img) (replicate (numbersIn (contractOf r)) 0) img (bufferLent r)
 refusal-leaves (FORMAT form blocks contents uics) img = format-unchanged img form blocks contents uics
 refusal-leaves (ALLOC key caller protect segments) img = alloc-refused img key caller protect segments
 refusal-leaves (OPENO key caller protect) img = openo-refused img key caller protect

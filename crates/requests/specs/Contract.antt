@@ -1,10 +1,63 @@
--- What a contract allows a call to leave.
+-- What the functions of the service on an image return and leave, and what their contracts (crates/service/src) say of it. What is lent for reading only is not written.
+use Prim.Native.Nat.{ℕ}
 use mathlib.Core.Path.{_≡_}
+use mathlib.Core.List.{List, [], _∷_}
+use Rattle.answers.specs.declared.Answer.{Answer}
 use Rattle.asking.specs.Outcome.{Outcome}
+use Rattle.owners.specs.declared.OwnerAnswer.{OwnerAnswer}
+use Rattle.owners.specs.OwnerQuestion.{ownerOutcome}
+use Rattle.directory.specs.declared.look.LookAnswer.{LookAnswer}
+use Rattle.directory.specs.Look.{lookOutcome}
+use Rattle.requests.specs.Request.{Request, FORMAT, ALLOC, OPENO, OPEN, CLOSE, DELET, RENAM, APPND, LOOK, KEEP, BLOCK-INPUT, BLOCK-OUTPUT, LINKED-READ, LINKED-ADD, OWNER}
 
--- what a call left meets a contract that gives its code, numbers, image and buffer as those of an outcome
-pub record Meets (outcome left : Outcome) : Type 0 where
-  pub code : left .code ≡ outcome .code
-  pub numbers : left .numbers ≡ outcome .numbers
-  pub image : left .image ≡ outcome .image
-  pub buffer : left .buffer ≡ outcome .buffer
+-- the shapes of the contracts, by what they give: a code and the image; an answer of a code and a number, and the image; a code and the lent buffer;
+-- the answer of LOOK, and of the question whose a block is
+pub data Contract : Type 0 where
+  code-and-image : Contract
+  answer-and-image : Contract
+  code-and-buffer : Contract
+  look-answer : Contract
+  owner-answer : Contract
+
+-- what a function returns, and with it what the slice then holds that it may write
+abbrev pub Result : Contract → Type 0
+Result code-and-image = ℕ × List ℕ
+Result answer-and-image = Answer × List ℕ
+Result code-and-buffer = ℕ × List ℕ
+Result look-answer = LookAnswer
+Result owner-answer = OwnerAnswer
+
+-- how many numbers that is beside the code: "ALLOC and linked add also return the first or added block, LOOK its six numbers"; whose a block is
+-- is three
+abbrev pub numbersIn : Contract → ℕ
+numbersIn code-and-image = 0
+numbersIn answer-and-image = 1
+numbersIn code-and-buffer = 0
+numbersIn look-answer = 6
+numbersIn owner-answer = 3
+
+-- the lines of `ensures`: of an image as it was lent, and the outcome that is due
+abbrev pub Meets : (contract : Contract) → List ℕ → Outcome → Result contract → Type 0
+Meets code-and-image img due r = (r .0 ≡ due .code) × (r .1 ≡ due .image)
+Meets answer-and-image img due r = (r .0 .code ≡ due .code) × (r .0 .number ∷ [] ≡ due .numbers) × (r .1 ≡ due .image)
+Meets code-and-buffer img due r = (r .0 ≡ due .code) × (r .1 ≡ due .buffer)
+Meets look-answer img due r = lookOutcome img r ≡ due
+Meets owner-answer img due r = ownerOutcome img r ≡ due
+
+-- the contract of each request's function; OPEN has three, `abz_openi`, `abz_openu` and `abz_opene`
+abbrev pub contractOf : Request → Contract
+contractOf (FORMAT form blocks contents uics) = code-and-image
+contractOf (ALLOC key caller protect segments) = answer-and-image
+contractOf (OPENO key caller protect) = code-and-image
+contractOf (OPEN mode key caller) = code-and-image
+contractOf (CLOSE key mode) = code-and-image
+contractOf (DELET key caller) = code-and-image
+contractOf (RENAM old name1 name2 extension protect caller) = code-and-image
+contractOf (APPND first second caller) = code-and-image
+contractOf (LOOK key) = look-answer
+contractOf (KEEP key caller) = code-and-image
+contractOf (BLOCK-INPUT key caller place buffer) = code-and-buffer
+contractOf (BLOCK-OUTPUT key caller place buffer) = code-and-image
+contractOf (LINKED-READ key caller place buffer) = code-and-buffer
+contractOf (LINKED-ADD key caller payload) = answer-and-image
+contractOf (OWNER block) = owner-answer

@@ -1,3 +1,4 @@
--- The requests on an image, as one type, and what their contracts allow.
+-- The requests on an image, as one type, what they may change, and what their contracts allow.
 pub mod Request
+pub mod Changes
 pub mod Contract

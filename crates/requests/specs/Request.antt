@@ -93,21 +93,3 @@ bufferLent (BLOCK-OUTPUT key caller place buffer) = buffer
 bufferLent (LINKED-READ key caller place buffer) = buffer
 bufferLent (LINKED-ADD key caller payload) = payload
 bufferLent (OWNER block) = []
-
--- "ALLOC and linked add also return the first or added block, LOOK its six numbers": how many numbers an answer has beside its code
-abbrev pub numbersAnswered : Request → ℕ
-numbersAnswered (FORMAT form blocks contents uics) = 0
-numbersAnswered (ALLOC key caller protect segments) = 1
-numbersAnswered (OPENO key caller protect) = 0
-numbersAnswered (OPEN mode key caller) = 0
-numbersAnswered (CLOSE key mode) = 0
-numbersAnswered (DELET key caller) = 0
-numbersAnswered (RENAM old name1 name2 extension protect caller) = 0
-numbersAnswered (APPND first second caller) = 0
-numbersAnswered (LOOK key) = 6
-numbersAnswered (KEEP key caller) = 0
-numbersAnswered (BLOCK-INPUT key caller place buffer) = 0
-numbersAnswered (BLOCK-OUTPUT key caller place buffer) = 0
-numbersAnswered (LINKED-READ key caller place buffer) = 0
-numbersAnswered (LINKED-ADD key caller payload) = 1
-numbersAnswered (OWNER block) = 3

@@ -16,9 +16,9 @@ use Rattle.pack.specs.Entry.{entryOf}
 use Rattle.pack.specs.Key.{keyIn, SameKey}
 use Rattle.consistency.proofs.ConsistentTestIff.{consistent-iff}
 use Rattle.asking.specs.declared.Right.the-variants.{Read}
-use Rattle.asking.specs.Keys.{found}
+use Rattle.asking.specs.KeysTest.{found}
 use Rattle.asking.specs.Asked.{entryNo, fileOf}
-use Rattle.asking.specs.Rights.{may}
+use Rattle.asking.specs.RightsTest.{may}
 use Rattle.asking.proofs.Keys.{found-iff}
 use Rattle.asking.proofs.AskedStage.{FileAsked, asked-is-file, asked-file}
 use Rattle.asking.proofs.AccessRows.{Accessed}

@@ -16,7 +16,8 @@ use Rattle.asking.specs.declared.Right.the-variants.{Read}
 use Rattle.asking.specs.declared.Asked.{Asked}
 use Rattle.asking.specs.declared.Asked.the-variants.{File, Refused}
 use Rattle.asking.specs.Outcome.{Outcome, Unchanged}
-use Rattle.asking.specs.Asked.{fileRows, fileOf}
+use Rattle.asking.specs.AskedStage.{fileRows}
+use Rattle.asking.specs.Asked.{fileOf}
 use Rattle.asking.specs.Access.{accessRows}
 use Rattle.asking.specs.AccessStage.{accessedOf}
 use Rattle.asking.proofs.AccessStage.{Reached, reached-file, outcome-unreached, outcome-stopped, outcome-passed, stage-sized}

@@ -9,7 +9,7 @@ use Rattle.asking.specs.Asked.{fileOf}
 use Rattle.bodies.specs.BlockBytes.{blockStart, blockOf, withPart}
 use Rattle.transfer.specs.BlockRows.{blockInRows, blockOutRows}
 
--- "places counted from 0": the block of a contiguous file at a place
+-- "BLOCK: contiguous, places counted from 0 as for linked read": the block of a contiguous file at a place
 abbrev pub blockAtPlace : Entry → ℕ → ℕ
 blockAtPlace x place = x .first .0 + place
 

@@ -7,7 +7,8 @@ use Rattle.answers.specs.Refusals.{Row, row}
 use Rattle.pack.specs.declared.Entry.{Entry}
 use Rattle.pack.specs.declared.Key.{Key}
 use Rattle.asking.specs.declared.Right.the-variants.{Read, Write}
-use Rattle.asking.specs.Asked.{fileRows, fileOf}
+use Rattle.asking.specs.AskedStage.{fileRows}
+use Rattle.asking.specs.Asked.{fileOf}
 use Rattle.asking.specs.Access.{accessRows}
 use Rattle.bodies.specs.BufferSizes.{wrongBlock}
 

@@ -6,7 +6,8 @@ use lib.Dec.{eqb, leb}
 use Rattle.answers.specs.Refusals.{Row, row}
 use Rattle.pack.specs.declared.Key.{Key}
 use Rattle.asking.specs.declared.Right.the-variants.{Read}
-use Rattle.asking.specs.Asked.{fileRows, fileOf}
+use Rattle.asking.specs.AskedStage.{fileRows}
+use Rattle.asking.specs.Asked.{fileOf}
 use Rattle.asking.specs.Access.{accessRows}
 
 -- "Linked read: buffer of 510, read right, a reader.", of no contiguous file, whose kind is 1; behind its access, "44: no such block in the file".

@@ -4,7 +4,7 @@ use mathlib.Core.Path.{_≡_, sym, ap, _∙_}
 use native.Mathlib.Omega.{arith}
 use Rattle.pack.specs.Geometry.{slots}
 use Rattle.pack.proofs.GeometryRoom.{sized-few, below-count, past-count}
-use Rattle.asking.specs.Keys.{findFrom}
+use Rattle.asking.specs.KeysTest.{findFrom}
 use Rattle.asking.proofs.Keys.{find-here, find-next, find-end}
 use Rattle.asking.proofs.find.Statement.{statement}
 use Rattle.asking.proofs.find.Tie as tie

@@ -1,0 +1,70 @@
+-- Which words of the image each request may change, as document 01 has it under 'What each request does'. That no other word changes is proofs/Changes.antt.
+use Prim.Native.Nat.{ℕ, _+_, _*_, _≤_, _<_}
+use mathlib.Core.Path.{_≡_}
+use mathlib.Core.Logic.{_⊎_}
+use mathlib.Core.List.{List}
+use Rattle.pack.specs.declared.Entry.{Entry}
+use Rattle.pack.specs.Form.{segmentsOf, bodiesOf}
+use Rattle.pack.specs.Geometry.{geometryOf, segmentWords, blockWords, blockAt, entryAt}
+use Rattle.asking.specs.Asked.{entryNo, fileOf}
+use Rattle.creation.specs.Creating.{LowestEmpty}
+use Rattle.opening.specs.declared.Opening.the-variants.{Input, Update, Extension}
+use Rattle.adding.specs.LinkedAdd.{addedBlock}
+use Rattle.requests.specs.Request.{Request, FORMAT, ALLOC, OPENO, OPEN, CLOSE, DELET, RENAM, APPND, LOOK, KEEP, BLOCK-INPUT, BLOCK-OUTPUT, LINKED-READ, LINKED-ADD, OWNER}
+
+-- w is word i of entry e; one of its words from `first` to `last`; one of its sixteen
+abbrev pub IsWord : List ℕ → ℕ → ℕ → ℕ → Type 0
+IsWord img e i w = w ≡ entryAt (geometryOf img) e + i
+
+abbrev pub InWords : List ℕ → ℕ → ℕ → ℕ → ℕ → Type 0
+InWords img e first last w = (entryAt (geometryOf img) e + first ≤ w) × (w ≤ entryAt (geometryOf img) e + last)
+
+abbrev pub InEntry : List ℕ → ℕ → ℕ → Type 0
+InEntry img e w = InWords img e 0 15 w
+
+-- w is a word of the lowest empty entry
+abbrev pub InLowestEmpty : List ℕ → ℕ → Type 0
+InLowestEmpty img w = (e : ℕ) × (LowestEmpty img e × InEntry img e w)
+
+-- w is a word of block b
+abbrev pub InBlock : List ℕ → ℕ → ℕ → Type 0
+InBlock img b w = (blockAt (geometryOf img) b ≤ w) × (w < blockAt (geometryOf img) b + blockWords (geometryOf img))
+
+-- w is the link of the last block of a file, which has one: "In a linked file word 0 of a block is the next block"
+abbrev pub IsLastLink : List ℕ → Entry → ℕ → Type 0
+IsLastLink img x w = (0 < x .length) × (w ≡ blockAt (geometryOf img) (x .last .0))
+
+-- The words of an entry: "0, 1 name; 2 extension; .. 4 protect code ..; 6 first block; 7 length in blocks; 8 last block; 9 writer ..; 10 readers".
+abbrev pub MayChange : Request → List ℕ → ℕ → Type 0
+-- "Format: writes blocks 0 to c, bodies untouched"
+MayChange (FORMAT form blocks contents uics) img w = w < bodiesOf form contents * segmentWords (segmentsOf form)
+-- "ALLOC: .. the lowest empty entry filled. .. Bodies are not written."
+MayChange (ALLOC key caller protect segments) img w = InLowestEmpty img w
+-- "OPENO: .. Lowest empty entry."
+MayChange (OPENO key caller protect) img w = InLowestEmpty img w
+-- "OPENI .. adds a reader. OPENU .. writer 1. OPENE .. writer 3."
+MayChange (OPEN Input key caller) img w = IsWord img (entryNo img key) 10 w
+MayChange (OPEN Update key caller) img w = IsWord img (entryNo img key) 9 w
+MayChange (OPEN Extension key caller) img w = IsWord img (entryNo img key) 9 w
+-- "CLOSE with mode 1, 2, 3, or 4 (OPENI): takes that open away"
+MayChange (CLOSE key mode) img w = ((mode ≡ 4) × IsWord img (entryNo img key) 10 w) ⊎ ((mode ≡ 4 → ⊥) × IsWord img (entryNo img key) 9 w)
+-- "DELET .. clears the entry, bodies untouched."
+MayChange (DELET key caller) img w = InEntry img (entryNo img key) w
+-- "RENAM .. changes name, extension and protect code; the UIC stays."
+MayChange (RENAM old name1 name2 extension protect caller) img w = InWords img (entryNo img old) 0 2 w ⊎ IsWord img (entryNo img old) 4 w
+-- "APPND ..: chain joined, second entry cleared. Either may be empty."
+MayChange (APPND first second caller) img w =
+    InWords img (entryNo img first) 6 8 w ⊎ (InEntry img (entryNo img second) w ⊎ IsLastLink img (fileOf img first) w)
+-- "LOOK: kind, first block, length, protect code, writer, readers"
+MayChange (LOOK key) img w = ⊥
+-- "KEEP: .. sets bit 7.", which is of the protect code
+MayChange (KEEP key caller) img w = IsWord img (entryNo img key) 4 w
+-- "BLOCK: .. output .. changes the 512 bytes of the image, starting at that block."
+MayChange (BLOCK-INPUT key caller place buffer) img w = ⊥
+MayChange (BLOCK-OUTPUT key caller place buffer) img w = InBlock img (fileOf img key .first .0 + place) w
+-- "Linked read: buffer of 510 .. Linked add: .. the highest free block is joined at the end with link 0."
+MayChange (LINKED-READ key caller place buffer) img w = ⊥
+MayChange (LINKED-ADD key caller payload) img w =
+    InWords img (entryNo img key) 6 8 w ⊎ (InBlock img (addedBlock img) w ⊎ IsLastLink img (fileOf img key) w)
+-- whose a block is: asked, and nothing written
+MayChange (OWNER block) img w = ⊥
