@@ -11,7 +11,7 @@ use Rattle.words.specs.Word.{wordAt}
 use Rattle.pack.specs.declared.Key.{Key}
 use Rattle.pack.specs.Geometry.{geometryOf, blockWords, blockBytes}
 use Rattle.pack.specs.File.{count}
-use Rattle.pack.specs.Entry.{entryOf, blocksAt}
+use Rattle.pack.specs.Entry.{entryOf, blocksAt, Empty}
 use Rattle.pack.specs.Consistent.{Consistent}
 use Rattle.pack.specs.Key.{keyIn, SameKey}
 use Rattle.pack.specs.Untouched.{Untouched}
@@ -62,6 +62,10 @@ module _ (img : List ℕ) (first second : Key) (caller : ℕ) where
         subst (λ (img′ : List ℕ). Joined (Joint img (geometryOf img) (entryNo img first)) img img′ (geometryOf img) (entryNo img first) (entryNo img second)) image-is
         (joining img (geometryOf img) (entryNo img first) (entryNo img second) refl (appnd-accepted .right) (header-sized img (appnd-accepted .right .header))
         (appnd-accepted .one .within) (appnd-accepted .two .within) (appnd-accepted .other) (appnd-accepted .one .linked) (appnd-accepted .two .linked))
+
+    -- "second entry cleared"
+    pub appnd-cleared : Empty (appnd img first second caller .image) (geometryOf img) (entryNo img second)
+    appnd-cleared = appnd-joined .emptied
 
     pub appnd-framed : Framed (Either (entryNo img first) (entryNo img second)) (Joint img (geometryOf img) (entryNo img first)) img (appnd img first second caller .image) (geometryOf img)
     appnd-framed =

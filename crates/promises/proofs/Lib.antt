@@ -15,4 +15,5 @@ pub mod AddedAgainStored
 pub mod AddedAgain
 pub mod Commands
 pub mod CommandCodes
+pub mod Effects
 pub mod Main

@@ -62,6 +62,8 @@ use Rattle.requests.proofs.RequestConsistent
 use Rattle.requests.proofs.RequestRefused
 use Rattle.requests.proofs.RequestUntouched
 use Rattle.requests.proofs.ContractSingle
+use Rattle.requests.specs.Changes.{MayChange}
+use Rattle.requests.proofs.Changes
 use Rattle.promises.specs.GivenWhen.{GivesCode, InTableOrder}
 use Rattle.promises.specs.Codes.{FileCases, CreatingCases, AccessCases, OtherPayload, casesOf}
 use Rattle.promises.specs.CommandCodes.{Csi1Cases, Csi2Cases}
@@ -76,7 +78,7 @@ use Rattle.promises.proofs.Commands
 use Rattle.promises.proofs.CommandCodes
 
 -- 1.1 "Every request accepts any numbers and any image."
--- No exported function (`crates/service/src/lib.rt`) has a `requires`: its contract holds of every input, and the code it gives is 0 or one of the paper's table.
+-- No exported function (`crates/service/src`) has a `requires`: its contract holds of every input, and the code it gives is 0 or one of the paper's table.
 pub code-known : (r : Request) (img : List ℕ) → (outcome r img .code ≡ 0) ⊎ (placeIn tableOrder (outcome r img .code) < length tableOrder)
 code-known = Codes.code-known
 
@@ -134,7 +136,14 @@ pub one-result : (r : Request) (img : List ℕ) (a b : Result (contractOf r))
     → Meets (contractOf r) img (outcome r img) a → Meets (contractOf r) img (outcome r img) b → a ≡ b
 one-result = ContractSingle.one-result
 
--- and it touches no file that it does not name
+-- no word of the image changes but those that the request may change (`MayChange`, row by row from the paper),
+pub nothing-else : (r : Request) (img : List ℕ) (w : ℕ) → (MayChange r img w → ⊥) → wordAt (outcome r img .image) w ≡ wordAt img w
+nothing-else = Changes.nothing-else
+
+pub same-length : (r : Request) (img : List ℕ) → length (outcome r img .image) ≡ length img
+same-length = Changes.same-length
+
+-- what success changes there, request by request, is in Effects.antt; and it touches no file that it does not name
 pub who-is-not-named : (r : Request) {img : List ℕ} → Consistent img → (who : Key) → (Names r who → ⊥) → Untouched who img (outcome r img .image)
 who-is-not-named = RequestUntouched.who-is-not-named
 
@@ -178,8 +187,8 @@ stays-consistent = RequestConsistent.stays-consistent
 pub judged : (img : List ℕ) → consistent img ≡ true ↔ Consistent img
 judged = consistent-iff
 
-pub block-owned : {img : List ℕ} → Consistent img → (b : ℕ) → OneOwner img b (ownerOf img b)
-block-owned = one-owner
+pub block-owned : {img : List ℕ} → Consistent img → (b : ℕ) → b < geometryOf img .blocks → OneOwner img b (ownerOf img b)
+block-owned right b below = one-owner right b
 
 -- the audit note: the service shows, for every block of a pack, whose it is
 module _ {img : List ℕ} (right : Consistent img) (b : ℕ) (below : b < geometryOf img .blocks) where
