@@ -77,6 +77,13 @@ unfolding fileOf
 file-found img key g e measures there =
     ap (λ (h : Geometry). entryOf img h (entryNo img key)) measures ∙ ap (entryOf img g) (number-found img key there)
 
+-- The file of a name: where an entry has a legal key, it is the key's file. Where none has it `entryNo` says 0, and nothing rests on that.
+pub file-of-name : {img : List ℕ} → Consistent img → (key : Key) → legalKey key ≡ true → (e : ℕ) → e < slots (geometryOf img)
+    → SameKey (keyIn (entryOf img (geometryOf img) e)) key → (entryNo img key ≡ e) × (fileOf img key ≡ entryOf img (geometryOf img) e)
+file-of-name {img} right key legal e inside keyed =
+    let there = found-iff right key legal e .1 (inside, keyed) in
+    (number-found img key there, file-found img key (geometryOf img) e refl there)
+
 -- what the stage's two answers say
 pub record FileAsked (img : List ℕ) (key : Key) (wrong : Bool) (g : Geometry) (e : ℕ) (x : Entry) : Type 0 where
   pub right : Consistent img

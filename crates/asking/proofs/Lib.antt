@@ -1,4 +1,4 @@
--- The laws of keys and finding, of rights, opens, outcomes and stages, and of words written into an entry.
+-- The laws of keys and finding, of rights, opens, outcomes, stages and access.
 pub mod Keys
 pub mod KeysLegal
 pub mod Rights

@@ -1,4 +1,4 @@
--- The size that a lent buffer must have.
+-- Means: is a lent buffer of another size than asked? `code-iff` (promises) ties it to the propositions of the paper.
 use Prim.Native.Nat.{ℕ}
 use mathlib.Core.Bool.{Bool, not}
 use mathlib.Core.List.{List}

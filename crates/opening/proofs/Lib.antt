@@ -1,9 +1,7 @@
 -- The laws of opening and closing.
-pub mod EntryChangeDecided
 pub mod OpenRows
-pub mod CloseRows
-pub mod OpenCarried
-pub mod CloseCarried
-pub mod EntryChangeWord
+pub mod OpenStage
+pub mod CloseStage
+pub mod OpenWords
 pub mod OpenEffect
 pub mod CloseEffect

@@ -1,90 +1,84 @@
--- OPENI, OPENU and OPENE: a refusal changes nothing; a consistent image stays consistent; no other file is touched; each block keeps its owner.
-use Prim.Native.Nat.{ℕ, _+_, _≤_}
-use mathlib.Core.Path.{_≡_, refl}
+-- OPENI, OPENU and OPENE: what each changes of the entry; a refusal changes nothing; the image stays consistent, other files untouched, each block its owner's.
+use Prim.Native.Nat.{ℕ}
+use mathlib.Core.Path.{_≡_, refl, _∙_}
 use mathlib.Core.List.{List, []}
 use mathlib.Core.Logic.{inr}
 use native.Mathlib.Omega.{arith}
 use borrow.Author.Tests.{eqb-false}
+use Rattle.answers.specs.Refusals.{firstOf}
+use Rattle.pack.specs.declared.Entry.{Entry}
+use Rattle.pack.specs.declared.Geometry.{Geometry}
 use Rattle.pack.specs.declared.Key.{Key}
 use Rattle.pack.specs.Geometry.{geometryOf}
+use Rattle.pack.specs.Entry.{entryOf}
+use Rattle.pack.specs.EntryWords.{setEntryWord}
 use Rattle.pack.specs.Consistent.{Consistent}
 use Rattle.pack.specs.Owner.{ownerOf}
 use Rattle.pack.specs.Untouched.{Untouched}
 use Rattle.asking.specs.Asked.{entryNo, fileOf}
-use Rattle.pack.specs.EntryWords.{setEntryWord}
 use Rattle.asking.specs.Outcome.{Unchanged}
-use Rattle.asking.proofs.Outcome.{refusal-keeps, image-by}
-use Rattle.asking.proofs.AskedCleared.{file-used}
+use Rattle.asking.proofs.Outcome.{refusal-keeps}
+use Rattle.asking.proofs.AskedCleared.{Cleared, FileCleared, file-used}
 use Rattle.frame.proofs.Described.{used-description}
-use Rattle.frame.proofs.UntouchedFramed.{untouched-refl}
 use Rattle.opening.specs.declared.Opening.{Opening}
 use Rattle.opening.specs.declared.Opening.the-variants.{Input, Update, Extension}
-use Rattle.opening.specs.Open.{openRows, openWord, openValue, opened}
-use Rattle.opening.proofs.OpenCarried.{OpenCleared, open-cleared}
-use Rattle.opening.proofs.EntryChangeWord.{Rules, consistent-writer, consistent-readers, untouched-word, owner-word}
+use Rattle.opening.specs.OpenRows.{openRows, openWord, openValue}
+use Rattle.opening.specs.Open.{withOpens, openedEntry, opened}
+use Rattle.opening.proofs.OpenRows.{Openable}
+use Rattle.opening.proofs.OpenStage.{open-cleared}
+use Rattle.opening.proofs.OpenWords.{Rules, OpensSet, RightOpens, writer-set, readers-set, request-file, request-consistent, request-untouched, request-owner}
 
-word-least : (mode : Opening) → 9 ≤ openWord mode
-word-least Input = omega arith
-word-least Update = omega arith
-word-least Extension = omega arith
+-- the word that is written gives the writer and the readers of `openedEntry`
+opened-set : (mode : Opening) {img : List ℕ} {key : Key} {g : Geometry} {e : ℕ} → Cleared img key g e
+    → OpensSet img (setEntryWord img g e (openWord mode) (openValue mode (entryOf img g e))) g e
+    (openedEntry mode (entryOf img g e) .writer) (openedEntry mode (entryOf img g e) .readers)
+opened-set Input c = readers-set c _
+opened-set Update c = writer-set c 1
+opened-set Extension c = writer-set c 3
 
-word-most : (mode : Opening) → openWord mode ≤ 10
-word-most Input = omega arith
-word-most Update = omega arith
-word-most Extension = omega arith
+-- which differs in nothing else
+opened-only : (mode : Opening) (x : Entry) → withOpens x (openedEntry mode x .writer) (openedEntry mode x .readers) ≡ openedEntry mode x
+opened-only Input x = refl
+opened-only Update x = refl
+opened-only Extension x = refl
 
 -- the rules of opens hold afterwards: a reader more, a writer of a contiguous file, a writer of a linked one
-module _ (img : List ℕ) (key : Key) (caller : ℕ) where
-  reader-rules : OpenCleared Input img key caller → Rules (fileOf img key .kind) (fileOf img key .writer) (fileOf img key .readers + 1)
-  reader-rules c =
-      let d = used-description img (geometryOf img) (entryNo img key) (fileOf img key) (file-used (c .file)) in
-      record { contiguous = d .contiguous; linked = d .linked; opens = omega (arith, c .few) }
-
-  updater-rules : OpenCleared Update img key caller → Rules (fileOf img key .kind) 1 (fileOf img key .readers)
-  updater-rules c =
-      record {
-        contiguous = λ is. inr refl;
-        linked = λ is. absurd (eqb-false (fileOf img key .kind) 2 (c .updatable) is);
-        opens = omega (arith, c .few);
-      }
-
-  extender-rules : OpenCleared Extension img key caller → Rules (fileOf img key .kind) 3 (fileOf img key .readers)
-  extender-rules c =
-      record {
-        contiguous = λ is. absurd (eqb-false (fileOf img key .kind) 1 (c .extensible) is);
-        linked = λ is. inr (inr refl);
-        opens = omega (arith, c .few);
-      }
-
-  consistent-opened : (mode : Opening) → OpenCleared mode img key caller
-      → Consistent (setEntryWord img (geometryOf img) (entryNo img key) (openWord mode) (openValue mode (fileOf img key)))
-  unfolding fileOf
-  consistent-opened Input c = consistent-readers refl (c .file .right) (c .file .inside) _ (c .file .used) (reader-rules c)
-  consistent-opened Update c = consistent-writer refl (c .file .right) (c .file .inside) 1 (c .file .used) (updater-rules c)
-  consistent-opened Extension c = consistent-writer refl (c .file .right) (c .file .inside) 3 (c .file .used) (extender-rules c)
+opened-rules : (mode : Opening) {img : List ℕ} {key : Key} → FileCleared img key → Openable mode (fileOf img key)
+    → Rules (fileOf img key .kind) (openedEntry mode (fileOf img key) .writer) (openedEntry mode (fileOf img key) .readers)
+opened-rules Input {img} {key} f o =
+    let d = used-description img (geometryOf img) (entryNo img key) (fileOf img key) (file-used f) in
+    record { contiguous = d .contiguous; linked = d .linked; opens = omega (arith, o .few) }
+opened-rules Update f o =
+    record { contiguous = λ is. inr refl; linked = λ is. absurd (eqb-false _ 2 (o .updatable) is); opens = omega (arith, o .few) }
+opened-rules Extension f o =
+    record { contiguous = λ is. absurd (eqb-false _ 1 (o .extensible) is); linked = λ is. inr (inr refl); opens = omega (arith, o .few) }
 
 module _ (mode : Opening) (img : List ℕ) (key : Key) (caller : ℕ) where
+  sets : firstOf (openRows mode img key caller) ≡ 0
+      → RightOpens img (setEntryWord img (geometryOf img) (entryNo img key) (openWord mode) (openValue mode (fileOf img key))) key
+      (openedEntry mode (fileOf img key) .writer) (openedEntry mode (fileOf img key) .readers)
+  unfolding fileOf
+  sets none =
+      let c = open-cleared mode img key caller none in
+      record { file = c .0; set = opened-set mode (c .0); rules = opened-rules mode (c .0) (c .1) }
+
+  -- "OPENI .. adds a reader. OPENU .. writer 1. OPENE .. writer 3.", and nothing else of the entry changes
+  pub open-entry : opened mode img key caller .code ≡ 0 → fileOf (opened mode img key caller .image) key ≡ openedEntry mode (fileOf img key)
+  unfolding opened
+  open-entry success = request-file (openRows mode img key caller) sets success ∙ opened-only mode (fileOf img key)
+
   pub open-refused : (opened mode img key caller .code ≡ 0 → ⊥) → Unchanged (opened mode img key caller) [] img []
   unfolding opened
   open-refused never = refusal-keeps (openRows mode img key caller) img [] _ never
 
   pub open-consistent : Consistent img → Consistent (opened mode img key caller .image)
   unfolding opened
-  open-consistent right =
-      image-by (openRows mode img key caller) img [] _ Consistent right (λ none. consistent-opened img key caller mode (open-cleared mode img key caller none))
+  open-consistent = request-consistent (openRows mode img key caller) sets
 
   pub open-untouched : (key′ : Key) → (key′ ≡ key → ⊥) → Untouched key′ img (opened mode img key caller .image)
-  unfolding opened fileOf
-  open-untouched key′ other =
-      image-by (openRows mode img key caller) img [] _ (Untouched key′ img) (untouched-refl key′ img)
-      (λ none.
-      let f = open-cleared mode img key caller none .file in
-      untouched-word refl (f .right) (f .inside) (openWord mode) (openValue mode (fileOf img key)) (word-least mode) (word-most mode) (f .keyed) key′ other)
+  unfolding opened
+  open-untouched = request-untouched (openRows mode img key caller) sets
 
   pub open-owner : (b : ℕ) → ownerOf (opened mode img key caller .image) b ≡ ownerOf img b
   unfolding opened
-  open-owner b =
-      image-by (openRows mode img key caller) img [] _ (λ (left : List ℕ). ownerOf left b ≡ ownerOf img b) refl
-      (λ none.
-      let f = open-cleared mode img key caller none .file in
-      owner-word refl (f .right) (f .inside) (openWord mode) (openValue mode (fileOf img key)) (word-least mode) (word-most mode) b)
+  open-owner = request-owner (openRows mode img key caller) sets

@@ -1,35 +1,21 @@
 -- CLOSE.
-use Prim.Native.Nat.{ℕ, _-_}
-use mathlib.Core.Bool.{Bool, not, cond, _||_}
-use mathlib.Core.List.{List, [], _∷_, _++_}
-use lib.Dec.{eqb, ltb}
-use Rattle.answers.specs.Refusals.{Row, row}
+use Prim.Native.Nat.{ℕ, _+_, _-_}
+use mathlib.Core.Path.{_≡_}
+use mathlib.Core.List.{List, []}
 use Rattle.pack.specs.declared.Entry.{Entry}
 use Rattle.pack.specs.declared.Key.{Key}
 use Rattle.pack.specs.Geometry.{geometryOf}
 use Rattle.asking.specs.Outcome.{Outcome, settled}
-use Rattle.asking.specs.AskedStage.{fileRows}
 use Rattle.asking.specs.Asked.{entryNo, fileOf}
 use Rattle.pack.specs.EntryWords.{setEntryWord}
+use Rattle.opening.specs.Open.{withOpens}
+use Rattle.opening.specs.CloseRows.{closeRows, closeWord, closeValue}
 
--- "41: .. mode not 1 to 4"
-abbrev pub wrongMode : ℕ → Bool
-wrongMode mode = eqb mode 0 || ltb 4 mode
-
--- "CLOSE with mode 1, 2, 3, or 4 (OPENI)": a writer of that mode, or a reader
-unfoldable pub isOpenAs : ℕ → Entry → Bool
-isOpenAs mode x = cond (eqb mode 4) (ltb 0 (x .readers)) (eqb (x .writer) mode)
-
--- "45: .. CLOSE of a mode not open"; "no right needed"
-unfoldable pub closeRows : List ℕ → Key → ℕ → List Row
-closeRows img key mode = fileRows img key (wrongMode mode) ++ (row (not (isOpenAs mode (fileOf img key))) 0o45 ∷ [])
-
--- "takes that open away"
-abbrev pub closeWord : ℕ → ℕ
-closeWord mode = cond (eqb mode 4) 10 9
-
-abbrev pub closeValue : ℕ → Entry → ℕ
-closeValue mode x = cond (eqb mode 4) (x .readers - 1) 0
+-- "takes that open away": with mode 4 one of the readers, with another the writer, which has that mode; and nothing else of the entry changes.
+-- `proofs/CloseEffect.antt` has it as `close-entry`.
+pub data Closed (x : Entry) : ℕ → Entry → Type 0 where
+  a-reader : {readers : ℕ} → x .readers ≡ readers + 1 → Closed x 4 (withOpens x (x .writer) readers)
+  the-writer : {mode : ℕ} → (mode ≡ 4 → ⊥) → x .writer ≡ mode → Closed x mode (withOpens x 0 (x .readers))
 
 unfoldable pub close : List ℕ → Key → ℕ → Outcome
 close img key mode =

@@ -1,4 +1,5 @@
 -- Opening and closing files.
+pub mod OpenRows
 pub mod Open
+pub mod CloseRows
 pub mod Close
-pub mod EntryChange

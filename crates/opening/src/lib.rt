@@ -1,5 +1,4 @@
 // Opening and closing files: OPENI, OPENU, OPENE, CLOSE.
-mod change;
 pub mod close;
 pub mod opens;
 

@@ -1,64 +1,75 @@
 // OPENI, OPENU and OPENE: the three opens of a file that is there.
 ghost use mathlib.Core.Path.{_≡_};
-ghost use mathlib.Core.Bool.{false, _&&_};
-ghost use mathlib.Core.List.{List};
-ghost use Prim.Native.Nat.{ℕ, _<_};
-ghost use lib.Dec.{eqb, ltb};
-ghost use Rattle.pack.specs.declared.Key.{Key};
-ghost use Rattle.asking.specs.declared.Asked.the-variants.{File};
-ghost use Rattle.asking.specs.AskedStage.{askedOf};
-ghost use Rattle.opening.specs.Open.{rightFor, isUpdate, isExtension, isWriting, openWord, openValue, opened};
-ghost use Rattle.opening.specs.EntryChange.{openChange};
+ghost use Prim.Native.Nat.{_<_};
+ghost use Rattle.answers.specs.Refusals.{firstOf};
+ghost use Rattle.asking.specs.AskedStage.{stageOf};
+ghost use Rattle.opening.specs.OpenRows.{rightFor, isUpdate, isExtension, isWriting, modeRows, openingRows, openRows, openWord, openValue};
+ghost use Rattle.opening.specs.Open.{opened};
 use crate::Opening;
-use crate::change::EntryChange;
 use asking::Asked;
 use asking::Grant;
 use asking::Right;
 use pack::Entry;
-use pack::Geometry;
 use pack::Key;
 
 pub fn open(img: &mut [u8], mode: Opening, key: Key, caller: usize) -> usize
     ensures { λ r. ⌜ r ≡ opened mode (now (img .entry)) key caller .code ⌝ }
     ensures { λ r. ⌜ now (img .exit) ≡ opened mode (now (img .entry)) key caller .image ⌝ }
 {
-    let decision = decide_open(img, mode, key, caller);
-    crate::change::carry_out(img, decision)
+    match decide_open(img, mode, key, caller) {
+        Asked::Refused(code) => code,
+        Asked::File(g, e, x) => {
+            pack::set_entry_word(img, g, e, open_word(mode), open_value(mode, x));
+            0
+        }
+    }
 }
 
-fn decide_open(img: &[u8], mode: Opening, key: Key, caller: usize) -> EntryChange
-    ensures { λ r. ⌜ r ≡ openChange mode (now (img .entry)) key caller ⌝ }
+fn decide_open(img: &[u8], mode: Opening, key: Key, caller: usize) -> Asked
+    ensures { λ r. ⌜ r ≡ stageOf (openRows mode (now (img .entry)) key caller) (now (img .entry)) key ⌝ }
 {
     let mut map = [0u8; pack::MOST_BLOCKS];
-    match asking::ask_file(img, &mut map, key, false) {
-        Asked::Refused(code) => EntryChange::Refused(code),
-        Asked::File(g, e, x) => decide_opening(mode, caller, g, e, x),
+    let asked = asking::ask_file(img, &mut map, key, false);
+    let Asked::File(_, _, x) = asked else {
+        return asked;
+    };
+    let code = judge_opening(mode, caller, x);
+    if code != 0 {
+        return Asked::Refused(code);
     }
+    asked
 }
 
-// Of whatever image and key the file is: the refusals behind those of the file, in the order of the table.
-fn decide_opening(mode: Opening, caller: usize, g: Geometry, e: usize, x: Entry) -> EntryChange
-    ensures { λ r. ⌜ ((img : List ℕ) (key : Key) → askedOf img key false ≡ File g e x → r ≡ openChange mode img key caller) ⌝ }
+// The code of the first row behind those of the file that holds, 0 where none does.
+fn judge_opening(mode: Opening, caller: usize, x: Entry) -> usize
+    ensures { λ r. ⌜ r ≡ firstOf (openingRows mode caller x) ⌝ }
 {
     if x.writer == 2 {
-        return EntryChange::Refused(0o2);
+        return 0o2;
     }
     let Grant::Granted = asking::ask_right(right_for(mode), caller, x) else {
-        return EntryChange::Refused(0o6);
+        return 0o6;
     };
-    if is_contiguous_extension(mode, x.kind) {
-        return EntryChange::Refused(0o5);
+    judge_mode(mode, x)
+}
+
+// The same of the rows that say whether the file can be open in this mode too.
+fn judge_mode(mode: Opening, x: Entry) -> usize
+    ensures { λ r. ⌜ r ≡ firstOf (modeRows mode x) ⌝ }
+{
+    if is_extension(mode) & (x.kind == 1) {
+        return 0o5;
     }
-    if is_linked_update(mode, x.kind) {
-        return EntryChange::Refused(0o43);
+    if is_update(mode) & (x.kind == 2) {
+        return 0o43;
     }
-    if is_second_writer(mode, x.writer) {
-        return EntryChange::Refused(0o4);
+    if is_writing(mode) & (0 < x.writer) {
+        return 0o4;
     }
     if asking::is_full(x) {
-        return EntryChange::Refused(0o3);
+        return 0o3;
     }
-    EntryChange::Set(g, e, open_word(mode), open_value(mode, x))
+    0
 }
 
 fn right_for(mode: Opening) -> Right
@@ -71,33 +82,33 @@ fn right_for(mode: Opening) -> Right
     }
 }
 
-fn is_contiguous_extension(mode: Opening, kind: usize) -> bool
-    ensures { λ r. ⌜ r ≡ (isExtension mode && eqb kind 1) ⌝ }
+fn is_extension(mode: Opening) -> bool
+    ensures { λ r. ⌜ r ≡ isExtension mode ⌝ }
 {
     match mode {
         Opening::Input => false,
         Opening::Update => false,
-        Opening::Extension => kind == 1,
+        Opening::Extension => true,
     }
 }
 
-fn is_linked_update(mode: Opening, kind: usize) -> bool
-    ensures { λ r. ⌜ r ≡ (isUpdate mode && eqb kind 2) ⌝ }
+fn is_update(mode: Opening) -> bool
+    ensures { λ r. ⌜ r ≡ isUpdate mode ⌝ }
 {
     match mode {
         Opening::Input => false,
-        Opening::Update => kind == 2,
+        Opening::Update => true,
         Opening::Extension => false,
     }
 }
 
-fn is_second_writer(mode: Opening, writer: usize) -> bool
-    ensures { λ r. ⌜ r ≡ (isWriting mode && ltb 0 writer) ⌝ }
+fn is_writing(mode: Opening) -> bool
+    ensures { λ r. ⌜ r ≡ isWriting mode ⌝ }
 {
     match mode {
         Opening::Input => false,
-        Opening::Update => 0 < writer,
-        Opening::Extension => 0 < writer,
+        Opening::Update => true,
+        Opening::Extension => true,
     }
 }
 

@@ -1,6 +1,6 @@
 -- A payload that is stored in a file stays there through CLOSE and OPENI, and a linked read gives it.
 use Prim.Native.Nat.{ℕ, _+_, _≤_, _<_}
-use mathlib.Core.Path.{_≡_, refl, sym, ap, subst, subst₂, _∙_}
+use mathlib.Core.Path.{_≡_, refl, sym, ap, subst, _∙_}
 use mathlib.Core.Logic.{⊎-elim}
 use mathlib.Core.Bool.{Bool, true, false}
 use mathlib.Core.List.{List, [], _++_}
@@ -28,16 +28,20 @@ use Rattle.pack.specs.EntryWords.{setEntryWord}
 use Rattle.asking.proofs.Keys.{legal-iff, found-iff}
 use Rattle.asking.proofs.Rights.{may-iff}
 use Rattle.asking.proofs.AskedStage.{FileAsked, asked-is-file, asked-file, file-at, number-found, file-found}
+use Rattle.asking.proofs.AskedCleared.{Cleared}
 use Rattle.asking.proofs.Outcome.{code-is, success-image}
 use Rattle.frame.specs.Framed.{Kept}
 use Rattle.frame.proofs.FramedStays.{stated-framed, entries-at}
 use Rattle.frame.proofs.Described.{described-blocks}
 use Rattle.frame.proofs.GrowthResized.{linked-used}
 use Rattle.owners.proofs.EntryBlocks.{blocks-length}
+use Rattle.owners.proofs.OwnerSearch.{measured-sized}
 use Rattle.opening.specs.declared.Opening.the-variants.{Input}
-use Rattle.opening.specs.Open.{openRows, opened}
-use Rattle.opening.specs.Close.{closeRows, close}
-use Rattle.opening.proofs.EntryChangeWord.{framed, described, same-file, protect-same, kind-same, writer-new, readers-kept, readers-new}
+use Rattle.opening.specs.OpenRows.{openRows}
+use Rattle.opening.specs.Open.{opened}
+use Rattle.opening.specs.CloseRows.{closeRows}
+use Rattle.opening.specs.Close.{close}
+use Rattle.opening.proofs.OpenWords.{OpensSet, writer-set, readers-set, opens-framed, opens-entry, opens-key, opens-described}
 use Rattle.opening.proofs.CloseEffect.{close-consistent}
 use Rattle.opening.proofs.OpenEffect.{open-consistent}
 use Rattle.bodies.specs.BlockBytes.{payloadOf}
@@ -124,35 +128,37 @@ module _ {img : List ℕ} {key : Key} {g : Geometry} {e caller place : ℕ} {pay
           ap (λ (x : Entry). payloadOf img (geometryOf img) (getD (blocksOf img (geometryOf img) x) place 0)) own
           ∙ subst (λ (h : Geometry). payloadOf img h (getD (blocksOf img h (entryOf img g e)) place 0) ≡ payload) (stored .stated) (stored .bytes)
 
+  cleared : Cleared img key g e
+  cleared =
+      record {
+        right = stored .right;
+        measures = stored .stated;
+        sized = measured-sized (stored .right) (sym (stored .stated));
+        inside = stored .within;
+        legal = stored .legal;
+        keyed = stored .keyed;
+        used = used;
+      }
+
   -- the writer or the readers set: the rest of the file is as it was
-  module _ (i word : ℕ) (low : 9 ≤ i) (high : i ≤ 10) where
-    abbrev after : List ℕ
-    after = setEntryWord img g e i word
-
-    size-same : entryOf after g e .length ≡ entryOf img g e .length
-    unfolding entryOf
-    size-same = described (stored .stated) (stored .right) (stored .within) i word low high .file 7 (omega arith) (omega arith)
-
-    stored-word : Consistent after → Stored after key g e caller place payload
-    stored-word right =
-        let kept = framed (stored .stated) (stored .right) (stored .within) i word low high in
-        let alike = same-file (stored .stated) (stored .right) (stored .within) i word low high in
-        let block : ℕ = getD (blocksAt img g e) place 0 in
-        let range = used .bodies block (count-at (blocksAt img g e) place block (omega (arith, stored .inside, blocks-length img g e)) refl) in
-        record {
-          stated = stated-framed (stored .stated) (stored .right) kept;
-          right = right;
-          legal = stored .legal;
-          within = stored .within;
-          keyed = same-through alike (stored .keyed);
-          readable = subst₂ (λ (uic protect : ℕ). May caller uic protect Read) (sym (alike .uic))
-              (sym (protect-same (stored .stated) (stored .right) (stored .within) i word low high)) (stored .readable);
-          linked = kind-same (stored .stated) (stored .right) (stored .within) i word low high ∙ stored .linked;
-          inside = omega (arith, stored .inside, size-same);
-          bytes = ap (λ (bs : List ℕ). payloadOf after g (getD bs place 0))
-              (described-blocks (described (stored .stated) (stored .right) (stored .within) i word low high))
-              ∙ payload-kept (kept .kept) block (range .0) (range .1) (λ never. never) ∙ stored .bytes;
-        }
+  stored-set : {img′ : List ℕ} {writer readers : ℕ} → OpensSet img img′ g e writer readers → Consistent img′ → Stored img′ key g e caller place payload
+  stored-set {img′} set right =
+      let kept = opens-framed cleared set in
+      let entry = opens-entry cleared set in
+      let block : ℕ = getD (blocksAt img g e) place 0 in
+      let range = used .bodies block (count-at (blocksAt img g e) place block (omega (arith, stored .inside, blocks-length img g e)) refl) in
+      record {
+        stated = stated-framed (stored .stated) (stored .right) kept;
+        right = right;
+        legal = stored .legal;
+        within = stored .within;
+        keyed = same-through (opens-key cleared set) (stored .keyed);
+        readable = subst (λ (x : Entry). May caller (x .uic) (x .protect) Read) (sym entry) (stored .readable);
+        linked = ap (λ (x : Entry). x .kind) entry ∙ stored .linked;
+        inside = omega (arith, stored .inside, ap (λ (x : Entry). x .length) entry);
+        bytes = ap (λ (bs : List ℕ). payloadOf img′ g (getD bs place 0)) (described-blocks (opens-described cleared set))
+            ∙ payload-kept (kept .kept) block (range .0) (range .1) (λ never. never) ∙ stored .bytes;
+      }
 
   -- CLOSE of the writer, 2 or 3
   module _ (mode : ℕ) (low : 2 ≤ mode) (high : mode ≤ 3) (writer : entryOf img g e .writer ≡ mode) where
@@ -171,13 +177,13 @@ module _ {img : List ℕ} {key : Key} {g : Geometry} {e caller place : ℕ} {pay
     pub stored-closed : Stored (close img key mode .image) key g e caller place payload
     stored-closed =
         let right : Consistent (setEntryWord img g e 9 0) = subst Consistent close-word (close-consistent img key mode (stored .right)) in
-        rw close-word (stored-word 9 0 (omega arith) (omega arith) right)
+        rw close-word (stored-set (writer-set cleared 0) right)
 
     pub closed-writer : entryOf (close img key mode .image) g e .writer ≡ 0
-    closed-writer = rw close-word (writer-new (stored .stated) (stored .right) (stored .within) 0 used)
+    closed-writer = rw close-word (ap (λ (x : Entry). x .writer) (opens-entry cleared (writer-set cleared 0)))
 
     pub closed-readers : entryOf (close img key mode .image) g e .readers ≡ entryOf img g e .readers
-    closed-readers = rw close-word (readers-kept (stored .stated) (stored .right) (stored .within) 0 used)
+    closed-readers = rw close-word (ap (λ (x : Entry). x .readers) (opens-entry cleared (writer-set cleared 0)))
 
   -- OPENI where there is no writer
   module _ (writer : entryOf img g e .writer ≡ 0) (few : entryOf img g e .readers < 62) where
@@ -199,7 +205,7 @@ module _ {img : List ℕ} {key : Key} {g : Geometry} {e caller place : ℕ} {pay
     stored-opened =
         let right : Consistent (setEntryWord img g e 10 (entryOf img g e .readers + 1)) =
         subst Consistent open-word (open-consistent Input img key caller (stored .right)) in
-        rw open-word (stored-word 10 (entryOf img g e .readers + 1) (omega arith) (omega arith) right)
+        rw open-word (stored-set (readers-set cleared (entryOf img g e .readers + 1)) right)
 
     pub opened-readers : entryOf (opened Input img key caller .image) g e .readers ≡ entryOf img g e .readers + 1
-    opened-readers = rw open-word (readers-new (stored .stated) (stored .right) (stored .within) (entryOf img g e .readers + 1) used)
+    opened-readers = rw open-word (ap (λ (x : Entry). x .readers) (opens-entry cleared (readers-set cleared (entryOf img g e .readers + 1))))

@@ -19,8 +19,10 @@ use Rattle.owners.specs.OwnerQuestionRows.{ownerRows}
 use Rattle.owners.specs.OwnerQuestion.{owner}
 use Rattle.opening.specs.declared.Opening.{Opening}
 use Rattle.opening.specs.declared.Opening.the-variants.{Input, Update, Extension}
-use Rattle.opening.specs.Open.{opened, openRows}
-use Rattle.opening.specs.Close.{wrongMode, isOpenAs, close, closeRows}
+use Rattle.opening.specs.OpenRows.{openRows}
+use Rattle.opening.specs.Open.{opened}
+use Rattle.opening.specs.CloseRows.{wrongMode, isOpenAs, closeRows}
+use Rattle.opening.specs.Close.{close}
 use Rattle.directory.specs.LookRows.{lookRows}
 use Rattle.directory.specs.Look.{look}
 use Rattle.directory.specs.DeletRows.{deletRows}

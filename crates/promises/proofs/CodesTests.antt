@@ -32,7 +32,7 @@ use Rattle.creation.specs.Alloc.{lengthFor}
 use Rattle.creation.proofs.AllocBlocks.{blocks-some}
 use Rattle.creation.proofs.CreatingLowest.{empty-none}
 use Rattle.room.proofs.RoomHighest.{run-none}
-use Rattle.opening.specs.Close.{wrongMode, isOpenAs}
+use Rattle.opening.specs.CloseRows.{wrongMode, isOpenAs}
 use Rattle.pack.specs.Key.{sameKey}
 use Rattle.pack.proofs.KeySame.{same-key-iff, same-equal, equal-same}
 use Rattle.promises.specs.Codes.{LegalKey, Exists, Full, NoMode, OpenAs, writing, reading}

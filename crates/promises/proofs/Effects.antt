@@ -6,6 +6,9 @@ pub use Rattle.creation.proofs.AllocEffect.{alloc-made}
 pub use Rattle.room.proofs.RoomHighest.{run-highest}
 pub use Rattle.creation.proofs.CreatingLowest.{empty-lowest}
 pub use Rattle.creation.proofs.OpenoEffect.{openo-entry}
+-- OPENI, OPENU and OPENE, and CLOSE: the entry with that one field changed
+pub use Rattle.opening.proofs.OpenEffect.{open-entry}
+pub use Rattle.opening.proofs.CloseEffect.{close-entry}
 -- DELET clears the entry and frees its blocks; RENAM changes name, extension and protect code
 pub use Rattle.directory.proofs.DeletEffect.{delet-clears, delet-frees}
 pub use Rattle.directory.proofs.RenamEffect.{renam-entry, renam-found}

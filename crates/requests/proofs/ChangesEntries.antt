@@ -21,8 +21,10 @@ use Rattle.creation.proofs.CreatingStage.{creatable}
 use Rattle.creation.proofs.AllocStage.{allocatable}
 use Rattle.opening.specs.declared.Opening.{Opening}
 use Rattle.opening.specs.declared.Opening.the-variants.{Input, Update, Extension}
-use Rattle.opening.specs.Open.{openRows, openWord, opened}
-use Rattle.opening.specs.Close.{closeRows, closeWord, close}
+use Rattle.opening.specs.OpenRows.{openRows, openWord}
+use Rattle.opening.specs.Open.{opened}
+use Rattle.opening.specs.CloseRows.{closeRows, closeWord}
+use Rattle.opening.specs.Close.{close}
 use Rattle.directory.specs.DeletRows.{deletRows}
 use Rattle.directory.specs.Delet.{delet}
 use Rattle.directory.specs.KeepRows.{keepRows}

@@ -1,50 +1,50 @@
--- Rests on `CloseRows`: a refusal of the first stage is the request's; of a file that was found `decide_closing` says the rest.
+-- Rests on `CloseStage`: what `ask_file` refuses is refused, and so is a mode in which the file is not open.
 use borrow.Author.Needs.{needs}
-use Rattle.opening.proofs.CloseRows.{close-stage, asked-wrong}
+use mathlib.Core.Path.{sym, _∙_}
+use borrow.Author.Tests.{not-true, not-false}
+use Rattle.opening.proofs.CloseStage.{decide-refused, decide-other, decide-passed}
 use Rattle.opening.proofs.close.decide_close.Statement.{statement}
 use Rattle.opening.proofs.close.decide_close.Tie as tie
 
 slice-aggregate-ask-file : tie.Need-slice-aggregate-ask-file
 slice-aggregate-ask-file c = search needs
 
-is-wrong-mode-requires : tie.Need-is-wrong-mode-requires
-is-wrong-mode-requires c κs = search needs
-
 ask-file-requires : tie.Need-ask-file-requires
 ask-file-requires c κs = search needs
 
-enum-known-code : tie.Need-enum-known-code
-enum-known-code c = search needs
+enum-known-asked : tie.Need-enum-known-asked
+enum-known-asked c = search needs
 
-enum-known-g : tie.Need-enum-known-g
-enum-known-g c = search needs
-
-decide-closing-requires : tie.Need-decide-closing-requires
-decide-closing-requires c κs = search needs
+enum-told : tie.Need-enum-told
+enum-told c = search needs
 
 returns : tie.Need-returns
-returns c =
-    let args = c .before .before .before .before .before .before .before .before .args in
-    let is-wrong-mode = c .before .before .before .before .before .is-wrong-mode in
-    let ask-file = c .before .before .before .before .ask-file in
-    close-stage (args .mode) _ _ _ (asked-wrong _ _ (args .mode) _ (is-wrong-mode .ensures) _ (ask-file .ensures .0) _ (c .before .code .given .1))
+returns c = decide-refused _ _ _ _ (c .before .before .before .ask-file .ensures .0) _ (c .enum-told .given .1)
+
+is-open-as-requires : tie.Need-is-open-as-requires
+is-open-as-requires c κs = search needs
 
 returns-2 : tie.Need-returns-2
 returns-2 c =
-    let args = c .before .before .before .before .before .before .before .before .before .args in
-    let is-wrong-mode = c .before .before .before .before .before .before .is-wrong-mode in
-    let ask-file = c .before .before .before .before .before .ask-file in
-    c .decide-closing .ensures _ _ (asked-wrong _ _ (args .mode) _ (is-wrong-mode .ensures) _ (ask-file .ensures .0) _ (c .before .before .g .given .1))
+    let ask-file = c .before .before .before .before .before .before .ask-file in
+    let asked = c .before .before .before .asked in
+    decide-other _ _ _ _ (ask-file .ensures .0) _ _ _ (asked .given .1) (sym (c .before .is-open-as .ensures) ∙ not-true _ (c .if1 .taken))
+
+returns-3 : tie.Need-returns-3
+returns-3 c =
+    let ask-file = c .before .before .before .before .before .before .ask-file in
+    let asked = c .before .before .before .asked in
+    decide-passed _ _ _ _ (ask-file .ensures .0) _ _ _ (asked .given .1) (sym (c .before .is-open-as .ensures) ∙ not-false _ (c .if1 .left))
 
 pub decide-close-spec : {M : Type 1} → statement M
 decide-close-spec =
     tie.close
     (tie.spec
     slice-aggregate-ask-file
-    is-wrong-mode-requires
     ask-file-requires
-    enum-known-code
-    enum-known-g
-    decide-closing-requires
+    enum-known-asked
+    enum-told
     returns
-    returns-2)
+    is-open-as-requires
+    returns-2
+    returns-3)

@@ -1,5 +1,5 @@
--- Rests on `CloseRows`: for mode 4 readers are asked, for another the writer.
-use Rattle.opening.proofs.CloseRows.{as-reader, as-writer}
+-- Rests on `CloseStage`: for mode 4 readers are asked, for another the writer.
+use Rattle.opening.proofs.CloseStage.{as-reader, as-writer}
 use Rattle.opening.proofs.close.is_open_as.Statement.{statement}
 use Rattle.opening.proofs.close.is_open_as.Tie as tie
 
