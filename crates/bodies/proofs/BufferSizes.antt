@@ -1,6 +1,6 @@
 -- The sizes of buffers, by the form that any image states, of whatever length it is.
 use Prim.Native.Nat.{ℕ, _+_, _*_, _≤_, _<_}
-use mathlib.Core.Path.{_≡_, refl, ap, _∙_}
+use mathlib.Core.Path.{_≡_, ap, _∙_}
 use mathlib.Core.Bool.{false}
 use mathlib.Core.List.{List}
 use native.Mathlib.Omega.{arith}
@@ -12,11 +12,6 @@ use Rattle.pack.specs.Form.{segmentsOf, mostSegments}
 use Rattle.pack.specs.Geometry.{segmentBytes, geometryOf, blockBytes, payloadBytes}
 use Rattle.pack.proofs.FormBounds.{segments-few}
 use Rattle.bodies.specs.BufferSizes.{wrongBlock, wrongPayload}
-
--- document 01's form: "buffer of 512", "buffer of 510"
-pub document-sizes : (img : List ℕ) → wordAt img 0 ≡ 1 → (blockBytes (geometryOf img) ≡ 512) × (payloadBytes (geometryOf img) ≡ 510)
-unfolding geometryOf segmentsOf
-document-sizes img form = rw form (refl, refl)
 
 -- the buffer of a request whose argument is right
 module _ (img buffer : List ℕ) (g : Geometry) where

@@ -21,14 +21,14 @@ use Rattle.command.specs.declared.csi1.Condensing.the-variants as C
 
 pub written-wrong : {line : List ℕ} (buffer : List ℕ) {place : ℕ} {judgement : Judgement} → Judged line judgement → judgement ≡ J.Wrong place
     → LineWritten line buffer (C.Wrong place) buffer
-written-wrong buffer (Q.Judged.right says) same = let z : _≡_ {A = ℕ} 0 1 = cc in absurd (omega arith)
+written-wrong buffer (Q.Judged.right read) same = let z : _≡_ {A = ℕ} 0 1 = cc in absurd (omega arith)
 written-wrong {line} buffer {place} (Q.Judged.wrong {place = found} placed) same =
     let z : found ≡ place = cc in
     Q.LineWritten.wrong (rw z at placed)
 
 pub written-right : {line part : List ℕ} (buffer : List ℕ) {judgement : Judgement} → Judged line judgement → judgement ≡ J.Right → part ≡ line
     → LineWritten line buffer (C.Accepted (length line)) (part ++ drop (length line) buffer)
-written-right buffer (Q.Judged.right says) same is = rw is (Q.LineWritten.written says)
+written-right buffer (Q.Judged.right read) same is = rw is (Q.LineWritten.written read)
 written-right buffer (Q.Judged.wrong placed) same is = let z : _≡_ {A = ℕ} 0 1 = cc in absurd (omega arith)
 
 pub raw-long : (line buffer : List ℕ) → rawLimit < length line → Csi1 line buffer C.TooLong buffer
@@ -55,7 +55,7 @@ module _ {line characters : List ℕ} {end : ℕ} (buffer : List ℕ) (laid : Co
     by-line : (answer : Condensing) (after : List ℕ) → length (condensed line) ≤ length buffer → LineWritten (condensed line) buffer answer after
         → Csi1 line buffer answer after
     by-line answer after room (Q.LineWritten.wrong placed) = One.Csi1.wrong not-long room placed
-    by-line answer after room (Q.LineWritten.written says) = One.Csi1.accepted not-long room says
+    by-line answer after room (Q.LineWritten.written read) = One.Csi1.accepted not-long room read
 
     pub line-written : {answer : Condensing} {after : List ℕ} → end ≤ length buffer → LineWritten (take end characters) buffer answer after
         → Csi1 line buffer answer after

@@ -1,84 +1,98 @@
--- CSI2 has one answer, and leaves one buffer: what its definition allows is the only thing possible.
-use Prim.Native.Nat.{ℕ}
+-- CSI2 has one answer, and leaves one buffer: its definition allows something for every line, and that is the only thing possible.
+use Prim.Native.Nat.{ℕ, _≤_, _<_}
 use mathlib.Core.Path.{_≡_, refl, sym, ap, _∙_}
+use mathlib.Core.Logic.{_⊎_, inl, inr}
 use mathlib.Core.List.{List, _++_}
 use mathlib.Core.Option.{Option, none, some}
+use native.Mathlib.Nat.{not-le-of-lt}
+use native.Mathlib.Decide.{decLt}
 use native.Mathlib.Omega.{arith}
 use lib.ListN.{length, drop}
-use Rattle.command_grammar.specs.Parsed.{Specification}
-use Rattle.command_grammar.specs.Reading.{Reading, Reads, sideOf, specificationAt}
-use Rattle.command_grammar.proofs.GrammarOne.{reads-one}
+use Rattle.answers.proofs.RefusalsLadder.{Ladder, here, behind, End, end-single, ladder-single}
+use Rattle.command_grammar.specs.Parsed.{Specification, Parsed}
+use Rattle.command_grammar.specs.Grammar.{Command}
+use Rattle.command_grammar.specs.Reading.{Reading, reads, kept, sideOf, specificationAt}
+use Rattle.command_grammar.specs.LinePlace.{LinePlace}
+use Rattle.command_grammar.proofs.GrammarOne.{reads-one, said-or-placed}
 use Rattle.command_grammar.proofs.LinePlace.{place-one, not-read}
 use Rattle.command_parts.specs.Numbers.{numbersOf}
 use Rattle.command_switches.specs.Encoded.{encoded}
-use Rattle.command.specs.Csi2.{askingAnswer, Csi2, Csi2Answered}
+use Rattle.command.specs.Condensed.{lineLimit}
+use Rattle.command.specs.Csi2.{refusal, askingAnswer, FoundAt, Csi2Answered}
 use Rattle.command.specs.Csi2 as Two
 use Rattle.command.specs.declared.csi2.SpecificationAnswer.{SpecificationAnswer}
-use Rattle.command.specs.declared.csi2.Asking.{Asking}
 use Rattle.command.specs.declared.csi2.Asking.the-variants as A
 
--- two readings of a line have the same specification at a place of a side
-at-one : (line : List ℕ) (side k : ℕ) (r q : Reading) (v w : Option Specification) → Reads line r → Reads line q
-    → specificationAt k (sideOf side r) ≡ v → specificationAt k (sideOf side q) ≡ w → v ≡ w
-at-one line side k r q v w x y is is′ =
-    sym is ∙ ap (λ (z : Reading). specificationAt k (sideOf side z)) (reads-one line r q x y) ∙ is′
+module _ {line : List ℕ} {side k : ℕ} where
+  -- one thing is found at a place
+  found-one : {a b : Option Specification} → FoundAt line side k a → FoundAt line side k b → a ≡ b
+  found-one x y =
+      sym (x .there) ∙ ap (λ (r : Reading). specificationAt k (sideOf side r)) (reads-one line (x .reading) (y .reading) (x .reads) (y .reads)) ∙ y .there
 
-none-some : (v : Specification) → none ≡ some v → ⊥
-none-some v same = let z : _≡_ {A = ℕ} 0 1 = cc in omega arith
+  same-found : {v w : Specification} → FoundAt line side k (some v) → FoundAt line side k (some w) → v ≡ w
+  same-found {v} {w} x y = let same = found-one x y in cc
 
-some-one : (v w : Specification) → some v ≡ some w → v ≡ w
-some-one v w same = cc
+  pub found-some : {v : Specification} → FoundAt line side k (some v) → FoundAt line side k none → ⊥
+  found-some x y = let same = found-one x y in let z : _≡_ {A = ℕ} 0 1 = cc in omega arith
+
+  -- the specification that is found has room
+  pub found-fits : {v w : Specification} {room : ℕ} → FoundAt line side k (some v) → length (encoded (v .switches)) ≤ room
+      → FoundAt line side k (some w) → room < length (encoded (w .switches)) → ⊥
+  found-fits x fits y few = omega (arith, fits, few, ap (λ (z : Specification). length (encoded (z .switches))) (same-found x y))
+
+-- what is answered and left for a specification that has room
+abbrev given : List ℕ → Specification → SpecificationAnswer × List ℕ
+given buffer v = (askingAnswer (A.Given (numbersOf v)), encoded (v .switches) ++ drop (length (encoded (v .switches))) buffer)
+
+-- its cases, each with what it answers and leaves
+abbrev Csi2Ladder : List ℕ → ℕ → ℕ → List ℕ → SpecificationAnswer × List ℕ → Type 0
+Csi2Ladder line side k buffer =
+    Ladder {When = lineLimit < length line} (λ over. (refusal 0o53 0, buffer))
+    (Ladder {When = (place : ℕ) × LinePlace line place} (λ at. (refusal 0o50 (at .0), buffer))
+    (Ladder {When = FoundAt line side k none} (λ found. (refusal 0o51 0, buffer))
+    (Ladder {When = (v : Specification) × FoundAt line side k (some v) × length buffer < length (encoded (v .switches))} (λ found. (refusal 0o52 0, buffer))
+    (Ladder {When = (v : Specification) × FoundAt line side k (some v)} (λ found. given buffer (found .0))
+    End))))
+
+csi2-ladder : (line : List ℕ) (side k : ℕ) (buffer : List ℕ) (a : SpecificationAnswer) (after : List ℕ) → Csi2Answered line side k buffer a after
+    → Csi2Ladder line side k buffer (a, after)
+csi2-ladder line side k buffer a after (Two.Csi2Answered.answered (Two.Csi2.long over)) = here over
+csi2-ladder line side k buffer a after (Two.Csi2Answered.answered (Two.Csi2.wrong fits {place} at)) = behind (λ over. not-le-of-lt over fits) (here (place, at))
+csi2-ladder line side k buffer a after (Two.Csi2Answered.answered (Two.Csi2.missing fits found)) =
+    behind (λ over. not-le-of-lt over fits) (behind (λ at. not-read line (at .0) (found .reading) (at .1) (found .reads)) (here found))
+csi2-ladder line side k buffer a after (Two.Csi2Answered.answered (Two.Csi2.short fits {v} found few)) =
+    behind (λ over. not-le-of-lt over fits) (behind (λ at. not-read line (at .0) (found .reading) (at .1) (found .reads))
+    (behind (found-some found) (here (v, found, few))))
+csi2-ladder line side k buffer a after (Two.Csi2Answered.answered (Two.Csi2.given fits {v} found room)) =
+    behind (λ over. not-le-of-lt over fits) (behind (λ at. not-read line (at .0) (found .reading) (at .1) (found .reads))
+    (behind (found-some found) (behind (λ other. found-fits found room (other .1) (other .2)) (here (v, found)))))
 
 -- "the stated result and final buffers are the only ones possible for given inputs, refusal or not"
-pub csi2-one : (line : List ℕ) (side k : ℕ) (buffer : List ℕ) (a b : Asking) (after after′ : List ℕ) → Csi2 line side k buffer a after
-    → Csi2 line side k buffer b after′ → (a ≡ b) × (after ≡ after′)
-csi2-one line side k buffer a b after after′ (Two.Csi2.long over) (Two.Csi2.long over′) = (refl, refl)
-csi2-one line side k buffer a b after after′ (Two.Csi2.long over) (Two.Csi2.wrong fits placed) = absurd (omega arith)
-csi2-one line side k buffer a b after after′ (Two.Csi2.long over) (Two.Csi2.missing fits read is) = absurd (omega arith)
-csi2-one line side k buffer a b after after′ (Two.Csi2.long over) (Two.Csi2.short fits read is few) = absurd (omega arith)
-csi2-one line side k buffer a b after after′ (Two.Csi2.long over) (Two.Csi2.given fits read is room) = absurd (omega arith)
-csi2-one line side k buffer a b after after′ (Two.Csi2.wrong fits placed) (Two.Csi2.long over) = absurd (omega arith)
-csi2-one line side k buffer a b after after′ (Two.Csi2.wrong fits {place = p} placed) (Two.Csi2.wrong fits′ {place = q} placed′) =
-    (ap A.Wrong (place-one line p q placed placed′), refl)
-csi2-one line side k buffer a b after after′ (Two.Csi2.wrong fits {place = p} placed) (Two.Csi2.missing fits′ {reading = r} read is) =
-    absurd (not-read line p r placed read)
-csi2-one line side k buffer a b after after′ (Two.Csi2.wrong fits {place = p} placed) (Two.Csi2.short fits′ {reading = r} read is few) =
-    absurd (not-read line p r placed read)
-csi2-one line side k buffer a b after after′ (Two.Csi2.wrong fits {place = p} placed) (Two.Csi2.given fits′ {reading = r} read is room) =
-    absurd (not-read line p r placed read)
-csi2-one line side k buffer a b after after′ (Two.Csi2.missing fits read is) (Two.Csi2.long over) = absurd (omega arith)
-csi2-one line side k buffer a b after after′ (Two.Csi2.missing fits {reading = r} read is) (Two.Csi2.wrong fits′ {place = p} placed) =
-    absurd (not-read line p r placed read)
-csi2-one line side k buffer a b after after′ (Two.Csi2.missing fits read is) (Two.Csi2.missing fits′ read′ is′) = (refl, refl)
-csi2-one line side k buffer a b after after′ (Two.Csi2.missing fits {reading = r} read is) (Two.Csi2.short fits′ {reading = q} read′ {v = w} is′ few) =
-    absurd (none-some w (at-one line side k r q none (some w) read read′ is is′))
-csi2-one line side k buffer a b after after′ (Two.Csi2.missing fits {reading = r} read is) (Two.Csi2.given fits′ {reading = q} read′ {v = w} is′ room) =
-    absurd (none-some w (at-one line side k r q none (some w) read read′ is is′))
-csi2-one line side k buffer a b after after′ (Two.Csi2.short fits read is few) (Two.Csi2.long over) = absurd (omega arith)
-csi2-one line side k buffer a b after after′ (Two.Csi2.short fits {reading = r} read is few) (Two.Csi2.wrong fits′ {place = p} placed) =
-    absurd (not-read line p r placed read)
-csi2-one line side k buffer a b after after′ (Two.Csi2.short fits {reading = r} read {v} is few) (Two.Csi2.missing fits′ {reading = q} read′ is′) =
-    absurd (none-some v (at-one line side k q r none (some v) read′ read is′ is))
-csi2-one line side k buffer a b after after′ (Two.Csi2.short fits read is few) (Two.Csi2.short fits′ read′ is′ few′) = (refl, refl)
-csi2-one line side k buffer a b after after′ (Two.Csi2.short fits {reading = r} read {v} is few) (Two.Csi2.given fits′ {reading = q} read′ {v = w} is′ room) =
-    let same : v ≡ w = some-one v w (at-one line side k r q (some v) (some w) read read′ is is′) in
-    absurd (omega (arith, ap (λ (z : Specification). length (encoded (z .switches))) same))
-csi2-one line side k buffer a b after after′ (Two.Csi2.given fits read is room) (Two.Csi2.long over) = absurd (omega arith)
-csi2-one line side k buffer a b after after′ (Two.Csi2.given fits {reading = r} read is room) (Two.Csi2.wrong fits′ {place = p} placed) =
-    absurd (not-read line p r placed read)
-csi2-one line side k buffer a b after after′ (Two.Csi2.given fits {reading = r} read {v} is room) (Two.Csi2.missing fits′ {reading = q} read′ is′) =
-    absurd (none-some v (at-one line side k q r none (some v) read′ read is′ is))
-csi2-one line side k buffer a b after after′ (Two.Csi2.given fits {reading = r} read {v} is room) (Two.Csi2.short fits′ {reading = q} read′ {v = w} is′ few) =
-    let same : v ≡ w = some-one v w (at-one line side k r q (some v) (some w) read read′ is is′) in
-    absurd (omega (arith, ap (λ (z : Specification). length (encoded (z .switches))) same))
-csi2-one line side k buffer a b after after′ (Two.Csi2.given fits {reading = r} read {v} is room) (Two.Csi2.given fits′ {reading = q} read′ {v = w} is′ room′) =
-    let same : v ≡ w = some-one v w (at-one line side k r q (some v) (some w) read read′ is is′) in (
-      ap (λ (z : Specification). A.Given (numbersOf z)) same,
-      ap (λ (z : Specification). encoded (z .switches) ++ drop (length (encoded (z .switches))) buffer) same,
-    )
-
 pub csi2-answered-one : (line : List ℕ) (side k : ℕ) (buffer : List ℕ) (a b : SpecificationAnswer) (after after′ : List ℕ)
     → Csi2Answered line side k buffer a after → Csi2Answered line side k buffer b after′ → (a ≡ b) × (after ≡ after′)
-csi2-answered-one line side k buffer a b after after′ (Two.Csi2Answered.answered {answer = x} is) (Two.Csi2Answered.answered {answer = y} is′) =
-    let one = csi2-one line side k buffer x y after after′ is is′ in
-    (ap askingAnswer (one .0), one .1)
+csi2-answered-one line side k buffer a b after after′ x y =
+    let same = ladder-single (λ p q. refl) (ladder-single
+    (λ p q. ap (λ (place : ℕ). (refusal 0o50 place, buffer)) (place-one line (p .0) (q .0) (p .1) (q .1)))
+    (ladder-single (λ p q. refl) (ladder-single (λ p q. refl) (ladder-single (λ p q. ap (given buffer) (same-found (p .1) (q .1))) end-single))))
+    (a, after) (b, after′) (csi2-ladder line side k buffer a after x) (csi2-ladder line side k buffer b after′ y) in
+    (ap (λ r. r .0) same, ap (λ r. r .1) same)
+
+-- every line is answered, for every side and place
+module _ (line : List ℕ) (side k : ℕ) (buffer : List ℕ) where
+  of-found : length line ≤ lineLimit → (found : Option Specification) → FoundAt line side k found
+      → (answer : SpecificationAnswer) × (after : List ℕ) × Csi2Answered line side k buffer answer after
+  of-found fits none found = (_, _, Two.Csi2Answered.answered (Two.Csi2.missing fits found))
+  of-found fits (some v) found = by (decLt (length buffer) (length (encoded (v .switches))))
+    where
+      by : Dec (length buffer < length (encoded (v .switches))) → (answer : SpecificationAnswer) × (after : List ℕ) × Csi2Answered line side k buffer answer after
+      by (yes few) = (_, _, Two.Csi2Answered.answered (Two.Csi2.short fits found few))
+      by (no room) = (_, _, Two.Csi2Answered.answered (Two.Csi2.given fits found (omega arith)))
+
+  pub csi2-answers : (answer : SpecificationAnswer) × (after : List ℕ) × Csi2Answered line side k buffer answer after
+  csi2-answers = by (decLt lineLimit (length line)) (said-or-placed line)
+    where
+      by : Dec (lineLimit < length line) → ((said : Parsed) × Command line said) ⊎ ((p : ℕ) × LinePlace line p)
+          → (answer : SpecificationAnswer) × (after : List ℕ) × Csi2Answered line side k buffer answer after
+      by (yes over) says = (_, _, Two.Csi2Answered.answered (Two.Csi2.long over))
+      by (no fits) (inl says) = of-found (omega arith) _ (record { reading = kept (says .0); reads = reads (says .1); there = refl })
+      by (no fits) (inr at) = (_, _, Two.Csi2Answered.answered (Two.Csi2.wrong (omega arith) (at .1)))

@@ -2,22 +2,22 @@
 use Prim.Native.Nat.{ℕ, _≤_, _<_}
 use mathlib.Core.Path.{_≡_, sym, ap, _∙_}
 use mathlib.Core.List.{List}
-use mathlib.Core.Option.{none, some}
+use mathlib.Core.Option.{Option, some}
 use native.Mathlib.Omega.{arith}
 use lib.ListN.{length}
 use Rattle.command_cursor.specs.declared.Cursor.{Cursor}
 use Rattle.command_grammar.specs.Parsed.{Specification, Parsed}
 use Rattle.command_grammar.specs.Grammar.{Command}
-use Rattle.command_grammar.specs.Reading.{reads, sideOf, specificationAt}
+use Rattle.command_grammar.specs.Reading.{reads, kept, sideOf, specificationAt}
 use Rattle.command_grammar.specs.Reader.{no, specification, from}
 use Rattle.command_grammar.proofs.ReaderLines.{said-by, placed-by}
-use Rattle.command_grammar.proofs.ReadingKept.{kept-at}
+use Rattle.command_grammar.proofs.ReadingKept.{keptIf, kept-at}
 use Rattle.command_sides.specs.Sought.{LocatedIn}
 use Rattle.command_sides.specs.Sought as S
 use Rattle.command_sides.specs.declared.Located.{Located}
 use Rattle.command_sides.specs.declared.Located.the-variants as L
 use Rattle.command.specs.Condensed.{lineLimit}
-use Rattle.command.specs.Csi2.{Csi2}
+use Rattle.command.specs.Csi2.{FoundAt, Csi2}
 use Rattle.command.specs.Csi2 as Two
 use Rattle.command.specs.GivenAt.{SpecificationGiven, GivenAt}
 use Rattle.command.specs.GivenAt as R
@@ -26,6 +26,11 @@ use Rattle.command.specs.declared.csi2.Asking.the-variants as A
 
 pub line-long : (line : List ℕ) (side k : ℕ) (buffer : List ℕ) → lineLimit < length line → Csi2 line side k buffer A.TooLong buffer
 line-long line side k buffer over = Two.Csi2.long over
+
+-- what the line says has, with the low 8 bits kept, is found in its reading
+found-at : {line : List ℕ} {side k : ℕ} {said : Parsed} {found : Option Specification} → Command line said → specificationAt k (sideOf side said) ≡ found
+    → FoundAt line side k (keptIf found)
+found-at {side} {k} {said} {found} says is = record { reading = kept said; reads = reads says; there = kept-at side k said found is }
 
 pub line-wrong : {line : List ℕ} {side k : ℕ} (buffer : List ℕ) {place : ℕ} {located : Located} → length line ≤ lineLimit
     → LocatedIn line side k located → located ≡ L.Refused place → Csi2 line side k buffer (A.Wrong place) buffer
@@ -38,14 +43,14 @@ line-wrong buffer few (S.LocatedIn.located is some-at begins) same = let z : _�
 pub none-there : {line : List ℕ} {side k : ℕ} (buffer : List ℕ) {located : Located} → length line ≤ lineLimit
     → LocatedIn line side k located → located ≡ L.Missing → Csi2 line side k buffer A.Missing buffer
 none-there buffer few (S.LocatedIn.refused is) same = let z : _≡_ {A = ℕ} 0 1 = cc in absurd (omega arith)
-none-there {line} {side} {k} buffer few (S.LocatedIn.missing {said} {n} is none-at) same =
-    Two.Csi2.missing few (reads (said-by line said n is)) (kept-at side k said none none-at)
+none-there {line} buffer few (S.LocatedIn.missing {said} {n} is none-at) same =
+    Two.Csi2.missing few (found-at (said-by line said n is) none-at)
 none-there buffer few (S.LocatedIn.located is some-at begins) same = let z : _≡_ {A = ℕ} 0 1 = cc in absurd (omega arith)
 
 by-given : {line : List ℕ} {side k : ℕ} {buffer : List ℕ} (said : Parsed) (v : Specification) {answer : Asking} {after : List ℕ} → length line ≤ lineLimit
     → Command line said → specificationAt k (sideOf side said) ≡ some v → SpecificationGiven v buffer answer after → Csi2 line side k buffer answer after
-by-given {side} {k} said v few saying is (R.SpecificationGiven.short less) = Two.Csi2.short few (reads saying) (kept-at side k said (some v) is) less
-by-given {side} {k} said v few saying is (R.SpecificationGiven.given room) = Two.Csi2.given few (reads saying) (kept-at side k said (some v) is) room
+by-given said v few saying is (R.SpecificationGiven.short less) = Two.Csi2.short few (found-at saying is) less
+by-given said v few saying is (R.SpecificationGiven.given room) = Two.Csi2.given few (found-at saying is) room
 
 pub one-there : {line : List ℕ} {side k : ℕ} {buffer : List ℕ} {start : Cursor} {located : Located} {answer : Asking} {after : List ℕ}
     → length line ≤ lineLimit → LocatedIn line side k located → located ≡ L.At start → GivenAt line (start .at) buffer answer after

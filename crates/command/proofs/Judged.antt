@@ -4,6 +4,7 @@ use mathlib.Core.Path.{_≡_, ap, _∙_}
 use mathlib.Core.List.{List}
 use native.Mathlib.Omega.{arith}
 use Rattle.command_cursor.specs.declared.Cursor.{Cursor}
+use Rattle.command_grammar.specs.Reading.{reads}
 use Rattle.command_grammar.specs.Reader.{no}
 use Rattle.command_grammar.proofs.ReaderLines.{said-by, placed-by}
 use Rattle.command_sides.specs.Sought.{LocatedIn}
@@ -24,11 +25,11 @@ judged-refused (S.LocatedIn.located is some-at begins) same = let z : _≡_ {A =
 
 pub judged-missing : {line : List ℕ} {side k : ℕ} {located : Located} → LocatedIn line side k located → located ≡ L.Missing → Judged line J.Right
 judged-missing (S.LocatedIn.refused is) same = let z : _≡_ {A = ℕ} 0 1 = cc in absurd (omega arith)
-judged-missing {line} (S.LocatedIn.missing {said} {n} is none-at) same = Q.Judged.right (said-by line said n is)
+judged-missing {line} (S.LocatedIn.missing {said} {n} is none-at) same = Q.Judged.right (reads (said-by line said n is))
 judged-missing (S.LocatedIn.located is some-at begins) same = let z : _≡_ {A = ℕ} 0 1 = cc in absurd (omega arith)
 
 pub judged-at : {line : List ℕ} {side k : ℕ} {start : Cursor} {located : Located} → LocatedIn line side k located → located ≡ L.At start
     → Judged line J.Right
 judged-at (S.LocatedIn.refused is) same = let z : _≡_ {A = ℕ} 0 1 = cc in absurd (omega arith)
 judged-at (S.LocatedIn.missing is none-at) same = let z : _≡_ {A = ℕ} 0 1 = cc in absurd (omega arith)
-judged-at {line} (S.LocatedIn.located {said} {n} is some-at begins) same = Q.Judged.right (said-by line said n is)
+judged-at {line} (S.LocatedIn.located {said} {n} is some-at begins) same = Q.Judged.right (reads (said-by line said n is))

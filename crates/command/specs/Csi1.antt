@@ -4,8 +4,7 @@ use Prim.Native.Nat.{ℕ, _≤_, _<_}
 use mathlib.Core.List.{List, _++_}
 use lib.ListN.{length, drop}
 use Rattle.answers.specs.declared.Answer.{Answer}
-use Rattle.command_grammar.specs.Parsed.{Parsed}
-use Rattle.command_grammar.specs.Grammar.{Command}
+use Rattle.command_grammar.specs.Reading.{Reading, Reads}
 use Rattle.command_grammar.specs.LinePlace.{LinePlace}
 use Rattle.command.specs.Condensed.{condensed, TooLong}
 use Rattle.command.specs.declared.csi1.Condensing.{Condensing}
@@ -28,7 +27,7 @@ pub data Csi1 (line buffer : List ℕ) : Condensing → List ℕ → Type 0 wher
   wrong : (TooLong line → ⊥) → length (condensed line) ≤ length buffer → {place : ℕ} → LinePlace (condensed line) place
       → Csi1 line buffer (C.Wrong place) buffer
   -- "writes the rest to the start of a lent buffer, whose remainder stays"
-  accepted : (TooLong line → ⊥) → length (condensed line) ≤ length buffer → {said : Parsed} → Command (condensed line) said
+  accepted : (TooLong line → ⊥) → length (condensed line) ≤ length buffer → {reading : Reading} → Reads (condensed line) reading
       → Csi1 line buffer (C.Accepted (length (condensed line))) (condensed line ++ drop (length (condensed line)) buffer)
 
 -- the same in the numbers that a host sees

@@ -3,7 +3,7 @@
 use Prim.Native.Nat.{ℕ, _≤_, _<_}
 use mathlib.Core.Path.{_≡_}
 use mathlib.Core.List.{List, _++_}
-use mathlib.Core.Option.{none, some}
+use mathlib.Core.Option.{Option, none, some}
 use lib.ListN.{length, drop}
 use Rattle.command_grammar.specs.Parsed.{Specification}
 use Rattle.command_grammar.specs.Reading.{Reading, Reads, sideOf, specificationAt}
@@ -52,6 +52,12 @@ askingAnswer (A.Wrong place) = refusal 0o50 place
 askingAnswer A.Missing = refusal 0o51 0
 askingAnswer A.NoRoom = refusal 0o52 0
 
+-- the line has a reading, and at place k of a side of it there is this specification, or none
+pub record FoundAt (line : List ℕ) (side k : ℕ) (found : Option Specification) : Type 0 where
+  pub reading : Reading
+  pub reads : Reads line reading
+  pub there : specificationAt k (sideOf side reading) ≡ found
+
 -- what is answered for specification k of a side, and what the lent buffer then holds
 pub data Csi2 (line : List ℕ) (side k : ℕ) (buffer : List ℕ) : Asking → List ℕ → Type 0 where
   -- "53, over 128"
@@ -59,15 +65,12 @@ pub data Csi2 (line : List ℕ) (side k : ℕ) (buffer : List ℕ) : Asking → 
   -- "50"
   wrong : length line ≤ lineLimit → {place : ℕ} → LinePlace line place → Csi2 line side k buffer (A.Wrong place) buffer
   -- "51, no such side or specification"
-  missing : length line ≤ lineLimit → {reading : Reading} → Reads line reading → specificationAt k (sideOf side reading) ≡ none
-      → Csi2 line side k buffer A.Missing buffer
+  missing : length line ≤ lineLimit → FoundAt line side k none → Csi2 line side k buffer A.Missing buffer
   -- "52, switch buffer too short"
-  short : length line ≤ lineLimit → {reading : Reading} → Reads line reading
-      → {v : Specification} → specificationAt k (sideOf side reading) ≡ some v → length buffer < length (encoded (v .switches))
+  short : length line ≤ lineLimit → {v : Specification} → FoundAt line side k (some v) → length buffer < length (encoded (v .switches))
       → Csi2 line side k buffer A.NoRoom buffer
   -- "It returns the parts .. and writes per switch ..": "The bytes behind stay."
-  given : length line ≤ lineLimit → {reading : Reading} → Reads line reading
-      → {v : Specification} → specificationAt k (sideOf side reading) ≡ some v → length (encoded (v .switches)) ≤ length buffer
+  given : length line ≤ lineLimit → {v : Specification} → FoundAt line side k (some v) → length (encoded (v .switches)) ≤ length buffer
       → Csi2 line side k buffer (A.Given (numbersOf v)) (encoded (v .switches) ++ drop (length (encoded (v .switches))) buffer)
 
 -- the same in the numbers that a host sees

@@ -2,8 +2,7 @@
 use Prim.Native.Nat.{ℕ}
 use mathlib.Core.List.{List, _++_}
 use lib.ListN.{length, drop}
-use Rattle.command_grammar.specs.Parsed.{Parsed}
-use Rattle.command_grammar.specs.Grammar.{Command}
+use Rattle.command_grammar.specs.Reading.{Reading, Reads}
 use Rattle.command_grammar.specs.LinePlace.{LinePlace}
 use Rattle.command.specs.declared.csi1.Judgement.{Judgement}
 use Rattle.command.specs.declared.csi1.Judgement.the-variants as J
@@ -11,9 +10,9 @@ use Rattle.command.specs.declared.csi1.Condensing.{Condensing}
 use Rattle.command.specs.declared.csi1.Condensing.the-variants as C
 
 pub data Judged (line : List ℕ) : Judgement → Type 0 where
-  right : {said : Parsed} → Command line said → Judged line J.Right
+  right : {reading : Reading} → Reads line reading → Judged line J.Right
   wrong : {place : ℕ} → LinePlace line place → Judged line (J.Wrong place)
 
 pub data LineWritten (line buffer : List ℕ) : Condensing → List ℕ → Type 0 where
   wrong : {place : ℕ} → LinePlace line place → LineWritten line buffer (C.Wrong place) buffer
-  written : {said : Parsed} → Command line said → LineWritten line buffer (C.Accepted (length line)) (line ++ drop (length line) buffer)
+  written : {reading : Reading} → Reads line reading → LineWritten line buffer (C.Accepted (length line)) (line ++ drop (length line) buffer)

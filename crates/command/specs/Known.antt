@@ -61,22 +61,10 @@ unfolding switchNumbers
 knownOf [] = []
 knownOf (v ∷ vs) = record { answer = askingAnswer (A.Given (numbersOf v)); switches = switchNumbers (v .switches) } ∷ knownOf vs
 
--- one call's answer, and what its buffer then holds
-pub record Reply : Type 0 where
-  pub answer : SpecificationAnswer
-  pub after : List ℕ
-
--- what the host makes of it
-abbrev pub knownFrom : Reply → Known
-knownFrom reply = record { answer = reply .answer; switches = decoded (reply .answer .switches) (reply .after) }
-
--- a reply for every k, each from a buffer of its own, which is not too short
-abbrev pub Replied : List ℕ → ℕ → (ℕ → Reply) → Type 0
-Replied line side replies =
-    (k : ℕ) → ((buffer : List ℕ) × Csi2Answered line side k buffer (replies k .answer) (replies k .after)) × (replies k .answer .code ≡ 0o52 → ⊥)
-
--- what is known from the replies at k, k + 1, .. up to the first 51
-pub data KnownUpTo51 (replies : ℕ → Reply) : ℕ → List Known → Type 0 where
-  end : {k : ℕ} → replies k .answer .code ≡ 0o51 → KnownUpTo51 replies k []
-  next : {k : ℕ} {rest : List Known} → (replies k .answer .code ≡ 0o51 → ⊥) → KnownUpTo51 replies (suc k) rest
-      → KnownUpTo51 replies k (knownFrom (replies k) ∷ rest)
+-- what a host knows who asks at k, k + 1, .. with the buffers that it lends, decodes the switches of each answer, and stops at the first 51
+pub data AskedFrom (line : List ℕ) (side : ℕ) (lent : ℕ → List ℕ) : ℕ → List Known → Type 0 where
+  stops : {k : ℕ} {answer : SpecificationAnswer} {after : List ℕ} → Csi2Answered line side k (lent k) answer after → answer .code ≡ 0o51
+      → AskedFrom line side lent k []
+  goes : {k : ℕ} {answer : SpecificationAnswer} {after : List ℕ} {rest : List Known} → Csi2Answered line side k (lent k) answer after → answer .code ≡ 0
+      → AskedFrom line side lent (suc k) rest
+      → AskedFrom line side lent k (record { answer = answer; switches = decoded (answer .switches) after } ∷ rest)

@@ -7,7 +7,8 @@ ghost use lib.ListN.{length, take, drop};
 ghost use Rattle.answers.specs.Missing.{orElse};
 ghost use Rattle.radix.specs.Characters.{codeOf};
 ghost use Rattle.radix.specs.Names.{isLetter, isLetterOrDigit};
-ghost use Rattle.command_grammar.specs.Grammar.{octal, All};
+ghost use Rattle.numerals.specs.Digits.{valueOf};
+ghost use Rattle.command_grammar.specs.Grammar.{All};
 ghost use Rattle.command_grammar.specs.Reading.{low8};
 ghost use Rattle.command_grammar.specs.Reader.{is, span, oneCharacter};
 ghost use Rattle.command_cursor.specs.Classes.{classOf};
@@ -109,7 +110,7 @@ fn digit(character: u8) -> usize
 // "of unit, group and user the low 8 bits are kept": those of the octal number that stands from one place to another, of any length.
 pub fn low_octal(line: &[u8], first: usize, end: usize) -> usize
     requires { ⌜ (first ≤ end) × (end ≤ length (now line)) ⌝ }
-    ensures { λ r. ⌜ r ≡ low8 (octal (take (end - first) (drop first (now (line .entry))))) ⌝ }
+    ensures { λ r. ⌜ r ≡ low8 (valueOf 8 (take (end - first) (drop first (now (line .entry))))) ⌝ }
 {
     let mut number = 0;
     let mut i = first;

@@ -9,6 +9,6 @@ pub mod ReaderSides
 pub mod ReaderPlaces
 pub mod LinePlace
 pub mod GrammarOne
-pub mod GrammarOctal
+pub mod ReadingOctal
 pub mod ReadingKept
 pub mod ReadingSides

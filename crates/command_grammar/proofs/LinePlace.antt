@@ -52,17 +52,10 @@ end-iff line p P = (
   λ viable. omega (arith, P .within, viable-iff line p P (length line) (le-refl (length line)) .0 (subst Viable (sym (take-length line)) viable)),
 )
 
--- a line of the grammar is not wrong
-pub said-right : (line : List ℕ) (said : Parsed) → Command line said → Wrong line → ⊥
-unfolding Wrong
-said-right line said says wrong = wrong said says
-
+-- a line that has a reading is not wrong, and so has no place
 pub read-right : (line : List ℕ) (reading : Reading) → Reads line reading → Wrong line → ⊥
-read-right line reading (reads {said} says) = said-right line said says
-
--- a line with a place says nothing, and so has no reading
-pub not-said : (line : List ℕ) (place : ℕ) (said : Parsed) → LinePlace line place → Command line said → ⊥
-not-said line place said placed says = said-right line said says (placed .wrong)
+unfolding Wrong
+read-right line reading (reads {said} says) wrong = wrong said says
 
 pub not-read : (line : List ℕ) (place : ℕ) (reading : Reading) → LinePlace line place → Reads line reading → ⊥
 not-read line place reading placed read = read-right line reading read (placed .wrong)

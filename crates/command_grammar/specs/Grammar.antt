@@ -1,21 +1,14 @@
 -- The grammar of command lines, rule by rule from document 01: a relation between lines and what they say.
-use Prim.Native.Nat.{ℕ, _+_, _*_, _-_, _≤_}
+use Prim.Native.Nat.{ℕ, _≤_}
 use mathlib.Core.Path.{_≡_}
 use mathlib.Core.List.{List, [], _∷_, _++_}
 use mathlib.Core.Option.{Option, none, some}
 use mathlib.Core.Bool.{Bool, true}
 use lib.ListN.{length}
 use Rattle.radix.specs.Names.{isLetter, isLetterOrDigit}
+use Rattle.numerals.specs.Digits.{valueOf}
 use Rattle.command_grammar.specs.LineCharacters.{isOctal, comma, period, slash, colon, less, opening, closing}
 use Rattle.command_grammar.specs.Parsed.{Device, FileName, Uic, Switch, Specification, Parsed}
-
--- the number that octal digits write; no digits write 0
-abbrev pub octalFrom : ℕ → List ℕ → ℕ
-octalFrom number [] = number
-octalFrom number (digit ∷ digits) = octalFrom (number * 8 + (digit - 48)) digits
-
-abbrev pub octal : List ℕ → ℕ
-octal digits = octalFrom 0 digits
 
 -- every character passes the test
 pub data All (test : ℕ → Bool) : List ℕ → Type 0 where
@@ -37,7 +30,7 @@ pub record Some (test : ℕ → Bool) (s : List ℕ) : Type 0 where
 pub data IsDevice : List ℕ → Option Device → Type 0 where
   absent : IsDevice [] none
   device : {l u : List ℕ} → Between 2 3 isLetter l → All isOctal u →
-      IsDevice (l ++ (u ++ (colon ∷ []))) (some (record { letters = l; unit = octal u }))
+      IsDevice (l ++ (u ++ (colon ∷ []))) (some (record { letters = l; unit = valueOf 8 u }))
 
 -- nothing, or "name of 1-6 A-Z, 0-9, after which `.` and an extension of 1-3 such may stand"
 pub data IsFile : List ℕ → Option FileName → Type 0 where
@@ -50,7 +43,7 @@ pub data IsFile : List ℕ → Option FileName → Type 0 where
 pub data IsUic : List ℕ → Option Uic → Type 0 where
   absent : IsUic [] none
   uic : {g u : List ℕ} → Some isOctal g → Some isOctal u →
-      IsUic (opening ∷ (g ++ (comma ∷ (u ++ (closing ∷ []))))) (some (record { group = octal g; user = octal u }))
+      IsUic (opening ∷ (g ++ (comma ∷ (u ++ (closing ∷ []))))) (some (record { group = valueOf 8 g; user = valueOf 8 u }))
 
 -- "then any number of `:` with 1-6 A-Z, 0-9"
 pub data AreValues : List ℕ → List (List ℕ) → Type 0 where

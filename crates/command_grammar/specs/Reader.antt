@@ -6,9 +6,9 @@ use mathlib.Core.Bool.{Bool, cond}
 use lib.Dec.{leb, eqb}
 use lib.ListN.{length, take, drop}
 use Rattle.radix.specs.Names.{isLetter, isLetterOrDigit}
+use Rattle.numerals.specs.Digits.{valueOf}
 use Rattle.command_grammar.specs.LineCharacters.{isOctal, comma, period, slash, colon, less, opening, closing}
 use Rattle.command_grammar.specs.Parsed.{Device, FileName, Uic, Switch, Specification, Parsed}
-use Rattle.command_grammar.specs.Grammar.{octal}
 
 -- is it the character c
 abbrev pub is : ℕ → ℕ → Bool
@@ -85,10 +85,10 @@ abbrev pub first : {A B : Type 0} → A → B → A
 first a b = a
 
 abbrev pub mkUic : List ℕ → List ℕ → Uic
-mkUic g u = record { group = octal g; user = octal u }
+mkUic g u = record { group = valueOf 8 g; user = valueOf 8 u }
 
 abbrev pub mkDevice : List ℕ → List ℕ → Device
-mkDevice l u = record { letters = l; unit = octal u }
+mkDevice l u = record { letters = l; unit = valueOf 8 u }
 
 abbrev pub mkFile : List ℕ → Option (List ℕ) → FileName
 mkFile n e = record { name = n; extension = e }

@@ -11,8 +11,9 @@ use lib.Dec.{leb, ltb}
 use lib.ListN.{length, take, drop}
 use lib.Seq.{drop-drop}
 use Rattle.radix.specs.Names.{isLetter, isLetterOrDigit}
+use Rattle.numerals.specs.Digits.{valueOf}
 use Rattle.command_grammar.specs.LineCharacters.{isOctal, colon, period}
-use Rattle.command_grammar.specs.Grammar.{All, octal}
+use Rattle.command_grammar.specs.Grammar.{All}
 use Rattle.command_grammar.specs.Parsed.{Device, FileName}
 use Rattle.command_grammar.specs.Reading.{low8}
 use Rattle.command_grammar.specs.Reader.{is, Res, ok, no, mapped, moved, from, first, second, mkDevice, mkFile, mkHead, word, span, spanAll, oneCharacter, Head, device, file, head, headFrom}
@@ -86,7 +87,7 @@ module _ (s : List ℕ) (i j middle : ℕ) (m : middle ≡ i + 2 + span isLetter
     pub unit-inside : (middle ≤ j - 1) × (j - 1 ≤ length s)
     unit-inside = let x = device-parts (h .stands) in (omega (arith, x .1), omega (arith, x .2))
 
-  pub device-made : {w n : ℕ} → w ≡ filledWord (take (middle - i) (drop i s)) → n ≡ low8 (octal (take (j - 1 - middle) (drop middle s)))
+  pub device-made : {w n : ℕ} → w ≡ filledWord (take (middle - i) (drop i s)) → n ≡ low8 (valueOf 8 (take (j - 1 - middle) (drop middle s)))
       → (d : Device) → from device s i ≡ ok d j → _≡_ {A = DeviceNumbers} (record { word = w; unit = n }) (deviceNumbers d)
   unfolding deviceNumbers
   device-made p q d h = rw (device-parts h .3, p, q)

@@ -7,8 +7,8 @@ use mathlib.Core.Bool.{true, false}
 use mathlib.Core.Logic.{_⊎_, inl, inr}
 use native.Mathlib.Omega.{arith}
 use lib.ListN.{length, take, drop, length-drop}
+use Rattle.numerals.specs.Digits.{valueOf}
 use Rattle.command_grammar.specs.LineCharacters.{isOctal, comma, opening, closing}
-use Rattle.command_grammar.specs.Grammar.{octal}
 use Rattle.command_grammar.specs.Parsed.{Uic, Switch}
 use Rattle.command_grammar.specs.Reading.{low8, keptSpecification}
 use Rattle.command_grammar.specs.Reader.{is, ok, from, first, second, mkUic, mkTail, mkSpecification, span, spanAll, oneCharacter, Head, head, uic}
@@ -88,7 +88,7 @@ module _ (s : List ℕ) (i j : ℕ) where
         (omega (arith, y .1, y .2, is), omega (arith, y .1, y .3, is), y .4)
 
     pub uic-made : {c : ℕ} → c ≡ i + 1 + span isOctal (length s) (drop (i + 1) s)
-        → {g v : ℕ} → g ≡ low8 (octal (take (c - (i + 1)) (drop (i + 1) s))) → v ≡ low8 (octal (take (j - 1 - (c + 1)) (drop (c + 1) s)))
+        → {g v : ℕ} → g ≡ low8 (valueOf 8 (take (c - (i + 1)) (drop (i + 1) s))) → v ≡ low8 (valueOf 8 (take (j - 1 - (c + 1)) (drop (c + 1) s)))
         → (u : Option Uic) → from brackets s i ≡ ok u j → _≡_ {A = UicNumbers} (record { present = true; group = g; user = v }) (uicNumbers u)
     unfolding uicNumbers
     uic-made {c} is p q u h =

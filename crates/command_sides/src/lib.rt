@@ -1,4 +1,4 @@
-// The reader of a side and the reader of a specification, which call each other; and the whole line.
+// The reader of a side and the reader of what it has behind a specification, which call each other; and the whole line.
 ghost use mathlib.Core.Path.{_≡_};
 ghost use Prim.Native.Nat.{_-_};
 ghost use Rattle.command_grammar.specs.Reading.{inputOf};
@@ -62,25 +62,25 @@ fn join(k: usize, here: Cursor, rest: Sought) -> Sought
     }
 }
 
-// "Side: one or more specifications": one, and what its side has behind it.
-fn read_specification(line: &[u8], c: Cursor, k: usize) -> Sought
+// "Side: one or more specifications": the first, and what the side has behind it.
+fn read_side(line: &[u8], c: Cursor, k: usize) -> Sought
     ensures { λ r. ⌜ SoughtAt (now (line .entry)) k (from side (now (line .entry)) (c .at)) r ⌝ }
 {
     let specification = pass_parts(line, c);
     match specification {
         Part::Refused(place) => Sought::Refused(place),
-        Part::Read(next) => join(k, c, read_side(line, next, before(k))),
+        Part::Read(next) => join(k, c, read_more(line, next, before(k))),
     }
 }
 
-// "each comma outside brackets begins another": those inside are passed over with their specification.
-fn read_side(line: &[u8], c: Cursor, k: usize) -> Sought
+// What a side has behind a specification: "each comma outside brackets begins another"; those inside are passed over with their specification.
+fn read_more(line: &[u8], c: Cursor, k: usize) -> Sought
     ensures { λ r. ⌜ SoughtAt (now (line .entry)) k (from behindComma (now (line .entry)) (c .at)) r ⌝ }
 {
     let comma = c.one(line, COMMA);
     match comma {
         Part::Refused(_) => Sought::Read(SideFound { count: 0, start: c }, c),
-        Part::Read(next) => read_specification(line, next, k),
+        Part::Read(next) => read_side(line, next, k),
     }
 }
 
@@ -91,7 +91,7 @@ fn read_input(line: &[u8], c: Cursor, k: usize) -> Sought
     let sign = c.one(line, LESS_THAN);
     match sign {
         Part::Refused(_) => Sought::Read(SideFound { count: 0, start: c }, c),
-        Part::Read(next) => read_specification(line, next, k),
+        Part::Read(next) => read_side(line, next, k),
     }
 }
 
@@ -125,7 +125,7 @@ fn choose(side: usize, k: usize, output: SideFound, input: SideFound) -> Located
 pub fn read_line(line: &[u8], side: usize, k: usize) -> Located
     ensures { λ r. ⌜ LocatedIn (now (line .entry)) side k r ⌝ }
 {
-    let output = read_specification(line, Cursor { at: 0 }, k);
+    let output = read_side(line, Cursor { at: 0 }, k);
     match output {
         Sought::Refused(place) => Located::Refused(place),
         Sought::Read(outputs, c) => {

@@ -1,9 +1,9 @@
--- Segments rounded up to blocks: the two cases of the code, and that it is the least number of blocks that has the segments.
+-- Segments rounded up to blocks: the two cases of the code, the quotient, and that it is the least number of blocks that has the segments.
 use Prim.Native.Nat.{ℕ, _+_, _*_, _-_, _/_, _%_, _≤_, _<_}
 use mathlib.Core.Path.{_≡_, sym, ap}
 use native.Mathlib.Omega.{arith}
 use native.Mathlib.Decide.{ℕ-discrete, decLe}
-use native.Mathlib.Nat.{div-add-mod', mod-lt, mul-le-mul-right, mul-le-mul-left}
+use native.Mathlib.Nat.{div-add-mod', div-eq-of-lt-le, mod-lt, mul-le-mul-right, mul-le-mul-left}
 use borrow.Author.Tests.{lt-ltb, le-ltb}
 use Rattle.pack.specs.declared.Geometry.{Geometry}
 use Rattle.creation.specs.Alloc.{blocksFor}
@@ -46,6 +46,10 @@ module _ (g : Geometry) (segments : ℕ) where
             → (segments ≤ blocksFor g segments * g .segments .0) × (blocksFor g segments * g .segments .0 < segments + g .segments .0)
         by (yes is) = rw (sym (blocks-whole is)) (omega (arith, div-add-mod' segments (g .segments .0), known))
         by (no never) = rw (sym (blocks-begun never)) (omega (arith, div-add-mod' segments (g .segments .0), mod-lt segments known, never))
+
+    -- so it is one quotient
+    pub blocks-rounded : blocksFor g segments ≡ (segments + (g .segments .0 - 1)) / g .segments .0
+    blocks-rounded = sym (div-eq-of-lt-le (g .segments .0) (omega (arith, rounded .1)) (omega (arith, rounded .0)))
 
     module _ (some : 0 < segments) where
       pub blocks-some : 0 < blocksFor g segments

@@ -9,13 +9,13 @@ use Rattle.command_grammar.specs.Parsed.{Parsed}
 use Rattle.command_grammar.specs.Grammar.{Command}
 use Rattle.command_grammar.specs.Reading.{Reading, Reads, sideOf}
 use Rattle.command_grammar.specs.LinePlace.{Viable, LinePlace}
-use Rattle.command_grammar.proofs.GrammarOne.{reads-one}
+use Rattle.command_grammar.proofs.GrammarOne.{reads-one, reads-iff}
 use Rattle.command_grammar.proofs.LinePlace.{place-one, viable-iff, end-iff}
 use Rattle.command.specs.Condensed.{condensed, TooLong}
 use Rattle.command.specs.Csi1.{Csi1Answered}
 use Rattle.command.specs.Csi2.{Csi2Answered}
 use Rattle.command.specs.declared.csi2.SpecificationAnswer.{SpecificationAnswer}
-use Rattle.command.specs.Known.{Reply, Replied, KnownUpTo51, knownOf}
+use Rattle.command.specs.Known.{Known, knownOf, AskedFrom}
 use Rattle.command.proofs.Csi1Only.{csi1-answered-one}
 use Rattle.command.proofs.Csi2Only.{csi2-answered-one}
 use Rattle.command.proofs.Csi1Causes.{csi1-accepted-iff, csi1-refused-iff}
@@ -24,17 +24,23 @@ use Rattle.command.proofs.Csi1Then.{csi1-then-side}
 -- 3.1 "For any command line within the length limits, with room lent for the result, the line is accepted exactly when the grammar writes it
 -- with blanks and fill characters removed."
 pub line-accepted : (line buffer : List ℕ) (answer : Answer) (after : List ℕ) → (TooLong line → ⊥) → length (condensed line) ≤ length buffer
-    → Csi1Answered line buffer answer after → answer .code ≡ 0 ↔ ((said : Parsed) × Command (condensed line) said)
+    → Csi1Answered line buffer answer after → answer .code ≡ 0 ↔ ((reading : Reading) × Reads (condensed line) reading)
 line-accepted = csi1-accepted-iff
+
+-- it has a reading exactly when the grammar writes it
+pub line-written : (line : List ℕ) → ((reading : Reading) × Reads line reading) ↔ ((said : Parsed) × Command line said)
+line-written = reads-iff
 
 -- 3.2 "No line has two readings."
 pub line-reading : (line : List ℕ) (a b : Reading) → Reads line a → Reads line b → a ≡ b
 line-reading = reads-one
 
 -- 3.3 "Asking for each side's specifications by place yields that reading, all of it and no more."
+-- From what CSI1 wrote: with 384 bytes for each answer the asking ends, and what is then known, with whatever buffers it ends, is this.
 pub line-asked : (line buffer : List ℕ) (answer : Answer) (after : List ℕ) → Csi1Answered line buffer answer after → answer .code ≡ 0
     → (reading : Reading) × Reads (condensed line) reading
-    × ((side : ℕ) (replies : ℕ → Reply) → Replied (take (answer .number) after) side replies → KnownUpTo51 replies 0 (knownOf (sideOf side reading)))
+    × ((side : ℕ) (lent : ℕ → List ℕ) → ((k : ℕ) → 384 ≤ length (lent k)) → AskedFrom (take (answer .number) after) side lent 0 (knownOf (sideOf side reading)))
+    × ((side : ℕ) (lent : ℕ → List ℕ) (known : List Known) → AskedFrom (take (answer .number) after) side lent 0 known → known ≡ knownOf (sideOf side reading))
 line-asked = csi1-then-side
 
 -- 3.4 "A refused line is answered with the place, in what remains, of the first character with which no command could go on, or with its end if

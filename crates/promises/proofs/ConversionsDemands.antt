@@ -3,13 +3,13 @@ use Prim.Native.Nat.{ℕ, _+_, _*_, _≤_}
 use mathlib.Core.Path.{_≡_, refl}
 use mathlib.Core.Logic.{_↔_}
 use mathlib.Core.Bool.{true}
-use mathlib.Core.List.{List}
+use mathlib.Core.List.{List, [], _∷_}
 use mathlib.Core.Option.{Option, none, some}
 use lib.ListN.{length, getD}
 use Rattle.answers.specs.Refusals.{tableOrder, inOrder}
 use Rattle.answers.specs.Conversion.{conversionRows}
-use Rattle.answers.proofs.Conversion.{conversion-ordered, number-given}
-use Rattle.radix.specs.Characters.{codeOf, Outside}
+use Rattle.answers.proofs.Conversion.{conversion-ordered, number-given, characters-given}
+use Rattle.radix.specs.Characters.{codeOf, characterOf, Outside}
 use Rattle.radix.specs.Names.{LegalName, LegalExtension}
 use Rattle.radix.specs.NamesTest.{legalName, legalExtension}
 use Rattle.radix.specs.Radpk.{radpk}
@@ -18,11 +18,12 @@ use Rattle.radix.proofs.Characters.{code-none-iff}
 use Rattle.radix.proofs.Packing.{packing-refused, unpacking-refused}
 use Rattle.radix.proofs.Names.{name-iff, extension-iff}
 use Rattle.radix.proofs.RadpkCases.{word-given}
+use Rattle.radix.proofs.RadupCases.{codes-written}
 use Rattle.radix.proofs.RadpkRadup as radix
-use Rattle.numerals.specs.Digits.{allDigits, valueOf, numberOf}
+use Rattle.numerals.specs.Digits.{allDigits, valueOf, digits, numberOf, digitsOf}
 use Rattle.numerals.specs.Decimal.{d2bin, bin2d}
 use Rattle.numerals.specs.Octal.{o2bin, bin2o}
-use Rattle.numerals.proofs.DigitsLimits.{number-small}
+use Rattle.numerals.proofs.DigitsLimits.{number-small, digits-small}
 use Rattle.numerals.proofs.DigitsRefused.{digits-refused}
 use Rattle.numerals.proofs.DecimalAgain.{decimal-number-again, decimal-characters-again}
 use Rattle.numerals.proofs.OctalAgain.{octal-number-again, octal-characters-again}
@@ -72,6 +73,19 @@ d2bin-right s same all small = number-given 5 (numberOf 10) s same (number-small
 pub o2bin-right : (s : List ℕ) → length s ≡ 6 → allDigits 8 s ≡ true → valueOf 8 s ≤ 65535 → o2bin s ≡ record { code = 0; number = valueOf 8 s }
 unfolding o2bin
 o2bin-right s same all small = number-given 6 (numberOf 8) s same (number-small 8 s all small)
+
+-- the other way, the characters are those of the word's codes, and the digits of the number
+pub radup-right : (a b c x y z : ℕ) → characterOf a ≡ some x → characterOf b ≡ some y → characterOf c ≡ some z → (buffer : List ℕ) → length buffer ≡ 3
+    → radup (1600 * a + 40 * b + c) buffer ≡ record { code = 0; buffer = x ∷ (y ∷ (z ∷ [])) }
+radup-right = codes-written
+
+pub bin2d-right : (n : ℕ) → n ≤ 65535 → (buffer : List ℕ) → length buffer ≡ 5 → bin2d n buffer ≡ record { code = 0; buffer = digits 10 5 n }
+unfolding bin2d
+bin2d-right n small buffer same = characters-given 5 (digitsOf 10 5) n buffer same (digits-small 10 5 n small)
+
+pub bin2o-right : (n : ℕ) → n ≤ 65535 → (buffer : List ℕ) → length buffer ≡ 6 → bin2o n buffer ≡ record { code = 0; buffer = digits 8 6 n }
+unfolding bin2o
+bin2o-right n small buffer same = characters-given 6 (digitsOf 8 6) n buffer same (digits-small 8 6 n small)
 
 -- "packing as well as unpacking": each pair undoes itself, both ways
 pub radix-inverse : InverseDemands 3 radpk radup

@@ -1,5 +1,6 @@
 -- The proofs of what is promised.
 pub mod Examples
+pub mod Measures
 pub mod RefusedDigits
 pub mod Conversions
 pub mod ConversionsDemands

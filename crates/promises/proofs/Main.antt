@@ -5,20 +5,24 @@ use mathlib.Core.Logic.{_↔_, _⊎_}
 use mathlib.Core.Bool.{true}
 use mathlib.Core.List.{List, [], _∷_, _++_}
 use mathlib.Core.Option.{none, some}
+use native.Mathlib.Omega.{arith}
 use lib.ListN.{length, getD, take, replicate}
 use Rattle.answers.specs.declared.Answer.{Answer}
 use Rattle.answers.specs.Refusals.{tableOrder, placeIn}
 use Rattle.words.specs.Word.{wordAt}
-use Rattle.radix.specs.Characters.{codeOf}
+use Rattle.words.specs.Text.{bytes}
+use Rattle.radix.specs.Characters.{codeOf, characterOf}
 use Rattle.radix.specs.Radpk.{radpk}
 use Rattle.radix.specs.Radup.{radup}
-use Rattle.numerals.specs.Digits.{allDigits, valueOf}
+use Rattle.radix.proofs.RadpkCases
+use Rattle.numerals.specs.Digits.{allDigits, valueOf, digits}
 use Rattle.numerals.specs.Decimal.{d2bin, bin2d}
 use Rattle.numerals.specs.Octal.{o2bin, bin2o}
 use Rattle.pack.specs.declared.Key.{Key}
 use Rattle.pack.specs.declared.Owner.the-variants.{Free}
 use Rattle.pack.specs.Form.{bodiesOf}
 use Rattle.pack.specs.Geometry.{geometryOf, slots, payloadBytes}
+use Rattle.pack.specs.Header.{Measured}
 use Rattle.pack.specs.Entry.{entryOf}
 use Rattle.pack.specs.Consistent.{Consistent}
 use Rattle.pack.specs.Owner.{ownerOf, HeldAt, FreeBlock, storedLengths, freeCount}
@@ -55,7 +59,9 @@ use Rattle.command.specs.declared.csi2.SpecificationAnswer.{SpecificationAnswer
 use Rattle.command.specs.Condensed.{condensed, TooLong}
 use Rattle.command.specs.Csi1.{Csi1Answered}
 use Rattle.command.specs.Csi2.{Csi2Answered}
-use Rattle.command.specs.Known.{Reply, Replied, KnownUpTo51, knownOf}
+use Rattle.command.specs.Known.{Known, knownOf, AskedFrom}
+use Rattle.command.proofs.Csi1Only
+use Rattle.command.proofs.Csi2Only
 use Rattle.requests.specs.Request.{Request, outcome, Names, bufferLent}
 use Rattle.requests.specs.Contract.{Result, numbersIn, Meets, contractOf}
 use Rattle.requests.proofs.RequestConsistent
@@ -64,12 +70,14 @@ use Rattle.requests.proofs.RequestUntouched
 use Rattle.requests.proofs.ContractSingle
 use Rattle.requests.specs.Changes.{MayChange}
 use Rattle.requests.proofs.Changes
+use Rattle.promises.specs.Measures.{DocumentHeader, DocumentMeasures}
 use Rattle.promises.specs.GivenWhen.{GivesCode, InTableOrder}
 use Rattle.promises.specs.Codes.{FileCases, CreatingCases, AccessCases, OtherPayload, casesOf}
 use Rattle.promises.specs.CommandCodes.{Csi1Cases, Csi2Cases}
 use Rattle.promises.specs.AddedAgain.{openedImage}
 use Rattle.promises.specs.Refused.{NotRadix, NotWord, TooLarge, NotNumeral}
 use Rattle.promises.specs.Conversions.{NumberDemands, CharactersDemands, InverseDemands}
+use Rattle.promises.proofs.Measures
 use Rattle.promises.proofs.Codes
 use Rattle.promises.proofs.CodesRoom
 use Rattle.promises.proofs.AddedAgain
@@ -81,6 +89,13 @@ use Rattle.promises.proofs.CommandCodes
 -- No exported function (`crates/service/src`) has a `requires`: its contract holds of every input, and the code it gives is 0 or one of the paper's table.
 pub code-known : (r : Request) (img : List ℕ) → (outcome r img .code ≡ 0) ⊎ (placeIn tableOrder (outcome r img .code) < length tableOrder)
 code-known = Codes.code-known
+
+-- The contracts of CSI1 and CSI2 are relations: each allows an answer to any line, in any buffer, for any side and place.
+pub csi1-answers : (line buffer : List ℕ) → (answer : Answer) × (after : List ℕ) × Csi1Answered line buffer answer after
+csi1-answers = Csi1Only.csi1-answers
+
+pub csi2-answers : (line : List ℕ) (side k : ℕ) (buffer : List ℕ) → (answer : SpecificationAnswer) × (after : List ℕ) × Csi2Answered line side k buffer answer after
+csi2-answers = Csi2Only.csi2-answers
 
 -- 1.2 "What cannot be done is refused with the code that the build document orders first,"
 -- Each request on an image gives each code exactly in its case (`specs/Codes.antt`), and the cases stand in the order of the paper's table.
@@ -170,6 +185,10 @@ pub add-again : (img : List ℕ) (key : Key) (caller : ℕ) (payload : List ℕ)
     ≡ record { code = 0; numbers = []; image = openedImage img key caller payload; buffer = payload }
 add-again = AddedAgain.add-again
 
+-- what Format is told, and what block 0 says, is right exactly in the document's numbers
+pub document-header : (long form n c u : ℕ) → Measured long form n c u ↔ DocumentHeader long form n c u
+document-header = Measures.document-header
+
 -- Format makes a consistent pack of any image, whose bodies are all free
 module _ (image : List ℕ) (form blocks contents : ℕ) (uics : List ℕ) (right : Formattable (length image) form blocks contents uics) where
   pub format-makes : Consistent (formatted image form blocks contents uics)
@@ -187,6 +206,10 @@ stays-consistent = RequestConsistent.stays-consistent
 pub judged : (img : List ℕ) → consistent img ≡ true ↔ Consistent img
 judged = consistent-iff
 
+-- in the document's numbers: blocks of 512 bytes, n from 16 to 1024, c from 1 to 8, at most 64 UICs, 16c entries, payloads of 510 bytes
+pub document-measures : {img : List ℕ} → Consistent img → DocumentMeasures img
+document-measures = Measures.document-measures
+
 pub block-owned : {img : List ℕ} → Consistent img → (b : ℕ) → b < geometryOf img .blocks → OneOwner img b (ownerOf img b)
 block-owned right b below = one-owner right b
 
@@ -203,8 +226,10 @@ module _ {img : List ℕ} (right : Consistent img) (b : ℕ) (below : b < geomet
 
 -- "So c + 1, the stored lengths and the free blocks counted one by one add to n."
 pub blocks-summed : {img : List ℕ} → Consistent img → wordAt img 2 + 1 + storedLengths img + freeCount img ≡ wordAt img 1
-unfolding storedLengths geometryOf bodiesOf
-blocks-summed right = sum-of-blocks right
+unfolding storedLengths
+blocks-summed right =
+    let m = document-measures right in
+    omega (arith, sum-of-blocks right, m .bodies, m .blocks)
 
 -- 2.3 "A request for room with nothing else against it is refused exactly if no such room is free."
 module _ (img : List ℕ) (key : Key) (caller protect segments : ℕ) (clear : GivesCode (CreatingCases img key caller protect (segments ≡ 0)) 0) where
@@ -228,11 +253,25 @@ pub radpk-right : (s : List ℕ) → length s ≡ 3 → (a b c : ℕ) → codeOf
     → record { code = 0; number = 1600 * a + 40 * b + c } ≡ radpk s
 radpk-right = ConversionsDemands.radpk-right
 
+-- "A word of three blanks is 0."
+pub blanks-zero : radpk (bytes "   ") ≡ record { code = 0; number = 0 }
+blanks-zero = RadpkCases.blanks-zero
+
+pub radup-right : (a b c x y z : ℕ) → characterOf a ≡ some x → characterOf b ≡ some y → characterOf c ≡ some z → (buffer : List ℕ) → length buffer ≡ 3
+    → radup (1600 * a + 40 * b + c) buffer ≡ record { code = 0; buffer = x ∷ (y ∷ (z ∷ [])) }
+radup-right = ConversionsDemands.radup-right
+
 pub d2bin-right : (s : List ℕ) → length s ≡ 5 → allDigits 10 s ≡ true → valueOf 10 s ≤ 65535 → d2bin s ≡ record { code = 0; number = valueOf 10 s }
 d2bin-right = ConversionsDemands.d2bin-right
 
 pub o2bin-right : (s : List ℕ) → length s ≡ 6 → allDigits 8 s ≡ true → valueOf 8 s ≤ 65535 → o2bin s ≡ record { code = 0; number = valueOf 8 s }
 o2bin-right = ConversionsDemands.o2bin-right
+
+pub bin2d-right : (n : ℕ) → n ≤ 65535 → (buffer : List ℕ) → length buffer ≡ 5 → bin2d n buffer ≡ record { code = 0; buffer = digits 10 5 n }
+bin2d-right = ConversionsDemands.bin2d-right
+
+pub bin2o-right : (n : ℕ) → n ≤ 65535 → (buffer : List ℕ) → length buffer ≡ 6 → bin2o n buffer ≡ record { code = 0; buffer = digits 8 6 n }
+bin2o-right = ConversionsDemands.bin2o-right
 
 pub radix-inverse : InverseDemands 3 radpk radup
 radix-inverse = ConversionsDemands.radix-inverse
@@ -246,17 +285,23 @@ octal-inverse = ConversionsDemands.octal-inverse
 -- 3.1 "For any command line within the length limits, with room lent for the result, the line is accepted exactly when the grammar writes it
 -- with blanks and fill characters removed."
 pub line-accepted : (line buffer : List ℕ) (answer : Answer) (after : List ℕ) → (TooLong line → ⊥) → length (condensed line) ≤ length buffer
-    → Csi1Answered line buffer answer after → answer .code ≡ 0 ↔ ((said : Parsed) × Command (condensed line) said)
+    → Csi1Answered line buffer answer after → answer .code ≡ 0 ↔ ((reading : Reading) × Reads (condensed line) reading)
 line-accepted = Commands.line-accepted
+
+-- it has a reading exactly when the grammar writes it
+pub line-written : (line : List ℕ) → ((reading : Reading) × Reads line reading) ↔ ((said : Parsed) × Command line said)
+line-written = Commands.line-written
 
 -- 3.2 "No line has two readings."
 pub line-reading : (line : List ℕ) (a b : Reading) → Reads line a → Reads line b → a ≡ b
 line-reading = Commands.line-reading
 
 -- 3.3 "Asking for each side's specifications by place yields that reading, all of it and no more."
+-- From what CSI1 wrote: with 384 bytes for each answer the asking ends, and what is then known, with whatever buffers it ends, is this.
 pub line-asked : (line buffer : List ℕ) (answer : Answer) (after : List ℕ) → Csi1Answered line buffer answer after → answer .code ≡ 0
     → (reading : Reading) × Reads (condensed line) reading
-    × ((side : ℕ) (replies : ℕ → Reply) → Replied (take (answer .number) after) side replies → KnownUpTo51 replies 0 (knownOf (sideOf side reading)))
+    × ((side : ℕ) (lent : ℕ → List ℕ) → ((k : ℕ) → 384 ≤ length (lent k)) → AskedFrom (take (answer .number) after) side lent 0 (knownOf (sideOf side reading)))
+    × ((side : ℕ) (lent : ℕ → List ℕ) (known : List Known) → AskedFrom (take (answer .number) after) side lent 0 known → known ≡ knownOf (sideOf side reading))
 line-asked = Commands.line-asked
 
 -- 3.4 "A refused line is answered with the place, in what remains, of the first character with which no command could go on, or with its end if

@@ -48,10 +48,13 @@ OneWriting meaning = (number : ℕ) (buffer : List ℕ) (r r′ : ℕ) (after af
     → r ≡ meaning number buffer .code → after ≡ meaning number buffer .buffer
     → r′ ≡ meaning number buffer .code → after′ ≡ meaning number buffer .buffer → (r ≡ r′) × (after ≡ after′)
 
--- "Shut out: refusing everything ..; one fixed answer ..; touching nothing": no answer is that of all inputs, and not every buffer stays
-abbrev pub NoFixedAnswer : (List ℕ → Answer) → Type 0
-NoFixedAnswer meaning = (r : Answer) → ((characters : List ℕ) → r ≡ meaning characters) → ⊥
+-- "Shut out: refusing everything ..; one fixed answer ..; touching nothing": some input is answered 0, no answer is that of all inputs,
+-- and not every buffer stays
+pub record NoHollowAnswer (meaning : List ℕ → Answer) : Type 0 where
+  pub taken : (characters : List ℕ) × (meaning characters .code ≡ 0)
+  pub answer : (r : Answer) → ((characters : List ℕ) → r ≡ meaning characters) → ⊥
 
 pub record NoHollowWriting (meaning : ℕ → List ℕ → Converted) : Type 0 where
+  pub taken : (number : ℕ) × (buffer : List ℕ) × (meaning number buffer .code ≡ 0)
   pub code : (r : ℕ) → ((number : ℕ) (buffer : List ℕ) → r ≡ meaning number buffer .code) → ⊥
   pub buffer : ((number : ℕ) (buffer : List ℕ) → buffer ≡ meaning number buffer .buffer) → ⊥

@@ -1,5 +1,6 @@
 -- What is promised of the service as a whole, about its public definitions alone.
 pub mod Examples
+pub mod Measures
 pub mod Refused
 pub mod Conversions
 pub mod GivenWhen

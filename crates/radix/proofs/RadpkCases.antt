@@ -1,13 +1,15 @@
--- RADPK's answer in each of its cases: another size, a character outside the set, and a word.
+-- RADPK's answer in each of its cases: another size, a character outside the set, and a word, that of three blanks too.
 use Prim.Native.Nat.{ℕ}
-use mathlib.Core.Path.{_≡_, sym, ap, _∙_}
-use mathlib.Core.List.{List}
+use mathlib.Core.Path.{_≡_, refl, sym, ap, _∙_}
+use mathlib.Core.List.{List, [], _∷_}
 use mathlib.Core.Option.{none, some}
 use lib.ListN.{length, getD}
 use Rattle.answers.proofs.Conversion.{number-41, number-60, number-given}
 use Rattle.radix.specs.Characters.{codeOf}
 use Rattle.radix.specs.Packing.{packed, wordOf}
+use Rattle.radix.specs.Names.{blank}
 use Rattle.radix.specs.Radpk.{radpk}
+use Rattle.radix.proofs.Characters.{code-blank}
 use Rattle.radix.proofs.Packing.{word-of-three, unpacked-first, unpacked-second, unpacked-third}
 
 module _ (s : List ℕ) (same : length s ≡ 3) where
@@ -31,3 +33,7 @@ module _ (s : List ℕ) (same : length s ≡ 3) where
 pub other-size : (s : List ℕ) → (length s ≡ 3 → ⊥) → record { code = 0o41; number = 0 } ≡ radpk s
 unfolding radpk
 other-size s other = sym (number-41 3 wordOf s other)
+
+-- "A word of three blanks is 0."
+pub blanks-zero : radpk (blank ∷ (blank ∷ (blank ∷ []))) ≡ record { code = 0; number = 0 }
+blanks-zero = sym (word-given (blank ∷ (blank ∷ (blank ∷ []))) refl 0 0 0 0 (code-blank blank refl) (code-blank blank refl) (code-blank blank refl) refl)

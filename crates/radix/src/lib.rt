@@ -15,6 +15,7 @@ ghost use Rattle.radix.specs.NamesTest.{isLetterOrDigitIn, extensionTest
 pub struct Radix50(pub usize);
 
 impl Radix50 {
+    // "A word of three blanks is 0."
     pub const BLANK: usize = 0;
 
     pub const END: usize = 64000;
@@ -42,6 +43,14 @@ impl Radix50 {
         ensures { λ r. ⌜ r ≡ thirdCode (self .0) ⌝ }
     {
         self.0 % 40
+    }
+
+    // Is this the word of three blanks, whose codes are 0?
+    pub fn is_blank(self) -> bool
+        ensures { λ r. ⌜ r ≡ eqb (self .0) (packed 0 0 0) ⌝ }
+        ensures { λ r. do ⌜ (← ⟦Self::BLANK⟧ .entry) ≡ packed 0 0 0 ⌝ }
+    {
+        self.0 == Self::BLANK
     }
 
     pub fn is_legal_extension(self) -> bool
@@ -129,7 +138,7 @@ fn is_in_name(code: usize) -> bool
     code <= 39
 }
 
-fn is_blank(b: usize, c: usize) -> bool
+fn are_blank(b: usize, c: usize) -> bool
     ensures { λ r. ⌜ r ≡ (eqb b 0 && eqb c 0) ⌝ }
 {
     if b == 0 {
@@ -149,10 +158,10 @@ fn is_then_blanks(a: usize, b: usize, c: usize) -> bool
             }
             return c == 0;
         }
-        return is_blank(b, c);
+        return are_blank(b, c);
     }
     if a == 0 {
-        return is_blank(b, c);
+        return are_blank(b, c);
     }
     false
 }
@@ -167,7 +176,7 @@ pub fn is_legal_name(first: Radix50, second: Radix50) -> bool
         return false;
     }
     if first.third() == 0 {
-        return second.0 == Radix50::BLANK;
+        return second.is_blank();
     }
     second.is_legal_extension()
 }

@@ -1,17 +1,18 @@
--- Rests on `GrammarOctal`: the digits left, behind the low 8 bits of those read, make the low 8 bits of all.
-use Prim.Native.Nat.{_<_, _≤_, _-_, _%_}
+-- Rests on `ReadingOctal`: the digits left, behind the low 8 bits of those read, make the low 8 bits of all.
+use Prim.Native.Nat.{_<_, _≤_, _-_}
 use mathlib.Core.Path.{_≡_, refl, sym, _∙_}
 use native.Mathlib.Omega.{arith}
 use borrow.Author.Needs.{needs}
 use lib.ListN.{length, take, drop}
-use Rattle.command_grammar.specs.Grammar.{octalFrom}
-use Rattle.command_grammar.proofs.GrammarOctal.{octal-on, octal-done}
+use Rattle.numerals.specs.Digits.{valueFrom, valueOf}
+use Rattle.command_grammar.specs.Reading.{low8}
+use Rattle.command_grammar.proofs.ReadingOctal.{octal-on, octal-done}
 use Rattle.command_cursor.proofs.low_octal.Statement.{statement}
 use Rattle.command_cursor.proofs.low_octal.Tie as tie
 
 abbrev Inv-loop : tie.InvT-loop
 Inv-loop line first end number₀ i₀ number i =
-    (i ≤ end) × (end ≤ length line) × (number < 256) × (octalFrom number₀ (take (end - i₀) (drop i₀ line)) % 256 ≡ octalFrom number (take (end - i) (drop i line)) % 256)
+    (i ≤ end) × (end ≤ length line) × (number < 256) × (low8 (valueFrom 8 number₀ (take (end - i₀) (drop i₀ line))) ≡ low8 (valueFrom 8 number (take (end - i) (drop i line))))
 
 abbrev μ-loop : tie.MeasureT-loop
 μ-loop line first end number₀ i₀ number i = end - i
@@ -42,6 +43,7 @@ loop-again c = let at = c .before .before .before .loop in
     (omega arith, at .inv .1, omega arith, at .inv .3 ∙ octal-on (at .number) _ (at .i) _ (c .digit .result) (c .before .before .loop-test .taken) (at .inv .1) (c .digit .ensures))
 
 returns : tie.Need-returns Inv-loop μ-loop
+unfolding valueOf
 returns c = let at = c .before .loop in
     let e : at .i ≡ c .before .before .before .args .end = omega arith in
     sym (at .inv .3 ∙ octal-done (at .number) _ (at .i) _ (at .inv .2) e)

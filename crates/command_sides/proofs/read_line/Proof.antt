@@ -4,8 +4,8 @@ use Rattle.command_sides.proofs.SoughtWhole.{output-refused, input-refu
 use Rattle.command_sides.proofs.read_line.Statement.{statement}
 use Rattle.command_sides.proofs.read_line.Tie as tie
 
-read-specification-requires : tie.Need-read-specification-requires
-read-specification-requires c κs = search needs
+read-side-requires : tie.Need-read-side-requires
+read-side-requires c κs = search needs
 
 enum-known-output : tie.Need-enum-known-output
 enum-known-output c = search needs
@@ -26,32 +26,32 @@ returns : tie.Need-returns
 returns c =
     let p = c .before .before .before .before in
     let q = p .before .before .before .before in
-    line-goes-on _ _ _ _ (q .read-specification .ensures) _ _ (p .before .before .output2 .given .1) _ (p .read-input .ensures) _ _ (c .before .before .input2 .given .1) (c .if1 .taken)
+    line-goes-on _ _ _ _ (q .read-side .ensures) _ _ (p .before .before .output2 .given .1) _ (p .read-input .ensures) _ _ (c .before .before .input2 .given .1) (c .if1 .taken)
 
 choose-requires : tie.Need-choose-requires
 choose-requires c κs = search needs
 
 returns-2 : tie.Need-returns-2
-returns-2 c = output-refused _ _ _ _ (c .before .before .before .read-specification .ensures) _ (c .before .output .given .1)
+returns-2 c = output-refused _ _ _ _ (c .before .before .before .read-side .ensures) _ (c .before .output .given .1)
 
 returns-3 : tie.Need-returns-3
 returns-3 c =
     let p = c .before .before .before in
     let q = p .before .before .before .before in
-    input-refused _ _ _ _ (q .read-specification .ensures) _ _ (p .before .before .output2 .given .1) _ (p .read-input .ensures) _ (c .before .input .given .1)
+    input-refused _ _ _ _ (q .read-side .ensures) _ _ (p .before .before .output2 .given .1) _ (p .read-input .ensures) _ (c .before .input .given .1)
 
 returns-4 : tie.Need-returns-4
 returns-4 c =
     let p = c .before .before .before in
     let q = p .before .before .before .before in
-    line-ends _ _ _ _ (q .before .before .read-specification .ensures) _ _ (q .output2 .given .1) _ (p .before .before .read-input .ensures) _ _ (p .input2 .given .1) (c .before .if1 .left)
+    line-ends _ _ _ _ (q .before .before .read-side .ensures) _ _ (q .output2 .given .1) _ (p .before .before .read-input .ensures) _ _ (p .input2 .given .1) (c .before .if1 .left)
     _ (c .choose .ensures)
 
 pub read-line-spec : {M : Type 1} → statement M
 read-line-spec =
     tie.close
     (tie.spec
-    read-specification-requires
+    read-side-requires
     enum-known-output
     enum-known-output-2
     read-input-requires

@@ -21,9 +21,13 @@ returns-2 c = name-other _ _ (λ is. c .before .before .if1 .left (c .before .be
 third-requires : tie.Need-third-requires
 third-requires c κs = search needs
 
+is-blank-requires : tie.Need-is-blank-requires
+is-blank-requires c κs = search needs
+
 returns-3 : tie.Need-returns-3
 returns-3 c =
-    name-short _ _ (λ is. c .before .before .before .before .before .if1 .left (c .before .before .before .before .before .before .first .ensures ∙ is))
+    c .is-blank .ensures .0 ∙ name-short _ _
+    (λ is. c .before .before .before .before .before .if1 .left (c .before .before .before .before .before .before .first .ensures ∙ is))
     (sym (c .before .before .before .before .is-legal-extension .ensures) ∙ not-false _ (c .before .before .before .if2 .left))
     (sym (c .before .before .third .ensures) ∙ c .before .if3 .taken)
 
@@ -46,6 +50,7 @@ is-legal-name-spec =
     is-legal-extension-requires
     returns-2
     third-requires
+    is-blank-requires
     returns-3
     is-legal-extension-requires-2
     returns-4)

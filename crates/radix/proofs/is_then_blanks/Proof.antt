@@ -24,19 +24,19 @@ returns-2 c =
     two-named _ _ _ (sym (c .before .before .before .before .before .is-in-name .ensures) ∙ c .before .before .before .before .if1 .taken)
     (sym (c .before .before .before .is-in-name2 .ensures) ∙ c .before .before .if2 .taken) (sym (c .before .is-in-name3 .ensures) ∙ c .if3 .left)
 
-is-blank-requires : tie.Need-is-blank-requires
-is-blank-requires c κs = search needs
+are-blank-requires : tie.Need-are-blank-requires
+are-blank-requires c κs = search needs
 
 returns-3 : tie.Need-returns-3
 returns-3 c =
-    c .is-blank .ensures ∙ one-named _ _ _ (sym (c .before .before .before .before .is-in-name .ensures) ∙ c .before .before .before .if1 .taken)
+    c .are-blank .ensures ∙ one-named _ _ _ (sym (c .before .before .before .before .is-in-name .ensures) ∙ c .before .before .before .if1 .taken)
     (sym (c .before .before .is-in-name2 .ensures) ∙ c .before .if2 .left)
 
-is-blank-requires-2 : tie.Need-is-blank-requires-2
-is-blank-requires-2 c κs = search needs
+are-blank-requires-2 : tie.Need-are-blank-requires-2
+are-blank-requires-2 c κs = search needs
 
 returns-4 : tie.Need-returns-4
-returns-4 c = c .is-blank2 .ensures ∙ three-blank _ _ _ (sym (c .before .before .before .is-in-name .ensures) ∙ c .before .before .if1 .left) (c .before .if4 .taken)
+returns-4 c = c .are-blank2 .ensures ∙ three-blank _ _ _ (sym (c .before .before .before .is-in-name .ensures) ∙ c .before .before .if1 .left) (c .before .if4 .taken)
 
 returns-5 : tie.Need-returns-5
 returns-5 c = none-named _ _ _ (sym (c .before .before .is-in-name .ensures) ∙ c .before .if1 .left) (c .if4 .left)
@@ -50,8 +50,8 @@ is-then-blanks-spec =
     is-in-name-requires-3
     returns
     returns-2
-    is-blank-requires
+    are-blank-requires
     returns-3
-    is-blank-requires-2
+    are-blank-requires-2
     returns-4
     returns-5)
