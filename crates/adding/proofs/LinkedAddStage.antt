@@ -14,9 +14,8 @@ use Rattle.answers.proofs.Refusals.{refuse, pass, clear, none-given, behind-ref
 use Rattle.pack.specs.declared.Geometry.{Geometry}
 use Rattle.pack.specs.declared.Entry.{Entry}
 use Rattle.pack.specs.declared.Key.{Key}
-use Rattle.pack.specs.Form.{mostBlocks}
+use Rattle.pack.specs.GeometrySized.{mostBlocks, Sized}
 use Rattle.pack.specs.Geometry.{geometryOf}
-use Rattle.pack.specs.GeometrySized.{Sized}
 use Rattle.pack.specs.Entry.{entryOf}
 use Rattle.pack.specs.Consistent.{Consistent}
 use Rattle.pack.specs.Owner.{freeCount, FreeBlock}

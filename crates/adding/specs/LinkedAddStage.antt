@@ -4,9 +4,8 @@ use mathlib.Core.Path.{_≡_}
 use mathlib.Core.List.{List}
 use lib.ListN.{length}
 use Rattle.pack.specs.declared.Geometry.{Geometry}
-use Rattle.pack.specs.Form.{mostBlocks}
+use Rattle.pack.specs.GeometrySized.{mostBlocks, Sized}
 use Rattle.pack.specs.Geometry.{geometryOf, payloadBytes, slots}
-use Rattle.pack.specs.GeometrySized.{Sized}
 use Rattle.pack.specs.Entry.{entryOf}
 use Rattle.pack.specs.Consistent.{Consistent}
 use Rattle.pack.specs.Owner.{freeCount}

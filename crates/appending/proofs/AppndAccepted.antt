@@ -17,7 +17,8 @@ use Rattle.pack.specs.Geometry.{geometryOf, slots}
 use Rattle.pack.specs.GeometrySized.{Sized}
 use Rattle.pack.specs.Entry.{entryOf}
 use Rattle.pack.specs.Consistent.{Consistent, total}
-use Rattle.pack.specs.Key.{keyIn, SameKey, sameKey}
+use Rattle.pack.specs.KeyTest.{sameKey}
+use Rattle.pack.specs.Key.{keyIn, SameKey}
 use Rattle.answers.proofs.RefusalsTests.{true-not-false}
 use Rattle.consistency.specs.ConsistentTest.{consistent}
 use Rattle.consistency.proofs.ConsistentTestIff.{consistent-iff}

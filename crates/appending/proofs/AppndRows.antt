@@ -14,7 +14,7 @@ use Rattle.asking.specs.KeysTest.{legalKey}
 use Rattle.asking.specs.RightsTest.{may}
 use Rattle.asking.specs.AskedStage.{granted}
 use Rattle.asking.specs.OpensTest.{isOpen}
-use Rattle.pack.specs.Key.{sameKey}
+use Rattle.pack.specs.KeyTest.{sameKey}
 use Rattle.appending.specs.AppndRows.{nameRows, permitRows, appndRows}
 
 -- the rows stand in the order of the table

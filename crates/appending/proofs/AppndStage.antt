@@ -19,7 +19,7 @@ use Rattle.consistency.specs.ConsistentTest.{consistent}
 use Rattle.asking.specs.KeysTest.{legalKey, found, findFrom}
 use Rattle.asking.specs.Asked.{entryNo, fileOf}
 use Rattle.asking.proofs.AskedStage.{found-at, number-found}
-use Rattle.pack.specs.Key.{sameKey}
+use Rattle.pack.specs.KeyTest.{sameKey}
 use Rattle.appending.specs.AppndRows.{nameRows, permitRows, appndRows}
 use Rattle.appending.specs.AppndStage.{bothAt, bothOf, appendingOf}
 use Rattle.appending.specs.declared.appnd.Both.the-variants.{Files, Missing}

@@ -7,7 +7,7 @@ use Rattle.answers.specs.Refusals.{Row, row}
 use Rattle.answers.specs.Missing.{missing}
 use Rattle.pack.specs.declared.Entry.{Entry}
 use Rattle.pack.specs.declared.Key.{Key}
-use Rattle.pack.specs.Key.{sameKey}
+use Rattle.pack.specs.KeyTest.{sameKey}
 use Rattle.consistency.specs.ConsistentTest.{consistent}
 use Rattle.asking.specs.declared.Right.the-variants.{Delete, Write}
 use Rattle.asking.specs.KeysTest.{legalKey, found}

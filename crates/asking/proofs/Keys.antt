@@ -16,7 +16,8 @@ use Rattle.pack.specs.declared.Key.{Key}
 use Rattle.pack.specs.Geometry.{geometryOf, slots}
 use Rattle.pack.specs.Entry.{entryOf, Empty, Used, RightEntry}
 use Rattle.pack.specs.Consistent.{Consistent}
-use Rattle.pack.specs.Key.{keyIn, SameKey, sameKey}
+use Rattle.pack.specs.KeyTest.{sameKey}
+use Rattle.pack.specs.Key.{keyIn, SameKey}
 use Rattle.pack.proofs.KeySame.{same-key-iff}
 use Rattle.answers.proofs.RefusalsTests.{and-left, and-right, and-both, go-on, stop, true-not-false}
 use Rattle.asking.specs.KeysTest.{legalKey, findFrom, found}

@@ -7,7 +7,8 @@ use mathlib.Core.List.{List}
 use mathlib.Core.Option.{Option, none, some}
 use Rattle.pack.specs.declared.Geometry.{Geometry}
 use Rattle.pack.specs.Geometry.{geometryOf, slots}
-use Rattle.pack.specs.Key.{keyIn, sameKey}
+use Rattle.pack.specs.KeyTest.{sameKey}
+use Rattle.pack.specs.Key.{keyIn}
 use Rattle.pack.specs.Entry.{entryOf}
 
 -- the first of `k` entries from e on that has the key; an empty entry has no legal key

@@ -10,8 +10,7 @@ use lib.Seq.{ext-getD, getD-take, getD-drop, length-take-le, take-at, drop-at}
 use borrow.Rule.Slice.PartMut.{putMid}
 use Rattle.words.proofs.WordSlices.{part-back}
 use Rattle.pack.specs.declared.Geometry.{Geometry}
-use Rattle.pack.specs.GeometrySized.{Sized}
-use Rattle.pack.specs.Form.{mostBlocks, mostSegments}
+use Rattle.pack.specs.GeometrySized.{Sized, mostBlocks, mostSegments}
 use Rattle.pack.specs.Geometry.{segmentBytes, blockAt, blockBytes, payloadBytes}
 use Rattle.pack.proofs.GeometryRoom.{block-room, few-words}
 use Rattle.bodies.specs.BlockBytes.{partOf, withPart, blockStart, blockOf, payloadStart, payloadOf}

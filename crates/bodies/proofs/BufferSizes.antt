@@ -8,7 +8,8 @@ use borrow.Author.Tests.{eqb-true, not-false}
 use lib.ListN.{length, getD, List·getD-eq-default}
 use Rattle.words.specs.Word.{wordAt}
 use Rattle.pack.specs.declared.Geometry.{Geometry}
-use Rattle.pack.specs.Form.{segmentsOf, mostSegments}
+use Rattle.pack.specs.GeometrySized.{mostSegments}
+use Rattle.pack.specs.Form.{segmentsOf}
 use Rattle.pack.specs.Geometry.{segmentBytes, geometryOf, blockBytes, payloadBytes}
 use Rattle.pack.proofs.FormBounds.{segments-few}
 use Rattle.bodies.specs.BufferSizes.{wrongBlock, wrongPayload}

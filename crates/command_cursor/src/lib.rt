@@ -12,7 +12,7 @@ ghost use Rattle.command_grammar.specs.Grammar.{All};
 ghost use Rattle.command_grammar.specs.Reading.{low8};
 ghost use Rattle.command_grammar.specs.Reader.{is, span, oneCharacter};
 ghost use Rattle.command_cursor.specs.Classes.{classOf};
-ghost use Rattle.command_cursor.specs.CursorAt.{partAt, characterAt};
+ghost use Rattle.command_cursor.specs.CursorAt.{partAt, standsAt, characterAt};
 ghost use Rattle.command_cursor.specs.FilledWord.{filledWord, firstWord, secondWord};
 use radix::Code;
 use radix::Radix50;
@@ -61,6 +61,16 @@ pub fn belongs(class: Class, character: u8) -> bool
     }
 }
 
+// Whether a character stands at a place of the line.
+fn stands(line: &[u8], place: usize, character: u8) -> bool
+    ensures { λ r. ⌜ r ≡ standsAt (now (line .entry)) place character ⌝ }
+{
+    if line.len() <= place {
+        return false;
+    }
+    line[place] == character
+}
+
 impl Cursor {
     // Behind the characters of a class that stand here, at most so many.
     pub fn run(self, line: &[u8], class: Class, most: usize) -> Self
@@ -86,10 +96,7 @@ impl Cursor {
         ensures { λ r. ⌜ r ≡ partAt (self .at) (oneCharacter (is character) (drop (self .at) (now (line .entry)))) ⌝ }
     {
         let at = self.at;
-        if line.len() <= at {
-            return Part::Refused(at);
-        }
-        if line[at] == character {
+        if stands(line, at, character) {
             Part::Read(Cursor { at: at + 1 })
         } else {
             Part::Refused(at)

@@ -7,15 +7,14 @@ use native.Mathlib.Omega.{arith}
 use lib.ListN.{length, drop, getD}
 use Rattle.command_grammar.specs.LineCharacters.{slash}
 use Rattle.command_grammar.specs.Parsed.{Switch}
-use Rattle.command_grammar.specs.Reader.{is, Res, ok, no, mapped, from, seq, many, oneCharacter, switch, valuesIn}
+use Rattle.command_grammar.specs.Reader.{is, Res, ok, no, mapped, from, seq, second, many, oneCharacter, switch, valuesIn}
 use Rattle.command_grammar.proofs.ReaderParts.{switch-part, switch-first, is-in, afterUic}
 use Rattle.command_grammar.proofs.ReaderPlaces.{from-seq, from-seq-no, from-many-missed, from-many-found, progress}
 use Rattle.command_cursor.specs.CursorAt.{partAt}
 use Rattle.command_cursor.specs.declared.Cursor.{Cursor}
 use Rattle.command_cursor.specs.declared.Part.the-variants as P
-use Rattle.command_cursor.proofs.CursorAtSteps.{one-end, one-here, one-not}
 use Rattle.command_cursor.proofs.CursorAtRuns.{found, missed}
-use Rattle.command_parts.specs.Counted.{valuesOf, countedImage, switchesImage}
+use Rattle.command_parts.specs.Counted.{behindSlash, valuesOf, countedImage, switchesImage}
 use Rattle.command_parts.specs.declared.switch.Counted.the-variants as C
 use Rattle.command_parts.specs.declared.switch.SwitchesRead.the-variants as S
 
@@ -40,23 +39,27 @@ module _ (s : List ℕ) (i k n : ℕ) where
     on : from switches s i ≡ from (seq _∷_ switch switches) s i
     on = let f = found slash s i a h in from-many-found slash switch-part switch-first (is-in slash afterUic refl) s i (f .0) (a .at) (f .1)
 
-    refused-from : (p : ℕ) (r : Res Switch) → from switch s i ≡ r → countedImage valuesOf n r ≡ C.Refused p → S.Refused p ≡ switchesImage k n (from switches s i)
+    begun : from switch s i ≡ mapped (second (found slash s i a h .0)) (from behindSlash s (a .at))
+    unfolding switch behindSlash
+    begun = let f = found slash s i a h in from-seq second (oneCharacter (is slash)) behindSlash s i (f .0) (a .at) (f .1)
+
+    refused-from : (p : ℕ) (r : Res Switch) → from behindSlash s (a .at) ≡ r → countedImage valuesOf n r ≡ C.Refused p → S.Refused p ≡ switchesImage k n (from switches s i)
     unfolding countedImage switchesImage
     refused-from p (ok w j) d c = let z : _≡_ {A = ℕ} 0 1 = cc in absurd (omega arith)
-    refused-from p (no j) d c = let q : p ≡ j = cc in rw (on, from-seq-no _∷_ switch switches s i j d, q)
+    refused-from p (no j) d c = let q : p ≡ j = cc in rw (on, from-seq-no _∷_ switch switches s i j (begun ∙ ap (mapped (second (found slash s i a h .0))) d), q)
 
-    pub switches-refused : (p : ℕ) → countedImage valuesOf n (from switch s i) ≡ C.Refused p → S.Refused p ≡ switchesImage k n (from switches s i)
-    switches-refused p c = refused-from p (from switch s i) refl c
+    pub switches-refused : (p : ℕ) → countedImage valuesOf n (from behindSlash s (a .at)) ≡ C.Refused p → S.Refused p ≡ switchesImage k n (from switches s i)
+    switches-refused p c = refused-from p (from behindSlash s (a .at)) refl c
 
     module _ (more : ℕ) (b : Cursor) where
-      more-from : (r : Res Switch) → from switch s i ≡ r → countedImage valuesOf n r ≡ C.Read more b
+      more-from : (r : Res Switch) → from behindSlash s (a .at) ≡ r → countedImage valuesOf n r ≡ C.Read more b
           → (i < b .at) × (b .at ≤ length s) × (switchesImage (k + 1) more (from switches s (b .at)) ≡ switchesImage k n (from switches s i))
       unfolding countedImage
       more-from (ok w j) d c =
           let e : _≡_ {A = Cursor} (record { at = j }) b = cc in
           let q : j ≡ b .at = ap (λ (x : Cursor). x .at) e in
           let v : n + valuesOf w ≡ more = cc in
-          let g : from switch s i ≡ ok w (b .at) = d ∙ ap (ok w) q in
+          let g : from switch s i ≡ ok w (b .at) = begun ∙ ap (mapped (second (found slash s i a h .0))) d ∙ ap (ok w) q in
           let p = progress slash switch-part switch-first (is-in slash afterUic refl) s i w (b .at) g in (
             p .0,
             p .1,
@@ -64,25 +67,6 @@ module _ (s : List ℕ) (i k n : ℕ) where
           )
       more-from (no j) d c = let z : _≡_ {A = ℕ} 0 1 = cc in absurd (omega arith)
 
-      pub switches-more : countedImage valuesOf n (from switch s i) ≡ C.Read more b
+      pub switches-more : countedImage valuesOf n (from behindSlash s (a .at)) ≡ C.Read more b
           → (i < b .at) × (b .at ≤ length s) × (switchesImage (k + 1) more (from switches s (b .at)) ≡ switchesImage k n (from switches s i))
-      switches-more c = more-from (from switch s i) refl c
-
--- the same, as a look at the character finds it
-module _ (s : List ℕ) (i k n : ℕ) where
-  pub switches-at-end : length s ≤ i → S.Read (record { switches = k; values = n }) (record { at = i }) ≡ switchesImage k n (from switches s i)
-  switches-at-end l = switches-none s i k n (i + 0) (ap (partAt i) (one-end slash s i l))
-
-  pub switches-at-other : i < length s → (getD s i 0 ≡ slash → ⊥) → S.Read (record { switches = k; values = n }) (record { at = i }) ≡ switchesImage k n (from switches s i)
-  switches-at-other l z = switches-none s i k n (i + 0) (ap (partAt i) (one-not slash s i l z))
-
-  module _ (l : i < length s) (h : getD s i 0 ≡ slash) where
-    here : partAt i (oneCharacter (is slash) (drop i s)) ≡ P.Read (record { at = i + 1 })
-    here = ap (partAt i) (one-here slash s i l h)
-
-    pub switches-at-refused : (p : ℕ) → countedImage valuesOf n (from switch s i) ≡ C.Refused p → S.Refused p ≡ switchesImage k n (from switches s i)
-    switches-at-refused p c = switches-refused s i k n (record { at = i + 1 }) here p c
-
-    pub switches-at-more : (more : ℕ) (b : Cursor) → countedImage valuesOf n (from switch s i) ≡ C.Read more b
-        → (i < b .at) × (b .at ≤ length s) × (switchesImage (k + 1) more (from switches s (b .at)) ≡ switchesImage k n (from switches s i))
-    switches-at-more more b c = switches-more s i k n (record { at = i + 1 }) here more b c
+      switches-more c = more-from (from behindSlash s (a .at)) refl c

@@ -15,9 +15,8 @@ use Rattle.command_grammar.proofs.ReaderPlaces.{from-seq, from-seq-no, from-man
 use Rattle.command_cursor.specs.CursorAt.{partAt}
 use Rattle.command_cursor.specs.declared.Cursor.{Cursor}
 use Rattle.command_cursor.specs.declared.Part.the-variants as P
-use Rattle.command_cursor.proofs.CursorAtSteps.{one-end, one-here, one-not}
 use Rattle.command_cursor.proofs.CursorAtRuns.{found, missed, found-place, run-up, run-within, run-read, run-short}
-use Rattle.command_parts.specs.Counted.{valuesOf, countedImage}
+use Rattle.command_parts.specs.Counted.{behindSlash, valuesOf, countedImage}
 use Rattle.command_parts.specs.declared.switch.Counted.the-variants as C
 
 abbrev values : List ℕ → Res (List (List ℕ))
@@ -61,27 +60,6 @@ module _ (s : List ℕ) (i n : ℕ) where
         let o = found-place colon s i a h in
         (omega (arith, o .0, run-up isLetterOrDigit 6 s (a .at) e q), run-within isLetterOrDigit 6 s (a .at) e q (o .1))
 
--- the same, as a look at the character finds it
-module _ (s : List ℕ) (i n : ℕ) where
-  pub values-at-end : length s ≤ i → C.Read n (record { at = i }) ≡ countedImage length n (from values s i)
-  values-at-end l = values-none s i n (i + 0) (ap (partAt i) (one-end colon s i l))
-
-  pub values-at-other : i < length s → (getD s i 0 ≡ colon → ⊥) → C.Read n (record { at = i }) ≡ countedImage length n (from values s i)
-  values-at-other l z = values-none s i n (i + 0) (ap (partAt i) (one-not colon s i l z))
-
-  module _ (l : i < length s) (h : getD s i 0 ≡ colon) (e : ℕ) (q : e ≡ i + 1 + span isLetterOrDigit 6 (drop (i + 1) s)) where
-    here : partAt i (oneCharacter (is colon) (drop i s)) ≡ P.Read (record { at = i + 1 })
-    here = ap (partAt i) (one-here colon s i l h)
-
-    pub values-at-short : e ≡ i + 1 → C.Refused e ≡ countedImage length n (from values s i)
-    values-at-short z = values-short s i n (record { at = i + 1 }) here e q z
-
-    pub values-at-more : (e ≡ i + 1 → ⊥) → countedImage length (n + 1) (from values s e) ≡ countedImage length n (from values s i)
-    values-at-more z = values-more s i n (record { at = i + 1 }) here e q z
-
-    pub values-at-on : (i < e) × (e ≤ length s)
-    values-at-on = values-on s i n (record { at = i + 1 }) here e q
-
 -- a run of at most one letter is one letter, or none
 one-letter : (s : List ℕ) (j m : ℕ) → m ≡ j + span isLetter 1 (drop j s)
     → (m ≡ j → from (oneCharacter isLetter) s j ≡ no m) × ((m ≡ j → ⊥) → (x : ℕ) × (from (oneCharacter isLetter) s j ≡ ok x m))
@@ -101,40 +79,28 @@ one-letter s j m q = go (drop j s) q
 abbrev named : List ℕ → Res (List ℕ)
 named = seq _∷_ (oneCharacter isLetter) (word 0 (span isLetterOrDigit 5))
 
-abbrev body : List ℕ → Res Switch
-body = seq mkSwitch named values
-
-switch-counted : (n x : ℕ) (name : List ℕ) (r : Res (List (List ℕ))) → countedImage length n r ≡ countedImage valuesOf n (mapped (second x) (mapped (mkSwitch name) r))
+switch-counted : (n : ℕ) (name : List ℕ) (r : Res (List (List ℕ))) → countedImage length n r ≡ countedImage valuesOf n (mapped (mkSwitch name) r)
 unfolding countedImage
-switch-counted n x name (ok vs end) = refl
-switch-counted n x name (no place) = refl
+switch-counted n name (ok vs end) = refl
+switch-counted n name (no place) = refl
 
-module _ (s : List ℕ) (i n : ℕ) where
-  pub switch-none : (p : ℕ) → partAt i (oneCharacter (is slash) (drop i s)) ≡ P.Refused p → C.Refused p ≡ countedImage valuesOf n (from switch s i)
-  unfolding countedImage switch
-  switch-none p h = rw (from-seq-no second (oneCharacter (is slash)) body s i p (missed slash s i p h))
+module _ (s : List ℕ) (i n m : ℕ) (q : m ≡ i + span isLetter 1 (drop i s)) where
+  pub switch-short : m ≡ i → C.Refused m ≡ countedImage valuesOf n (from behindSlash s i)
+  unfolding countedImage behindSlash
+  switch-short z =
+      let w : from named s i ≡ no m = from-seq-no _∷_ (oneCharacter isLetter) (word 0 (span isLetterOrDigit 5)) s i m (one-letter s i m q .0 z) in
+      rw (from-seq-no mkSwitch named values s i m w)
 
-  module _ (a : Cursor) (h : partAt i (oneCharacter (is slash) (drop i s)) ≡ P.Read a) (m : ℕ) (q : m ≡ a .at + span isLetter 1 (drop (a .at) s)) where
-    behind : from switch s i ≡ mapped (second (found slash s i a h .0)) (from body s (a .at))
-    unfolding switch
-    behind = let f = found slash s i a h in from-seq second (oneCharacter (is slash)) body s i (f .0) (a .at) (f .1)
+  module _ (e : ℕ) (d : e ≡ m + span isLetterOrDigit 5 (drop m s)) where
+    pub switch-on : (m ≡ i → ⊥) → countedImage length n (from values s e) ≡ countedImage valuesOf n (from behindSlash s i)
+    unfolding behindSlash
+    switch-on z =
+        let x = one-letter s i m q .1 z in
+        let rest = take (e - m) (drop m s) in
+        let v : from named s i ≡ ok (x .0 ∷ rest) e =
+        from-seq _∷_ (oneCharacter isLetter) (word 0 (span isLetterOrDigit 5)) s i (x .0) m (x .1)
+        ∙ ap (mapped (_∷_ (x .0))) (run-read isLetterOrDigit 5 s m e d 0 (omega arith)) in
+        switch-counted n (x .0 ∷ rest) (from values s e) ∙ ap (countedImage valuesOf n) (sym (from-seq mkSwitch named values s i (x .0 ∷ rest) e v))
 
-    pub switch-short : m ≡ a .at → C.Refused m ≡ countedImage valuesOf n (from switch s i)
-    unfolding countedImage
-    switch-short z =
-        let w : from named s (a .at) ≡ no m = from-seq-no _∷_ (oneCharacter isLetter) (word 0 (span isLetterOrDigit 5)) s (a .at) m (one-letter s (a .at) m q .0 z) in
-        rw (behind, from-seq-no mkSwitch named values s (a .at) m w)
-
-    module _ (e : ℕ) (d : e ≡ m + span isLetterOrDigit 5 (drop m s)) where
-      pub switch-on : (m ≡ a .at → ⊥) → countedImage length n (from values s e) ≡ countedImage valuesOf n (from switch s i)
-      switch-on z =
-          let x = one-letter s (a .at) m q .1 z in
-          let rest = take (e - m) (drop m s) in
-          let v : from named s (a .at) ≡ ok (x .0 ∷ rest) e =
-          from-seq _∷_ (oneCharacter isLetter) (word 0 (span isLetterOrDigit 5)) s (a .at) (x .0) m (x .1)
-          ∙ ap (mapped (_∷_ (x .0))) (run-read isLetterOrDigit 5 s m e d 0 (omega arith)) in
-          switch-counted n (found slash s i a h .0) (x .0 ∷ rest) (from values s e)
-          ∙ ap (countedImage valuesOf n) (sym (behind ∙ ap (mapped (second (found slash s i a h .0))) (from-seq mkSwitch named values s (a .at) (x .0 ∷ rest) e v)))
-
-      pub switch-up : i ≤ e
-      switch-up = omega (arith, found-place slash s i a h .0, run-up isLetter 1 s (a .at) m q, run-up isLetterOrDigit 5 s m e d)
+    pub switch-up : i ≤ e
+    switch-up = omega (arith, run-up isLetter 1 s i m q, run-up isLetterOrDigit 5 s m e d)

@@ -4,7 +4,7 @@ ghost use Prim.Native.Nat.{_≤_};
 ghost use lib.ListN.{length};
 ghost use Rattle.command_grammar.specs.LineCharacters.{colon, slash};
 ghost use Rattle.command_grammar.specs.Reader.{is, many, switchValue, switch, from};
-ghost use Rattle.command_parts.specs.Counted.{valuesOf, countedImage, switchesImage, CountWithin};
+ghost use Rattle.command_parts.specs.Counted.{behindSlash, valuesOf, countedImage, switchesImage, CountWithin};
 use command_cursor::Class;
 use command_cursor::Cursor;
 use command_cursor::Part;
@@ -22,44 +22,40 @@ fn read_values(line: &[u8], c: Cursor, n: usize) -> Counted
     ensures { λ r. ⌜ r ≡ countedImage length n (from (many (is colon) switchValue) (now (line .entry)) (c .at)) ⌝ }
     ensures { λ r. ⌜ CountWithin r ⌝ }
 {
-    let mut at = c.at;
+    let mut here = c;
     let mut count = n;
-    while at < line.len() {
-        if line[at] != COLON {
-            return Counted::Read(count, Cursor { at });
+    loop {
+        let colon = here.one(line, COLON);
+        match colon {
+            Part::Refused(_) => return Counted::Read(count, here),
+            Part::Read(start) => {
+                let first = start.at;
+                let characters = start.run(line, Class::LetterOrDigit, 6);
+                let end = characters.at;
+                if end == first {
+                    return Counted::Refused(end);
+                }
+                here = characters;
+                count += 1;
+            }
         }
-        let start = Cursor { at: at + 1 };
-        let characters = start.run(line, Class::LetterOrDigit, 6);
-        let end = characters.at;
-        if end == at + 1 {
-            return Counted::Refused(end);
-        }
-        at = end;
-        count += 1;
     }
-    Counted::Read(count, Cursor { at })
 }
 
-// A switch, behind n values of others: how many values there are then.
+// The switch whose name stands at the cursor, behind n values of others: how many values there are then.
 fn read_switch(line: &[u8], c: Cursor, n: usize) -> Counted
     requires { ⌜ n ≤ c .at ⌝ }
-    ensures { λ r. ⌜ r ≡ countedImage valuesOf n (from switch (now (line .entry)) (c .at)) ⌝ }
+    ensures { λ r. ⌜ r ≡ countedImage valuesOf n (from behindSlash (now (line .entry)) (c .at)) ⌝ }
     ensures { λ r. ⌜ CountWithin r ⌝ }
 {
-    let p = c.one(line, SLASH);
-    match p {
-        Part::Refused(place) => Counted::Refused(place),
-        Part::Read(a) => {
-            let start = a.at;
-            let letter = a.run(line, Class::Letter, 1);
-            let middle = letter.at;
-            if middle == start {
-                return Counted::Refused(middle);
-            }
-            let name = letter.run(line, Class::LetterOrDigit, 5);
-            read_values(line, name, n)
-        }
+    let start = c.at;
+    let letter = c.run(line, Class::Letter, 1);
+    let middle = letter.at;
+    if middle == start {
+        return Counted::Refused(middle);
     }
+    let name = letter.run(line, Class::LetterOrDigit, 5);
+    read_values(line, name, n)
 }
 
 pub struct Counts {
@@ -77,34 +73,32 @@ pub fn read_switches(line: &[u8], c: Cursor, switches: usize, values: usize) -> 
     requires { ⌜ (switches ≤ c .at) × (values ≤ c .at) ⌝ }
     ensures { λ r. ⌜ r ≡ switchesImage switches values (from (many (is slash) switch) (now (line .entry)) (c .at)) ⌝ }
 {
-    let mut at = c.at;
+    let mut here = c;
     let mut number = switches;
     let mut total = values;
-    while at < line.len() {
-        if line[at] != SLASH {
-            return SwitchesRead::Read(
-                Counts {
-                    switches: number,
-                    values: total,
-                },
-                Cursor { at },
-            );
-        }
-        let w = read_switch(line, Cursor { at }, total);
-        match w {
-            Counted::Refused(place) => return SwitchesRead::Refused(place),
-            Counted::Read(more, next) => {
-                at = next.at;
-                total = more;
-                number += 1;
+    loop {
+        let slash = here.one(line, SLASH);
+        match slash {
+            Part::Refused(_) => {
+                return SwitchesRead::Read(
+                    Counts {
+                        switches: number,
+                        values: total,
+                    },
+                    here,
+                );
+            }
+            Part::Read(start) => {
+                let w = read_switch(line, start, total);
+                match w {
+                    Counted::Refused(place) => return SwitchesRead::Refused(place),
+                    Counted::Read(more, next) => {
+                        here = next;
+                        total = more;
+                        number += 1;
+                    }
+                }
             }
         }
     }
-    SwitchesRead::Read(
-        Counts {
-            switches: number,
-            values: total,
-        },
-        Cursor { at },
-    )
 }

@@ -8,9 +8,8 @@ use native.Mathlib.Omega.{arith}
 use native.Mathlib.Decide.{decLt}
 use lib.ListN.{length, getD, length-replicate, getD-replicate, List·getD-eq-default}
 use Rattle.pack.specs.declared.Geometry.{Geometry}
-use Rattle.pack.specs.Form.{mostBlocks}
+use Rattle.pack.specs.GeometrySized.{mostBlocks, Sized}
 use Rattle.pack.specs.Geometry.{geometryOf, slots}
-use Rattle.pack.specs.GeometrySized.{Sized}
 use Rattle.pack.specs.HeaderTest.{headerTest}
 use Rattle.pack.specs.Entry.{entryWord, entryOf, Empty, RightEntry}
 use Rattle.pack.specs.Key.{keyIn, SameKey}

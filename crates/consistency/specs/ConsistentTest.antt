@@ -4,7 +4,7 @@ use mathlib.Core.Bool.{Bool, true, cond, _&&_}
 use mathlib.Core.List.{List}
 use lib.ListN.{replicate}
 use Rattle.pack.specs.declared.Geometry.{Geometry}
-use Rattle.pack.specs.Form.{mostBlocks}
+use Rattle.pack.specs.GeometrySized.{mostBlocks}
 use Rattle.pack.specs.Geometry.{geometryOf, slots}
 use Rattle.pack.specs.HeaderTest.{headerTest}
 use Rattle.pack.specs.Entry.{blocksAt}

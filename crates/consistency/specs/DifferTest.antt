@@ -4,7 +4,8 @@ use mathlib.Core.Bool.{Bool, true, cond, not, _&&_}
 use mathlib.Core.List.{List}
 use lib.Dec.{eqb}
 use Rattle.pack.specs.declared.Geometry.{Geometry}
-use Rattle.pack.specs.Key.{keyIn, sameKey}
+use Rattle.pack.specs.KeyTest.{sameKey}
+use Rattle.pack.specs.Key.{keyIn}
 use Rattle.pack.specs.Entry.{entryWord, entryOf}
 
 -- two entries have the same name, extension and UIC

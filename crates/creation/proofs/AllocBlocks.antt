@@ -6,7 +6,7 @@ use native.Mathlib.Decide.{ℕ-discrete, decLe}
 use native.Mathlib.Nat.{div-add-mod', div-eq-of-lt-le, mod-lt, mul-le-mul-right, mul-le-mul-left}
 use borrow.Author.Tests.{lt-ltb, le-ltb}
 use Rattle.pack.specs.declared.Geometry.{Geometry}
-use Rattle.creation.specs.Alloc.{blocksFor}
+use Rattle.creation.specs.Rounding.{blocksFor}
 
 -- products of a count of blocks
 one-less : (count size : ℕ) → 0 < count → (count - 1) * size + size ≡ count * size

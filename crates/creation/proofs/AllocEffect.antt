@@ -26,8 +26,11 @@ use Rattle.frame.proofs.FramedCompose.{kept-same}
 use Rattle.frame.proofs.UntouchedFramed.{untouched-refl}
 use Rattle.asking.proofs.Outcome.{code-is, success-image, success-numbers, refusal-keeps, image-by}
 use Rattle.asking.specs.Outcome.{Unchanged}
-use Rattle.creation.specs.Creating.{creatingRows, created, LowestEmpty, newFile, entryFor}
-use Rattle.creation.specs.Alloc.{lengthFor, startFor, allocRows, alloc, extentFrom}
+use Rattle.creation.specs.CreatingRows.{creatingRows}
+use Rattle.creation.specs.Creating.{created, LowestEmpty, newFile, entryFor}
+use Rattle.creation.specs.AllocRows.{allocRows}
+use Rattle.creation.specs.Rounding.{lengthFor}
+use Rattle.creation.specs.Alloc.{startFor, alloc, extentFrom}
 use Rattle.room.specs.RoomTest.{highestRun}
 use Rattle.room.specs.Room.{FreeRun, HighestRun}
 use Rattle.room.proofs.RoomHighest.{run-none}

@@ -15,9 +15,8 @@ use Rattle.answers.proofs.Refusals.{behind-refused, behind-clear, success-is, r
 use Rattle.pack.specs.declared.Geometry.{Geometry}
 use Rattle.pack.specs.declared.BlockNo.{BlockNo}
 use Rattle.pack.specs.declared.Key.{Key}
-use Rattle.pack.specs.Form.{mostBlocks}
+use Rattle.pack.specs.GeometrySized.{mostBlocks, Sized}
 use Rattle.pack.specs.Geometry.{geometryOf, slots}
-use Rattle.pack.specs.GeometrySized.{Sized}
 use Rattle.asking.proofs.Outcome.{done-answer, refused-answer}
 use Rattle.room.specs.declared.Blocks.{Blocks}
 use Rattle.room.specs.RoomTest.{highestRun}
@@ -25,8 +24,11 @@ use Rattle.room.specs.Room.{HighestRun}
 use Rattle.room.proofs.RoomHighest.{run-highest, run-inside}
 use Rattle.pack.specs.EntryWords.{wordsOf, setEntryWords}
 use Rattle.pack.specs.EntryFields.{WordFields}
-use Rattle.creation.specs.Creating.{creatingRows, newFile, entryFor}
-use Rattle.creation.specs.Alloc.{blocksFor, lengthFor, startFor, allocRows, alloc, extentFrom}
+use Rattle.creation.specs.CreatingRows.{creatingRows}
+use Rattle.creation.specs.Creating.{newFile, entryFor}
+use Rattle.creation.specs.AllocRows.{allocRows}
+use Rattle.creation.specs.Rounding.{blocksFor, lengthFor}
+use Rattle.creation.specs.Alloc.{startFor, alloc, extentFrom}
 use Rattle.creation.specs.AllocStage.{allocatingOf}
 use Rattle.creation.specs.declared.alloc.Allocating.{Allocating}
 use Rattle.creation.specs.declared.alloc.Allocating.the-variants.{Extent, Refused}

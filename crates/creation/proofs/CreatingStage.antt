@@ -3,7 +3,7 @@ use Prim.Native.Nat.{ℕ, _≤_, _<_}
 use mathlib.Core.Path.{_≡_, refl, sym, ap, _∙_}
 use mathlib.Core.Bool.{Bool, true, false, not}
 use mathlib.Core.List.{List}
-use mathlib.Core.Option.{none, some}
+use mathlib.Core.Option.{Option, none}
 use native.Mathlib.Omega.{arith}
 use native.Mathlib.Decide.{ℕ-discrete}
 use lib.Dec.{eqb, ltb}
@@ -14,20 +14,27 @@ use Rattle.answers.proofs.Refusals.{none-given, coded, success-is, refusal-is}
 use Rattle.answers.proofs.Missing.{present, absent}
 use Rattle.pack.specs.declared.Geometry.{Geometry}
 use Rattle.pack.specs.declared.Key.{Key}
-use Rattle.pack.specs.Geometry.{geometryOf}
+use Rattle.pack.specs.Geometry.{geometryOf, slots}
 use Rattle.pack.specs.GeometrySized.{Sized}
 use Rattle.pack.specs.Consistent.{Consistent}
 use Rattle.pack.specs.HeaderTest.{listed}
 use Rattle.pack.proofs.HeaderRules.{header-sized}
-use Rattle.consistency.specs.ConsistentTest.{consistent}
-use Rattle.consistency.proofs.ConsistentTestIff.{consistent-iff}
-use Rattle.asking.specs.KeysTest.{legalKey, found}
-use Rattle.creation.specs.CreatingLowest.{lowestEmpty}
-use Rattle.creation.specs.Creating.{creatingRows, LowestEmpty, entryFor}
+use Rattle.consistency.specs.declared.Opened.the-variants.{Good}
+use Rattle.consistency.specs.ConsistentTest.{consistent, openedOf}
+use Rattle.consistency.proofs.ConsistentTestIff.{consistent-iff, opened-good}
+use Rattle.consistency.proofs.ConsistentTestOpened.{consistent-good}
+use Rattle.asking.specs.declared.Found.{Found}
+use Rattle.asking.specs.declared.Found.the-variants as F
+use Rattle.asking.specs.KeysTest.{legalKey, found, findFrom}
+use Rattle.asking.specs.AskedStage.{foundIn}
+use Rattle.asking.proofs.AskedStage.{found-at}
+use Rattle.creation.specs.CreatingLowest.{lowestEmpty, emptyFrom}
+use Rattle.creation.specs.CreatingRows.{creatingRows}
+use Rattle.creation.specs.Creating.{LowestEmpty, entryFor}
 use Rattle.creation.specs.CreatingStage.{creatingOf}
 use Rattle.creation.specs.declared.creating.Creating.{Creating}
 use Rattle.creation.specs.declared.creating.Creating.the-variants.{At, Refused}
-use Rattle.creation.proofs.CreatingLowest.{empty-lowest}
+use Rattle.creation.proofs.CreatingLowest.{empty-lowest, lowest-at}
 
 module _ (img : List ℕ) (key : Key) (caller protect : ℕ) (wrong : Bool) where
   -- 40, 15, 41, 13, 2, 6 and 12 stand in the order of the table
@@ -44,7 +51,10 @@ module _ (img : List ℕ) (key : Key) (caller protect : ℕ) (wrong : Bool) wher
   unfolding creatingOf creatingRows firstOf onSuccess
   creating-40 h = rw h
 
-  module _ (c : consistent img ≡ true) where
+  module _ {g : Geometry} (good : openedOf img ≡ Good g) where
+    c : consistent img ≡ true
+    c = sym (consistent-good img (openedOf img) g refl good)
+
     pub creating-15 : legalKey key ≡ false → Refused 0o15 ≡ creatingOf img key caller protect wrong
     unfolding creatingOf creatingRows firstOf onSuccess
     creating-15 h = rw (c, h)
@@ -64,25 +74,35 @@ module _ (img : List ℕ) (key : Key) (caller protect : ℕ) (wrong : Bool) wher
           unfolding creatingOf creatingRows firstOf onSuccess
           creating-13 h = rw (c, l, w, le-ltb 255 protect p, h)
 
-          module _ (u : listed img (key .uic) ≡ true) where
-            pub creating-2 : (e : ℕ) → found img key ≡ some e → Refused 0o2 ≡ creatingOf img key caller protect wrong
-            unfolding creatingOf creatingRows firstOf onSuccess
-            creating-2 e h = rw (c, l, w, le-ltb 255 protect p, u, h)
+          module _ (u : listed img (key .uic) ≡ true) (r : Found) (sought : foundIn r ≡ findFrom img g key 0 (slots g)) where
+            there : {o : Option ℕ} → foundIn r ≡ o → found img key ≡ o
+            there {o} is = found-at img key g o (opened-good img g good .1) (sym is ∙ sought)
 
-            module _ (f : found img key ≡ none) where
+            pub creating-2 : {e : ℕ} → r ≡ F.At e → Refused 0o2 ≡ creatingOf img key caller protect wrong
+            unfolding creatingOf creatingRows firstOf onSuccess
+            creating-2 is = rw (c, l, w, le-ltb 255 protect p, u, there (ap foundIn is))
+
+            module _ (nothing : r ≡ F.Nothing) where
+              f : found img key ≡ none
+              f = there (ap foundIn nothing)
+
               pub creating-6 : (key .uic ≡ caller → ⊥) → Refused 0o6 ≡ creatingOf img key caller protect wrong
               unfolding creatingOf creatingRows firstOf onSuccess
               creating-6 h = rw (c, l, w, le-ltb 255 protect p, u, f, ne-eqb (key .uic) caller h)
 
-              module _ (o : key .uic ≡ caller) where
-                pub creating-12 : lowestEmpty img ≡ none → Refused 0o12 ≡ creatingOf img key caller protect wrong
-                unfolding creatingOf creatingRows firstOf onSuccess
-                creating-12 h = rw (c, l, w, le-ltb 255 protect p, u, f, eq-eqb (key .uic) caller o, h)
+              module _ (o : key .uic ≡ caller) (s : Found) (empty : foundIn s ≡ emptyFrom img g 0 (slots g)) where
+                lowest : {e : Option ℕ} → foundIn s ≡ e → lowestEmpty img ≡ e
+                lowest {e} is = lowest-at img g e (opened-good img g good .1) (sym is ∙ empty)
 
-                pub creating-at : (g : Geometry) (e : ℕ) → geometryOf img ≡ g → lowestEmpty img ≡ some e → At g e ≡ creatingOf img key caller protect wrong
+                pub creating-12 : s ≡ F.Nothing → Refused 0o12 ≡ creatingOf img key caller protect wrong
                 unfolding creatingOf creatingRows firstOf onSuccess
-                creating-at g e measures h =
-                    rw (c, l, w, le-ltb 255 protect p, u, f, eq-eqb (key .uic) caller o, h) (ap (λ (x : Geometry). At x e) (sym measures))
+                creating-12 is = rw (c, l, w, le-ltb 255 protect p, u, f, eq-eqb (key .uic) caller o, lowest (ap foundIn is))
+
+                pub creating-at : {e : ℕ} → s ≡ F.At e → At g e ≡ creatingOf img key caller protect wrong
+                unfolding creatingOf creatingRows firstOf onSuccess
+                creating-at {e} is =
+                    rw (c, l, w, le-ltb 255 protect p, u, f, eq-eqb (key .uic) caller o, lowest (ap foundIn is))
+                    (ap (λ (x : Geometry). At x e) (sym (opened-good img g good .1)))
 
   -- what there is where nothing speaks against the new file
   pub record Creatable : Type 0 where

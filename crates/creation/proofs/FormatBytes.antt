@@ -7,7 +7,8 @@ use lib.ListN.{length, drop, replicate, length-append, length-drop, length-repli
 use lib.Seq.{drop-at}
 use Rattle.words.specs.Word.{wordAt, bytesOf}
 use Rattle.words.proofs.WordSlices.{word-before, word-behind, word-cleared}
-use Rattle.creation.specs.Format.{uicsIn, Formattable, systemBytes, formatted}
+use Rattle.creation.specs.Formattable.{uicsIn, Formattable}
+use Rattle.creation.specs.Format.{systemBytes, formatted}
 use Rattle.creation.proofs.FormatMeasures.{system-room, uics-whole, header-inside}
 
 module _ (image : List ℕ) (form blocks contents : ℕ) (uics : List ℕ) where

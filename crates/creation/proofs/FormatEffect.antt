@@ -26,7 +26,9 @@ use Rattle.pack.proofs.ConsistentTotal.{total-same, total-each}
 use Rattle.owners.proofs.EntryBlocks.{empty-reaches}
 use Rattle.owners.proofs.OneOwner.{owner-free, owner-system}
 use Rattle.pack.proofs.HeaderTestMeasures.{is-measured}
-use Rattle.creation.specs.Format.{uicsIn, Formattable, formatTest, systemBytes, formatted}
+use Rattle.creation.specs.FormatRows.{formatTest}
+use Rattle.creation.specs.Formattable.{uicsIn, Formattable}
+use Rattle.creation.specs.Format.{systemBytes, formatted}
 use Rattle.creation.proofs.FormatMeasures.{uics-whole, header-room}
 use Rattle.creation.proofs.FormatBytes.{formatted-length, formatted-bodies, word-form, word-blocks, word-contents, word-count, word-uic, word-rest}
 use Rattle.creation.proofs.FormatRows.{test-formattable}

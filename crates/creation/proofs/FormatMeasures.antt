@@ -8,7 +8,8 @@ use Rattle.pack.specs.Form.{segmentsOf, bodiesOf}
 use Rattle.pack.specs.Geometry.{segmentBytes}
 use Rattle.pack.proofs.FormBounds.{segments-few, blocks-most, contents-before, uics-fit}
 use Rattle.pack.proofs.GeometryRoom.{block-room}
-use Rattle.creation.specs.Format.{uicsIn, Formattable, systemBytes}
+use Rattle.creation.specs.Formattable.{uicsIn, Formattable}
+use Rattle.creation.specs.Format.{systemBytes}
 
 -- the bytes before the bodies, from the numbers as they were read
 pub system-is : {bodies segments bytes : ℕ} (form contents : ℕ) → bodies ≡ bodiesOf form contents → segments ≡ segmentsOf form → bytes ≡ segmentBytes segments

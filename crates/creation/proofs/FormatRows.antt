@@ -16,7 +16,9 @@ use Rattle.pack.proofs.HeaderTestMeasures.{measured-is, is-measured}
 use Rattle.pack.proofs.HeaderTestWords.{distinct-is, is-distinct}
 use Rattle.asking.specs.Outcome.{Outcome, Unchanged}
 use Rattle.asking.proofs.Outcome.{settled-refused, settled-success, refusal-keeps}
-use Rattle.creation.specs.Format.{uicsIn, Formattable, formatTest, systemBytes, formatted, formatRows, format}
+use Rattle.creation.specs.FormatRows.{formatTest, formatRows}
+use Rattle.creation.specs.Formattable.{uicsIn, Formattable}
+use Rattle.creation.specs.Format.{systemBytes, formatted, format}
 use Rattle.creation.specs.FormatSteps.{headed}
 use Rattle.creation.proofs.FormatMeasures.{header-inside}
 use Rattle.creation.proofs.FormatSteps.{formatted-is}

@@ -8,7 +8,8 @@ use lib.Seq.{length-take-le, sets-eq, drop-append-add, drop-drop, drop-at}
 use borrow.Rule.Slice.PartMut.{putMid}
 use Rattle.words.specs.Word.{setWord, bytesOf}
 use Rattle.words.proofs.WordSlices.{part-back}
-use Rattle.creation.specs.Format.{uicsIn, systemBytes, formatted}
+use Rattle.creation.specs.Formattable.{uicsIn}
+use Rattle.creation.specs.Format.{systemBytes, formatted}
 use Rattle.creation.specs.FormatSteps.{headed}
 
 pub cleared-is : (image part : List ℕ) (end system : ℕ) → end ≡ system → system ≤ length image → part ≡ replicate (length (take end image)) 0

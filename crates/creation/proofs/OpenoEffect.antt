@@ -18,7 +18,8 @@ use Rattle.frame.proofs.UntouchedFramed.{untouched-refl}
 use Rattle.asking.proofs.Outcome.{code-is, success-image, refusal-keeps, image-by}
 use Rattle.asking.specs.Outcome.{Unchanged}
 use Rattle.creation.specs.Creating.{created, LowestEmpty, newFile, entryFor}
-use Rattle.creation.specs.Openo.{openoRows, openo, emptyOutput}
+use Rattle.creation.specs.OpenoRows.{openoRows}
+use Rattle.creation.specs.Openo.{openo, emptyOutput}
 use Rattle.creation.proofs.CreatingStage.{Creatable, creatable}
 use Rattle.creation.proofs.CreatingEffect.{entered, entered-entry, entered-untouched, entered-consistent, entered-others}
 

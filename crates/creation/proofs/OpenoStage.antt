@@ -15,7 +15,8 @@ use Rattle.pack.specs.EntryWords.{wordsOf, setEntryWords}
 use Rattle.pack.specs.EntryFields.{WordFields}
 use Rattle.creation.specs.Creating.{newFile}
 use Rattle.creation.specs.CreatingStage.{creatingOf}
-use Rattle.creation.specs.Openo.{openoRows, openo, emptyOutput}
+use Rattle.creation.specs.OpenoRows.{openoRows}
+use Rattle.creation.specs.Openo.{openo, emptyOutput}
 use Rattle.creation.specs.declared.creating.Creating.{Creating}
 use Rattle.creation.specs.declared.creating.Creating.the-variants.{At, Refused}
 use Rattle.creation.proofs.CreatingStage.{creating-ordered, creatable, allowed, forbidden}

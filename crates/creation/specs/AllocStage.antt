@@ -5,7 +5,9 @@ use Rattle.answers.specs.Refusals.{firstOf, onSuccess}
 use Rattle.pack.specs.declared.Key.{Key}
 use Rattle.pack.specs.Geometry.{geometryOf}
 use Rattle.creation.specs.Creating.{entryFor}
-use Rattle.creation.specs.Alloc.{lengthFor, startFor, allocRows}
+use Rattle.creation.specs.AllocRows.{allocRows}
+use Rattle.creation.specs.Rounding.{lengthFor}
+use Rattle.creation.specs.Alloc.{startFor}
 use Rattle.creation.specs.declared.alloc.Allocating.{Allocating}
 use Rattle.creation.specs.declared.alloc.Allocating.the-variants.{Extent, Refused}
 

@@ -5,7 +5,8 @@ use mathlib.Core.List.{List}
 use Rattle.answers.specs.Refusals.{firstOf, onSuccess}
 use Rattle.pack.specs.declared.Key.{Key}
 use Rattle.pack.specs.Geometry.{geometryOf}
-use Rattle.creation.specs.Creating.{entryFor, creatingRows}
+use Rattle.creation.specs.CreatingRows.{creatingRows}
+use Rattle.creation.specs.Creating.{entryFor}
 use Rattle.creation.specs.declared.creating.Creating.{Creating}
 use Rattle.creation.specs.declared.creating.Creating.the-variants.{At, Refused}
 

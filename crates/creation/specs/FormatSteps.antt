@@ -2,7 +2,7 @@
 use Prim.Native.Nat.{ℕ, _+_}
 use mathlib.Core.List.{List, _++_}
 use lib.ListN.{length, drop}
-use Rattle.creation.specs.Format.{uicsIn}
+use Rattle.creation.specs.Formattable.{uicsIn}
 use Rattle.words.specs.Word.{bytesOf}
 
 -- words 0 to 3 and the UICs, and nothing behind them

@@ -1,16 +1,11 @@
 -- OPENO: a new linked file without a block, open for output.
 use Prim.Native.Nat.{ℕ}
-use mathlib.Core.Bool.{false}
 use mathlib.Core.List.{List, []}
-use Rattle.answers.specs.Refusals.{Row}
 use Rattle.pack.specs.declared.Key.{Key}
 use Rattle.asking.specs.Outcome.{Outcome, settled}
 use Rattle.creation.specs.declared.creating.Shape.{Shape}
-use Rattle.creation.specs.Creating.{creatingRows, newFile, created}
-
--- what speaks against any new file, and no more
-abbrev pub openoRows : List ℕ → Key → ℕ → ℕ → List Row
-openoRows img key caller protect = creatingRows img key caller protect false
+use Rattle.creation.specs.Creating.{newFile, created}
+use Rattle.creation.specs.OpenoRows.{openoRows}
 
 -- "a new linked file of length 0, writer 2, readers 0."
 abbrev pub emptyOutput : Shape

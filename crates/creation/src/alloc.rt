@@ -2,7 +2,8 @@
 ghost use mathlib.Core.Path.{_≡_};
 ghost use mathlib.Core.List.{[], _∷_};
 ghost use Prim.Native.Nat.{_<_};
-ghost use Rattle.creation.specs.Alloc.{blocksFor, alloc};
+ghost use Rattle.creation.specs.Rounding.{blocksFor};
+ghost use Rattle.creation.specs.Alloc.{alloc};
 ghost use Rattle.creation.specs.AllocStage.{allocatingOf};
 use crate::creating::Creating;
 use crate::creating::Shape;

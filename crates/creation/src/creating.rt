@@ -3,12 +3,12 @@ ghost use mathlib.Core.Path.{_≡_};
 ghost use mathlib.Core.Bool.{true};
 ghost use Prim.Native.Nat.{ℕ, _<_};
 ghost use lib.ListN.{getD, replicate};
-ghost use Rattle.pack.specs.Form.{mostBlocks};
-ghost use Rattle.pack.specs.GeometrySized.{Sized};
+ghost use Rattle.pack.specs.GeometrySized.{mostBlocks, Sized};
 ghost use Rattle.pack.specs.Geometry.{slots};
 ghost use Rattle.pack.specs.Entry.{RightEntry};
 ghost use Rattle.pack.specs.Consistent.{held};
-ghost use Rattle.consistency.specs.ConsistentTest.{consistent};
+ghost use Rattle.consistency.specs.declared.Opened.the-variants.{Good};
+ghost use Rattle.consistency.specs.ConsistentTest.{consistent, openedOf};
 ghost use Rattle.asking.specs.AskedStage.{foundIn};
 ghost use Rattle.pack.specs.EntryWords.{wordsOf, setEntryWords};
 ghost use Rattle.pack.specs.EntryFields.{WordFields};
@@ -53,6 +53,21 @@ pub fn decide_creating(
     let Opened::Good(g) = consistency::open_pack(img, map) else {
         return Creating::Refused(0o40);
     };
+    choose_entry(img, g, key, caller, protect, wrong)
+}
+
+// Of a consistent image: what else can refuse, in the order of the table, and the entry of the new file where nothing does.
+fn choose_entry(
+    img: &[u8],
+    g: Geometry,
+    key: Key,
+    caller: usize,
+    protect: usize,
+    wrong: bool,
+) -> Creating
+    requires { ⌜ openedOf (now img) ≡ Good g ⌝ }
+    ensures { λ r. ⌜ r ≡ creatingOf (now (img .entry)) key caller protect wrong ⌝ }
+{
     if !asking::is_legal(key) {
         return Creating::Refused(0o15);
     }

@@ -4,7 +4,9 @@ ghost use mathlib.Core.List.{_++_};
 ghost use Prim.Native.Nat.{_≤_};
 ghost use lib.ListN.{length, drop, replicate};
 ghost use Rattle.pack.specs.Form.{mostContentsOf};
-ghost use Rattle.creation.specs.Format.{Formattable, formatTest, systemBytes, format};
+ghost use Rattle.creation.specs.FormatRows.{formatTest};
+ghost use Rattle.creation.specs.Formattable.{Formattable};
+ghost use Rattle.creation.specs.Format.{systemBytes, format};
 ghost use Rattle.creation.specs.FormatSteps.{headed};
 
 pub fn format(image: &mut [u8], form: usize, blocks: usize, contents: usize, uics: &[u8]) -> usize

@@ -1,10 +1,12 @@
 -- The words of an entry written one after another: how the code's writes go together, and what is read afterwards.
-use Prim.Native.Nat.{ℕ, suc, _+_, _*_, _-_, _≤_, _<_}
+use Prim.Native.Nat.{ℕ, zero, suc, _+_, _*_, _-_, _≤_, _<_}
 use mathlib.Core.Path.{_≡_, refl, sym, ap, _∙_}
 use mathlib.Core.List.{List, [], _∷_}
 use native.Mathlib.Omega.{arith}
 use native.Mathlib.Decide.{ℕ-discrete}
-use lib.ListN.{length, getD, replicate, getD-replicate}
+use native.Mathlib.Numerals.{add-one}
+use lib.ListN.{length, getD, drop, replicate, getD-replicate, drop-of-length-le}
+use lib.Seq.{drop-cons}
 use Rattle.words.specs.Word.{setWord}
 use Rattle.words.proofs.Word.{length-setWord, word-set-same, word-set-other}
 use Rattle.pack.specs.declared.Geometry.{Geometry}
@@ -12,6 +14,7 @@ use Rattle.pack.specs.declared.Entry.{Entry}
 use Rattle.pack.specs.Geometry.{blockWords, slots, entryAt}
 use Rattle.pack.specs.GeometrySized.{Sized}
 use Rattle.pack.specs.Entry.{entryWord, entryOf, Empty}
+use Rattle.pack.specs.EntryFields.{WordFields, Words, end, _then_, SixteenWords}
 use Rattle.pack.specs.EntryWords.{setEntryWord, setEntryWords, clearEntry, wordsOf}
 use Rattle.pack.proofs.GeometryRoom.{entry-room, sized-same}
 use Rattle.pack.proofs.EntryRead.{entry-is}
@@ -31,25 +34,39 @@ pub set-at : (img img′ : List ℕ) (g : Geometry) (e i word : ℕ) {words : �
     → img′ ≡ setEntryWord img g e i word
 set-at img img′ g e i word size is = rw size at is
 
--- four words one by one, and four times four
-pub four-written : (img img₁ img₂ img₃ img₄ : List ℕ) (g : Geometry) (e i first second third fourth : ℕ)
-    → img₁ ≡ setEntryWord img g e i first → img₂ ≡ setEntryWord img₁ g e (i + 1) second
-    → img₃ ≡ setEntryWord img₂ g e (i + 2) third → img₄ ≡ setEntryWord img₃ g e (i + 3) fourth
-    → img₄ ≡ setEntryWords img g e i (first ∷ (second ∷ (third ∷ (fourth ∷ []))))
+-- words one after another: what is left to write
+pub words-step : (img : List ℕ) (g : Geometry) (e i : ℕ) (words : List ℕ) → i < length words → (img′ : List ℕ) → img′ ≡ setEntryWord img g e i (getD words i 0)
+    → setEntryWords img g e i (drop i words) ≡ setEntryWords img′ g e (i + 1) (drop (i + 1) words)
 unfolding setEntryWords
-four-written img img₁ img₂ img₃ img₄ g e i first second third fourth is₁ is₂ is₃ is₄ =
-    let two : i + 1 + 1 ≡ i + 2 = omega arith in
-    let three : i + 1 + 1 + 1 ≡ i + 3 = omega arith in
-    cc
+words-step img g e i words inside img′ is =
+    rw (drop-cons words i 0 inside, is)
+    (ap (λ (k : ℕ). setEntryWords (setEntryWord img g e i (getD words i 0)) g e (i + 1) (drop k words)) (sym (add-one i)))
 
-pub entry-written : (img img₁ img₂ img₃ img₄ : List ℕ) (g : Geometry) (e : ℕ) (x : Entry)
-    → img₁ ≡ setEntryWords img g e 0 (x .name1 ∷ (x .name2 ∷ (x .extension ∷ (x .uic ∷ []))))
-    → img₂ ≡ setEntryWords img₁ g e 4 (x .protect ∷ (x .kind ∷ (x .first .0 ∷ (x .length ∷ []))))
-    → img₃ ≡ setEntryWords img₂ g e 8 (x .last .0 ∷ (x .writer ∷ (x .readers ∷ (0 ∷ []))))
-    → img₄ ≡ setEntryWords img₃ g e 12 (0 ∷ (0 ∷ (0 ∷ (0 ∷ []))))
-    → img₄ ≡ setEntryWords img g e 0 (wordsOf x)
+pub words-end : (img : List ℕ) (g : Geometry) (e i : ℕ) (words : List ℕ) → length words ≤ i → setEntryWords img g e i (drop i words) ≡ img
 unfolding setEntryWords
-entry-written img img₁ img₂ img₃ img₄ g e x is₁ is₂ is₃ is₄ = is₄ ∙ rw (is₃, is₂, is₁)
+words-end img g e i words all = rw (drop-of-length-le words all)
+
+pub word-small : {words : List ℕ} → Words words → (i : ℕ) → getD words i 0 < 65536
+word-small end i = omega arith
+word-small (small then more) zero = small
+word-small (small then more) (suc i) = word-small more i
+
+-- the words of an empty entry, and of one in use
+zero-words : (count : ℕ) → Words (replicate count 0)
+zero-words zero = end
+zero-words (suc count) = let small : 0 < 65536 = omega arith in small then zero-words count
+
+pub sixteen-zeros : SixteenWords (replicate 16 0)
+sixteen-zeros = record { long = refl; small = zero-words 16 }
+
+pub sixteen-of : {x : Entry} → WordFields x → SixteenWords (wordsOf x)
+sixteen-of f =
+    record {
+      long = refl;
+      small =
+          f .name1 then f .name2 then f .extension then f .uic then f .protect then f .kind
+          then f .first then f .length then f .last then f .writer then f .readers then zero-words 5;
+    }
 
 -- words before those written are as they were
 words-before : (words img : List ℕ) (g : Geometry) (e i j : ℕ) → j < i → entryWord (setEntryWords img g e i words) g e j ≡ entryWord img g e j
@@ -102,18 +119,7 @@ module _ (img : List ℕ) (g : Geometry) (e : ℕ) (x : Entry) (sized : Sized im
       (sym (written-word 6 (omega arith))) (sym (written-word 7 (omega arith))) (sym (written-word 8 (omega arith)))
       (sym (written-word 9 (omega arith))) (sym (written-word 10 (omega arith))))
 
--- clearing, step by step: what is left to clear
-pub clear-step : (img : List ℕ) (g : Geometry) (e i t : ℕ) → i < t → (img′ : List ℕ) → img′ ≡ setEntryWord img g e i 0
-    → setEntryWords img g e i (replicate (t - i) 0) ≡ setEntryWords img′ g e (i + 1) (replicate (t - (i + 1)) 0)
-unfolding setEntryWords
-clear-step img g e i t less img′ is =
-    let left : t - i ≡ suc (t - (i + 1)) = omega arith in
-    ap (λ (k : ℕ). setEntryWords img g e i (replicate k 0)) left ∙ rw is
-
-pub clear-end : (img : List ℕ) (g : Geometry) (e i k : ℕ) → k ≡ 0 → setEntryWords img g e i (replicate k 0) ≡ img
-unfolding setEntryWords
-clear-end img g e i k none = ap (λ (n : ℕ). setEntryWords img g e i (replicate n 0)) none
-
+-- a cleared entry is empty
 pub clear-empty : (g : Geometry) (y : ℕ) (img : List ℕ) → Sized img g → y < slots g → Empty (clearEntry img g y) g y
 clear-empty g y img sized within =
     record {

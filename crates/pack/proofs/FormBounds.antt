@@ -5,7 +5,8 @@ use mathlib.Core.Path.{_≡_, refl, ap}
 use native.Mathlib.Omega.{arith}
 use lib.Dec.{eqb}
 use borrow.Author.Tests.{eqb-true}
-use Rattle.pack.specs.Form.{segmentsOf, mostBlocksOf, mostContentsOf, mostUicsOf, bodiesOf, mostBlocks, mostSegments, mostContents}
+use Rattle.pack.specs.GeometrySized.{mostBlocks, mostSegments, mostContents}
+use Rattle.pack.specs.Form.{segmentsOf, mostBlocksOf, mostContentsOf, mostUicsOf, bodiesOf}
 
 -- "word 0 is 1": no other form is known
 pub form-known : (form : ℕ) → 0 < segmentsOf form → form ≡ 1

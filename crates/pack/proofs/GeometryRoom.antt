@@ -7,8 +7,7 @@ use mathlib.Core.Path.{_≡_, _∙_}
 use lib.ListN.{length}
 use Rattle.pack.specs.declared.Geometry.{Geometry}
 use Rattle.pack.specs.Geometry.{segmentBytes, blockWords, slots, entryAt, blockAt}
-use Rattle.pack.specs.GeometrySized.{Sized}
-use Rattle.pack.specs.Form.{mostBlocks, mostSegments}
+use Rattle.pack.specs.GeometrySized.{Sized, mostBlocks, mostSegments}
 
 -- the words of a block below n stand among those of n blocks: the one law of products that the rest needs
 pub block-room : (p : ℕ) {b n : ℕ} → b < n → b * p + p ≤ n * p

@@ -5,9 +5,9 @@ use native.Mathlib.Omega.{arith}
 use native.Mathlib.Nat.{mul-le-mul, mul-le-mul-right}
 use lib.ListN.{length}
 use Rattle.words.specs.Word.{wordAt}
-use Rattle.pack.specs.Form.{segmentsOf, leastBlocks, mostContents}
-use Rattle.pack.specs.Geometry.{geometryOf, slots, mostEntries}
-use Rattle.pack.specs.GeometrySized.{Sized}
+use Rattle.pack.specs.GeometrySized.{mostContents, Sized, mostEntries}
+use Rattle.pack.specs.Form.{segmentsOf, leastBlocks}
+use Rattle.pack.specs.Geometry.{geometryOf, slots}
 use Rattle.pack.specs.Header.{uicCount, RightHeader}
 use Rattle.pack.proofs.FormBounds.{segments-few, blocks-most, contents-most, contents-before, uics-fit}
 

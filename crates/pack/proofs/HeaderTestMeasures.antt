@@ -7,7 +7,8 @@ use native.Mathlib.Nat.{mul-le-mul-right}
 use lib.Dec.{eqb, leb, ltb}
 use borrow.Author.Tests.{eq-eqb, eqb-true, leb-true, le-leb, lt-leb, ltb-true, lt-ltb, le-ltb}
 use Rattle.answers.proofs.RefusalsTests.{and-left, and-right, and-both, go-on, stop}
-use Rattle.pack.specs.Form.{segmentsOf, leastBlocks, mostBlocksOf, leastContents, mostContentsOf, mostUicsOf, bodiesOf, mostSegments}
+use Rattle.pack.specs.GeometrySized.{mostSegments}
+use Rattle.pack.specs.Form.{segmentsOf, leastBlocks, mostBlocksOf, leastContents, mostContentsOf, mostUicsOf, bodiesOf}
 use Rattle.pack.specs.Geometry.{segmentWords, segmentBytes}
 use Rattle.pack.specs.Header.{Measured}
 use Rattle.pack.specs.HeaderTest.{measured}

@@ -6,7 +6,8 @@ use lib.Dec.{eqb}
 use borrow.Author.Tests.{eq-eqb, ne-eqb, eqb-true}
 use Rattle.answers.proofs.RefusalsTests.{and-left, and-right, and-both, go-on, stop}
 use Rattle.pack.specs.declared.Key.{Key}
-use Rattle.pack.specs.Key.{SameKey, sameKey}
+use Rattle.pack.specs.KeyTest.{sameKey}
+use Rattle.pack.specs.Key.{SameKey}
 
 pub same-key-iff : (a b : Key) → sameKey a b ≡ true ↔ SameKey a b
 unfolding sameKey

@@ -26,7 +26,7 @@ pub record Consistent (img : List ℕ) : Type 0 where
   pub header : RightHeader img
   -- all the above holds of each entry: it is empty, or "used entries have ..", with the rules of its file
   pub entries : (e : ℕ) → e < slots (geometryOf img) → RightEntry img (geometryOf img) e
-  -- "and differ in name, extension or UIC;"
+  -- "and differ in name, extension or UIC;": if e is in use and f has its key, f is in use too
   pub differ : (e f : ℕ) → e < f → f < slots (geometryOf img) → (Empty img (geometryOf img) e → ⊥)
       → SameKey (keyIn (entryOf img (geometryOf img) e)) (keyIn (entryOf img (geometryOf img) f)) → ⊥
   -- "no block is held twice;"

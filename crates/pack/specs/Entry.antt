@@ -16,7 +16,8 @@ use Rattle.pack.specs.File.{nextOf, after, lastOf, blocksOf, one, count}
 unfoldable pub entryWord : List ℕ → Geometry → ℕ → ℕ → ℕ
 entryWord img g e i = wordAt img (entryAt g e + i)
 
--- "0, 1 name; 2 extension; 3 UIC ..; 4 protect code ..; 5 kind ..; 6 first block; 7 length in blocks; 8 last block; 9 writer ..; 10 readers"
+-- "0, 1 name; 2 extension; 3 UIC (group high byte, user low byte); 4 protect code ..; 5 kind (1 contiguous, 2 linked); 6 first block; 7 length in blocks; 8 last block; 9 writer (0 none, 1 U,
+-- 2 O, 3 E); 10 readers"
 unfoldable pub entryOf : List ℕ → Geometry → ℕ → Entry
 entryOf img g e =
     record {
@@ -69,7 +70,7 @@ pub record Used (img : List ℕ) (g : Geometry) (e : ℕ) (x : Entry) : Type 0 w
   pub rest : (i : ℕ) → 11 ≤ i → i < 16 → entryWord img g e i ≡ 0
   -- "bodies are numbered above c and below n"
   pub bodies : (b : ℕ) → 0 < count b (blocksOf img g x) → (g .bodies .0 ≤ b) × (b < g .blocks)
-  -- "readers, plus 1 if there is a writer, are at most 62"
+  -- "readers, plus 1 if there is a writer, are at most 62 (000: 76 octal)"
   pub opens : x .readers + one (ltb 0 (x .writer)) ≤ 62
 
 abbrev pub RightEntry : List ℕ → Geometry → ℕ → Type 0

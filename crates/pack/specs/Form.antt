@@ -28,13 +28,3 @@ mostUicsOf form = 64
 -- "Blocks 1 to c: 16 entries each .. Other blocks are bodies": the number of the first body in a pack of c blocks of contents
 unfoldable pub bodiesOf : ℕ → ℕ → ℕ
 bodiesOf form contents = contents + 1
-
--- the most blocks, the most segments in a block and the most blocks of contents of any form
-abbrev pub mostBlocks : ℕ
-mostBlocks = 1024
-
-abbrev pub mostSegments : ℕ
-mostSegments = 4
-
-abbrev pub mostContents : ℕ
-mostContents = 8

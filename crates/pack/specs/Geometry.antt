@@ -3,7 +3,7 @@ use Prim.Native.Nat.{ℕ, _+_, _*_, _-_}
 use mathlib.Core.List.{List}
 use Rattle.words.specs.Word.{wordAt}
 use Rattle.pack.specs.declared.Geometry.{Geometry}
-use Rattle.pack.specs.Form.{segmentsOf, bodiesOf, mostSegments, mostContents}
+use Rattle.pack.specs.Form.{segmentsOf, bodiesOf}
 
 -- the measures that an image states
 unfoldable pub geometryOf : List ℕ → Geometry
@@ -39,10 +39,6 @@ blockAt g b = b * blockWords g
 -- "Blocks 1 to c: 16 entries each, of 16 words": entries run on over the blocks of contents
 abbrev pub slots : Geometry → ℕ
 slots g = g .contents * (4 * g .segments .0)
-
--- the most entries of a pack of any form
-abbrev pub mostEntries : ℕ
-mostEntries = mostContents * (4 * mostSegments)
 
 -- the first word of entry e, counted in stored order from 0
 abbrev pub entryAt : Geometry → ℕ → ℕ

@@ -4,8 +4,21 @@ use mathlib.Core.Path.{_≡_}
 use mathlib.Core.List.{List}
 use lib.ListN.{length}
 use Rattle.pack.specs.declared.Geometry.{Geometry}
-use Rattle.pack.specs.Form.{mostBlocks, mostSegments}
 use Rattle.pack.specs.Geometry.{blockBytes}
+
+-- the most blocks, the most segments in a block and the most blocks of contents of any form
+abbrev pub mostBlocks : ℕ
+mostBlocks = 1024
+
+abbrev pub mostSegments : ℕ
+mostSegments = 4
+
+abbrev pub mostContents : ℕ
+mostContents = 8
+
+-- the most entries of a pack of any form
+abbrev pub mostEntries : ℕ
+mostEntries = mostContents * (4 * mostSegments)
 
 pub record Sized (img : List ℕ) (g : Geometry) : Type 0 where
   pub long : length img ≡ g .blocks * blockBytes g

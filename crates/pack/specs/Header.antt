@@ -22,7 +22,7 @@ pub record Listed (img : List ℕ) (uic : ℕ) : Type 0 where
 
 -- what block 0 and the image's length say: `long` bytes, the form, n, c and u
 pub record Measured (long form blocks contents uics : ℕ) : Type 0 where
-  -- "Block 0: word 0 is 1;"
+  -- "Block 0: word 0 is 1;": no other form is known (`form-known`, proofs/FormBounds.antt)
   pub known : 0 < segmentsOf form
   -- "word 1 is n, the blocks in all, 16 to 1024;"
   pub blocksLeast : leastBlocks ≤ blocks

@@ -1,7 +1,5 @@
 -- What names a file: "differ in name, extension or UIC".
 use mathlib.Core.Path.{_≡_}
-use mathlib.Core.Bool.{Bool, _&&_}
-use lib.Dec.{eqb}
 use Rattle.pack.specs.declared.Entry.{Entry}
 use Rattle.pack.specs.declared.Key.{Key}
 
@@ -15,7 +13,3 @@ pub record SameKey (a b : Key) : Type 0 where
   pub name2 : a .name2 ≡ b .name2
   pub extension : a .extension ≡ b .extension
   pub uic : a .uic ≡ b .uic
-
--- the same as a test (proofs/KeySame.antt, `same-key-iff`)
-unfoldable pub sameKey : Key → Key → Bool
-sameKey a b = eqb (a .name1) (b .name1) && (eqb (a .name2) (b .name2) && (eqb (a .extension) (b .extension) && eqb (a .uic) (b .uic)))

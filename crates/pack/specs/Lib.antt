@@ -5,6 +5,7 @@ pub mod GeometrySized
 pub mod Header
 pub mod HeaderTest
 pub mod File
+pub mod KeyTest
 pub mod Key
 pub mod Entry
 pub mod EntryFields

@@ -1,13 +1,13 @@
 // The entries of a pack as they are read, and the way from block to block of their files.
 ghost use mathlib.Core.Path.{_≡_};
 ghost use Prim.Native.Nat.{_*_, _<_, _≤_};
-ghost use Rattle.pack.specs.Form.{mostBlocks, mostSegments};
-ghost use Rattle.pack.specs.GeometrySized.{Sized};
+ghost use Rattle.pack.specs.GeometrySized.{mostBlocks, mostSegments, Sized};
 ghost use Rattle.pack.specs.Geometry.{slots};
 ghost use Rattle.pack.specs.File.{nextOf};
 ghost use Rattle.pack.specs.Entry.{entryWord, entryOf};
 ghost use Rattle.pack.specs.EntryFields.{WordFields};
-ghost use Rattle.pack.specs.Key.{keyIn, sameKey};
+ghost use Rattle.pack.specs.KeyTest.{sameKey};
+ghost use Rattle.pack.specs.Key.{keyIn};
 use crate::BlockNo;
 use crate::Entry;
 use crate::Geometry;

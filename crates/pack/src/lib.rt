@@ -27,7 +27,7 @@ pub use writing::set_entry_word;
 pub use writing::write_entry;
 ghost use mathlib.Core.Path.{_≡_};
 ghost use Prim.Native.Nat.{_≤_};
-ghost use Rattle.pack.specs.Form.{mostSegments};
+ghost use Rattle.pack.specs.GeometrySized.{mostSegments};
 ghost use Rattle.pack.specs.Geometry.{segmentWords, segmentBytes};
 
 // A count of segments of 64 words.

@@ -1,10 +1,9 @@
-// The words of an entry that are written: one, four in a row, all of them.
+// The words of an entry that are written: one, or all of them.
 ghost use mathlib.Core.Path.{_≡_};
-ghost use mathlib.Core.List.{[], _∷_};
-ghost use Prim.Native.Nat.{_≤_, _<_};
+ghost use Prim.Native.Nat.{_<_};
 ghost use Rattle.pack.specs.GeometrySized.{Sized};
 ghost use Rattle.pack.specs.Geometry.{slots};
-ghost use Rattle.pack.specs.EntryFields.{WordFields};
+ghost use Rattle.pack.specs.EntryFields.{WordFields, SixteenWords};
 ghost use Rattle.pack.specs.EntryWords.{setEntryWord, setEntryWords, clearEntry, wordsOf};
 use crate::Entry;
 use crate::Geometry;
@@ -23,11 +22,7 @@ pub fn clear_entry(img: &mut [u8], g: Geometry, e: usize)
     requires { ⌜ e < slots g ⌝ }
     ensures { λ r. ⌜ now (img .exit) ≡ clearEntry (now (img .entry)) g e ⌝ }
 {
-    let mut i = 0;
-    while i < 16 {
-        set_entry_word(img, g, e, i, 0);
-        i += 1;
-    }
+    write_words(img, g, e, &[0; 16]);
 }
 
 pub fn write_entry(img: &mut [u8], g: Geometry, e: usize, x: Entry)
@@ -35,30 +30,36 @@ pub fn write_entry(img: &mut [u8], g: Geometry, e: usize, x: Entry)
     requires { ⌜ (e < slots g) × WordFields x ⌝ }
     ensures { λ r. ⌜ now (img .exit) ≡ setEntryWords (now (img .entry)) g e 0 (wordsOf x) ⌝ }
 {
-    write_four(img, g, e, 0, x.name1, x.name2, x.extension, x.uic);
-    write_four(img, g, e, 4, x.protect, x.kind, x.first.0, x.length);
-    write_four(img, g, e, 8, x.last.0, x.writer, x.readers, 0);
-    write_four(img, g, e, 12, 0, 0, 0, 0);
+    let words = [
+        x.name1,
+        x.name2,
+        x.extension,
+        x.uic,
+        x.protect,
+        x.kind,
+        x.first.0,
+        x.length,
+        x.last.0,
+        x.writer,
+        x.readers,
+        0,
+        0,
+        0,
+        0,
+        0,
+    ];
+    write_words(img, g, e, &words);
 }
 
-// Four words of entry e, the first of them word i.
-fn write_four(
-    img: &mut [u8],
-    g: Geometry,
-    e: usize,
-    i: usize,
-    first: usize,
-    second: usize,
-    third: usize,
-    fourth: usize,
-)
+// All sixteen words of entry e.
+fn write_words(img: &mut [u8], g: Geometry, e: usize, words: &[usize; 16])
     requires { ⌜ Sized (now img) g ⌝ }
-    requires { ⌜ (e < slots g) × (i ≤ 12) ⌝ }
-    requires { ⌜ (first < 65536) × (second < 65536) × (third < 65536) × (fourth < 65536) ⌝ }
-    ensures { λ r. ⌜ now (img .exit) ≡ setEntryWords (now (img .entry)) g e i (first ∷ (second ∷ (third ∷ (fourth ∷ [])))) ⌝ }
+    requires { ⌜ (e < slots g) × SixteenWords (now words) ⌝ }
+    ensures { λ r. ⌜ now (img .exit) ≡ setEntryWords (now (img .entry)) g e 0 (now (words .entry)) ⌝ }
 {
-    set_entry_word(img, g, e, i, first);
-    set_entry_word(img, g, e, i + 1, second);
-    set_entry_word(img, g, e, i + 2, third);
-    set_entry_word(img, g, e, i + 3, fourth);
+    let mut i = 0;
+    while i < 16 {
+        set_entry_word(img, g, e, i, words[i]);
+        i += 1;
+    }
 }

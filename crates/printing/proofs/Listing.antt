@@ -9,7 +9,8 @@ use lib.ListN.{length, getD, drop}
 use borrow.Author.Tests.{le-leb, lt-leb}
 use Rattle.answers.proofs.RefusalsTests.{second-fails}
 use Rattle.pack.specs.declared.Geometry.{Geometry}
-use Rattle.pack.specs.Geometry.{geometryOf, slots, mostEntries}
+use Rattle.pack.specs.GeometrySized.{mostEntries}
+use Rattle.pack.specs.Geometry.{geometryOf, slots}
 use Rattle.pack.specs.Consistent.{held}
 use Rattle.pack.specs.Owner.{freeCount}
 use Rattle.pack.proofs.HeaderRules.{entries-few}

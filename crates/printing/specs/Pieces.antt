@@ -2,7 +2,7 @@
 use Prim.Native.Nat.{ℕ, _+_, _*_, _/_, _%_}
 use mathlib.Core.List.{List, _++_}
 use Rattle.words.specs.Text.{bytes}
-use Rattle.pack.specs.Geometry.{mostEntries}
+use Rattle.pack.specs.GeometrySized.{mostEntries}
 use Rattle.printing.specs.Listing.{five, three, spelled, kindLetter}
 
 -- FREQ  .DAT

@@ -14,10 +14,12 @@ use Rattle.pack.specs.Consistent.{Consistent}
 use Rattle.pack.proofs.HeaderTestWords.{listed-iff}
 use Rattle.consistency.proofs.ConsistentTestIff.{consistent-iff}
 use Rattle.asking.specs.Outcome.{settled}
-use Rattle.creation.specs.Format.{format, formatRows, formatTest}
-use Rattle.creation.specs.Creating.{creatingRows}
+use Rattle.creation.specs.FormatRows.{formatRows, formatTest}
+use Rattle.creation.specs.Format.{format}
+use Rattle.creation.specs.CreatingRows.{creatingRows}
 use Rattle.creation.specs.Openo.{openo}
-use Rattle.creation.specs.Alloc.{alloc, allocRows}
+use Rattle.creation.specs.AllocRows.{allocRows}
+use Rattle.creation.specs.Alloc.{alloc}
 use Rattle.creation.proofs.FormatRows.{format-iff}
 use Rattle.requests.specs.Request.{FORMAT, ALLOC, OPENO}
 use Rattle.promises.specs.GivenWhen.{Case, GivesCode}

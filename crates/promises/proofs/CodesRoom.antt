@@ -7,7 +7,8 @@ use Rattle.pack.specs.declared.Key.{Key}
 use Rattle.pack.specs.Owner.{FreeBlock}
 use Rattle.asking.specs.declared.Right.the-variants.{Write}
 use Rattle.asking.specs.Asked.{fileOf}
-use Rattle.creation.specs.Alloc.{alloc, lengthFor}
+use Rattle.creation.specs.Rounding.{lengthFor}
+use Rattle.creation.specs.Alloc.{alloc}
 use Rattle.room.specs.Room.{FreeRun}
 use Rattle.adding.specs.LinkedAdd.{linkedAdd}
 use Rattle.requests.specs.Request.{ALLOC, LINKED-ADD}

@@ -28,12 +28,12 @@ use Rattle.asking.proofs.Rights.{may-iff}
 use Rattle.creation.specs.CreatingLowest.{lowestEmpty}
 use Rattle.room.specs.RoomTest.{highestRun}
 use Rattle.room.specs.Room.{FreeRun}
-use Rattle.creation.specs.Alloc.{lengthFor}
+use Rattle.creation.specs.Rounding.{lengthFor}
 use Rattle.creation.proofs.AllocBlocks.{blocks-some}
 use Rattle.creation.proofs.CreatingLowest.{empty-none}
 use Rattle.room.proofs.RoomHighest.{run-none}
 use Rattle.opening.specs.CloseRows.{wrongMode, isOpenAs}
-use Rattle.pack.specs.Key.{sameKey}
+use Rattle.pack.specs.KeyTest.{sameKey}
 use Rattle.pack.proofs.KeySame.{same-key-iff, same-equal, equal-same}
 use Rattle.promises.specs.Codes.{LegalKey, Exists, Full, NoMode, OpenAs, writing, reading}
 use Rattle.promises.proofs.GivenWhen.{fails}

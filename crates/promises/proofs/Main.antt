@@ -44,8 +44,10 @@ use Rattle.owners.specs.OwnerQuestion.{owner}
 use Rattle.owners.proofs.OneOwner.{one-owner}
 use Rattle.owners.proofs.OwnerSum.{sum-of-blocks}
 use Rattle.owners.proofs.OwnerQuestionEffect.{says-system, says-free, says-held}
-use Rattle.creation.specs.Format.{Formattable, formatted}
-use Rattle.creation.specs.Alloc.{alloc, lengthFor}
+use Rattle.creation.specs.Formattable.{Formattable}
+use Rattle.creation.specs.Format.{formatted}
+use Rattle.creation.specs.Rounding.{lengthFor}
+use Rattle.creation.specs.Alloc.{alloc}
 use Rattle.room.specs.Room.{FreeRun}
 use Rattle.creation.proofs.FormatRows.{format-iff}
 use Rattle.creation.proofs.FormatEffect.{format-consistent, format-free}

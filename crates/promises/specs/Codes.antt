@@ -19,8 +19,8 @@ use Rattle.asking.specs.declared.Right.the-variants.{Delete, Read, Write}
 use Rattle.asking.specs.Asked.{fileOf}
 use Rattle.asking.specs.Rights.{May}
 use Rattle.asking.specs.Opens.{opens}
-use Rattle.creation.specs.Format.{Formattable}
-use Rattle.creation.specs.Alloc.{lengthFor}
+use Rattle.creation.specs.Formattable.{Formattable}
+use Rattle.creation.specs.Rounding.{lengthFor}
 use Rattle.room.specs.Room.{FreeRun}
 use Rattle.opening.specs.declared.Opening.the-variants.{Input, Update, Extension}
 use Rattle.directory.specs.Renam.{newKey}

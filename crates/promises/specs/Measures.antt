@@ -6,7 +6,7 @@ use lib.ListN.{length}
 use Rattle.words.specs.Word.{wordAt}
 use Rattle.pack.specs.Geometry.{geometryOf, blockWords, blockBytes, payloadBytes, blockAt, slots, entryAt}
 use Rattle.bodies.specs.BlockBytes.{blockStart, payloadStart}
-use Rattle.creation.specs.Alloc.{lengthFor}
+use Rattle.creation.specs.Rounding.{lengthFor}
 
 -- what block 0 and the image's length say, and what Format is told: `long` bytes, word 0, n, c and u
 pub record DocumentHeader (long form n c u : ℕ) : Type 0 where

@@ -15,8 +15,10 @@ use Rattle.pack.proofs.GeometryRoom.{block-room}
 use Rattle.asking.specs.Asked.{entryNo}
 use Rattle.asking.proofs.Outcome.{image-by}
 use Rattle.creation.specs.Creating.{LowestEmpty, entryFor, created}
-use Rattle.creation.specs.Alloc.{allocRows, alloc}
-use Rattle.creation.specs.Openo.{openoRows, openo}
+use Rattle.creation.specs.AllocRows.{allocRows}
+use Rattle.creation.specs.Alloc.{alloc}
+use Rattle.creation.specs.OpenoRows.{openoRows}
+use Rattle.creation.specs.Openo.{openo}
 use Rattle.creation.proofs.CreatingStage.{creatable}
 use Rattle.creation.proofs.AllocStage.{allocatable}
 use Rattle.opening.specs.declared.Opening.{Opening}

@@ -8,7 +8,8 @@ use lib.ListN.{length}
 use borrow.Author.Tests.{not-false}
 use Rattle.answers.proofs.Refusals.{none-given}
 use Rattle.asking.proofs.Outcome.{image-by}
-use Rattle.creation.specs.Format.{formatTest, formatted, formatRows, format}
+use Rattle.creation.specs.FormatRows.{formatTest, formatRows}
+use Rattle.creation.specs.Format.{formatted, format}
 
 pub format-by : (img : List ℕ) (form blocks contents : ℕ) (uics : List ℕ) (P : List ℕ → Type 0) → P img
     → (formatTest (length img) form blocks contents uics ≡ true → P (formatted img form blocks contents uics)) → P (format img form blocks contents uics .image)

@@ -3,7 +3,7 @@ ghost use mathlib.Core.Path.{_≡_};
 ghost use Prim.Native.Nat.{_-_, _≤_, _<_};
 ghost use lib.Dec.{eqb, leb};
 ghost use lib.ListN.{length, set};
-ghost use Rattle.pack.specs.Form.{mostBlocks};
+ghost use Rattle.pack.specs.GeometrySized.{mostBlocks};
 ghost use Rattle.room.specs.RoomMap.{runOn, freeAfter, startIn, freeOn, FreeOn};
 use pack::BlockNo;
 use pack::Geometry;

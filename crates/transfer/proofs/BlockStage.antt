@@ -9,11 +9,10 @@ use lib.Dec.{eqb, leb}
 use borrow.Author.Tests.{lt-ltb, le-ltb, le-leb, lt-leb, leb-false}
 use Rattle.answers.specs.Refusals.{row, firstOf}
 use Rattle.answers.proofs.Refusals.{refuse, pass, clear, none-given}
-use Rattle.pack.specs.Form.{mostBlocks}
+use Rattle.pack.specs.GeometrySized.{mostBlocks, Sized}
 use Rattle.pack.specs.declared.Geometry.{Geometry}
 use Rattle.pack.specs.declared.Entry.{Entry}
 use Rattle.pack.specs.declared.Key.{Key}
-use Rattle.pack.specs.GeometrySized.{Sized}
 use Rattle.pack.specs.File.{nextOf, blocksOf, count}
 use Rattle.pack.specs.Entry.{entryOf, Contiguous, Linked, Used, RightEntry}
 use Rattle.pack.proofs.EntryRead.{empty-length}

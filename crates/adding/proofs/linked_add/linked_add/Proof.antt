@@ -5,7 +5,7 @@ use Rattle.adding.proofs.linked_add.linked_add.Tie as tie
 use mathlib.Core.Path.{_∙_}
 use lib.ListN.{length-replicate}
 use Prim.Native.Nat.{ℕ}
-use Rattle.pack.specs.Form.{mostBlocks}
+use Rattle.pack.specs.GeometrySized.{mostBlocks}
 use Rattle.adding.proofs.LinkedAddAnswers.{add-denied, add-ready, add-done}
 
 payload-bytes-of-requires : tie.Need-payload-bytes-of-requires

@@ -1,24 +1,24 @@
--- Rests on `CursorAtSteps`: behind the end nothing stands; else the character there is the one asked for, or another.
+-- Rests on `CursorAtSteps`: what `stands` says is what a reader of one character finds.
+use mathlib.Core.Path.{sym, _∙_}
+use native.Mathlib.Omega.{arith}
 use borrow.Author.Needs.{needs}
-use native.Mathlib.Nat.{add-zero}
-use Rattle.command_cursor.proofs.CursorAtSteps.{one-end, one-here, one-not}
+use Rattle.command_cursor.proofs.CursorAtSteps.{stands-within, stands-read, stands-refused}
 use Rattle.command_cursor.proofs.Cursor.one.Statement.{statement}
 use Rattle.command_cursor.proofs.Cursor.one.Tie as tie
 
+stands-requires : tie.Need-stands-requires
+stands-requires c κs = search needs
+
+add-t7 : tie.Need-add-t7
+add-t7 c =
+    let start = c .before .before .before in
+    record { fits = omega (arith, stands-within _ _ _ (sym (c .before .stands .ensures) ∙ c .if1 .taken), start .good .0 .1) }
+
 returns : tie.Need-returns
-returns c = rw (one-end _ _ _ (c .if1 .taken), add-zero)
-
-shared-slice-read-if2 : tie.Need-shared-slice-read-if2
-shared-slice-read-if2 c = search needs
-
-add-t10 : tie.Need-add-t10
-add-t10 c = search needs
+returns c = stands-read _ _ _ (sym (c .before .stands .ensures) ∙ c .if1 .taken)
 
 returns-2 : tie.Need-returns-2
-returns-2 c = rw (one-here _ _ _ (c .before .before .if1 .left) (c .if2 .taken))
-
-returns-3 : tie.Need-returns-3
-returns-3 c = rw (one-not _ _ _ (c .before .before .if1 .left) (c .if2 .left), add-zero)
+returns-2 c = stands-refused _ _ _ (sym (c .before .stands .ensures) ∙ c .if1 .left)
 
 pub one-spec : {M : Type 1} → statement M
-one-spec = tie.close (tie.spec returns shared-slice-read-if2 add-t10 returns-2 returns-3)
+one-spec = tie.close (tie.spec stands-requires add-t7 returns returns-2)

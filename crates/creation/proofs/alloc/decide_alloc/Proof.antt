@@ -3,7 +3,7 @@ use borrow.Author.Needs.{needs}
 use mathlib.Core.Path.{sym, ap, _∙_}
 use lib.ListN.{length-replicate}
 use Prim.Native.Nat.{ℕ}
-use Rattle.pack.specs.Form.{mostBlocks}
+use Rattle.pack.specs.GeometrySized.{mostBlocks}
 use Rattle.consistency.proofs.ConsistentTestIff.{consistent-iff}
 use Rattle.room.specs.RoomMap.{startIn}
 use Rattle.room.proofs.RoomMapRun.{run-is}

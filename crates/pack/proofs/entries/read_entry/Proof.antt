@@ -1,41 +1,41 @@
 -- Rests on `EntryRead`: an entry whose fields are the words of entry e is that entry; `entry_word` gives each word and its bound.
-use borrow.Author.Needs.{needs}
+use native.Mathlib.Omega.{arith}
 use Rattle.pack.proofs.EntryRead.{entry-is}
 use Rattle.pack.proofs.entries.read_entry.Statement.{statement}
 use Rattle.pack.proofs.entries.read_entry.Tie as tie
 
 entry-word-requires : tie.Need-entry-word-requires
-entry-word-requires c κs = search needs
+entry-word-requires c κs = let pre = c .before .pre in (pre .0, (pre .1, omega arith))
 
 entry-word-requires-2 : tie.Need-entry-word-requires-2
-entry-word-requires-2 c κs = search needs
+entry-word-requires-2 c κs = let pre = c .before .before .pre in (pre .0, (pre .1, omega arith))
 
 entry-word-requires-3 : tie.Need-entry-word-requires-3
-entry-word-requires-3 c κs = search needs
+entry-word-requires-3 c κs = let pre = c .before .before .before .pre in (pre .0, (pre .1, omega arith))
 
 entry-word-requires-4 : tie.Need-entry-word-requires-4
-entry-word-requires-4 c κs = search needs
+entry-word-requires-4 c κs = let pre = c .before .before .before .before .pre in (pre .0, (pre .1, omega arith))
 
 entry-word-requires-5 : tie.Need-entry-word-requires-5
-entry-word-requires-5 c κs = search needs
+entry-word-requires-5 c κs = let pre = c .before .before .before .before .before .pre in (pre .0, (pre .1, omega arith))
 
 entry-word-requires-6 : tie.Need-entry-word-requires-6
-entry-word-requires-6 c κs = search needs
+entry-word-requires-6 c κs = let pre = c .before .before .before .before .before .before .pre in (pre .0, (pre .1, omega arith))
 
 entry-word-requires-7 : tie.Need-entry-word-requires-7
-entry-word-requires-7 c κs = search needs
+entry-word-requires-7 c κs = let pre = c .before .before .before .before .before .before .before .pre in (pre .0, (pre .1, omega arith))
 
 entry-word-requires-8 : tie.Need-entry-word-requires-8
-entry-word-requires-8 c κs = search needs
+entry-word-requires-8 c κs = let pre = c .before .before .before .before .before .before .before .before .pre in (pre .0, (pre .1, omega arith))
 
 entry-word-requires-9 : tie.Need-entry-word-requires-9
-entry-word-requires-9 c κs = search needs
+entry-word-requires-9 c κs = let pre = c .before .before .before .before .before .before .before .before .before .pre in (pre .0, (pre .1, omega arith))
 
 entry-word-requires-10 : tie.Need-entry-word-requires-10
-entry-word-requires-10 c κs = search needs
+entry-word-requires-10 c κs = let pre = c .before .before .before .before .before .before .before .before .before .before .pre in (pre .0, (pre .1, omega arith))
 
 entry-word-requires-11 : tie.Need-entry-word-requires-11
-entry-word-requires-11 c κs = search needs
+entry-word-requires-11 c κs = let pre = c .before .before .before .before .before .before .before .before .before .before .before .pre in (pre .0, (pre .1, omega arith))
 
 returns : tie.Need-returns
 returns c =

@@ -2,7 +2,7 @@
 use borrow.Author.Needs.{needs}
 use Prim.Native.Nat.{_≤_}
 use native.Mathlib.Omega.{arith}
-use Rattle.pack.specs.Form.{mostBlocks, mostSegments}
+use Rattle.pack.specs.GeometrySized.{mostBlocks, mostSegments}
 use Rattle.pack.proofs.FormBounds.{segments-few, blocks-most}
 use Rattle.pack.proofs.GeometryRoom.{few-bytes}
 use Rattle.pack.proofs.HeaderTestMeasures.{not-known, too-few, too-many, no-contents, much-contents, no-room, many-uics, by-size}
