@@ -14,7 +14,7 @@ use Rattle.command.specs.declared.csi2.SpecificationAnswer.{SpecificationAnswer
 use Rattle.command.specs.Condensed.{condensed}
 use Rattle.command.specs.Csi1.{condensingAnswer, Csi1, Csi1Answered}
 use Rattle.command.specs.Csi1 as First
-use Rattle.command.specs.Csi2.{askingAnswer, Csi2, Csi2Answered}
+use Rattle.command.specs.Csi2.{refusal, askingAnswer, Csi2, Csi2Answered}
 use Rattle.command.specs.Csi2 as Second
 use Rattle.command.proofs.Csi2Only.{found-some, found-fits}
 use Rattle.promises.specs.GivenWhen.{GivesCode, success, here, behind}
@@ -36,11 +36,12 @@ pub csi1-code-iff : (line buffer : List ℕ) (answer : Answer) (after : List ℕ
     → (code : ℕ) → answer .code ≡ code ↔ GivesCode (Csi1Cases line buffer) code
 csi1-code-iff line buffer answer after is = exactly (Csi1Cases line buffer) (csi1-answered-code line buffer answer after is)
 
--- 1.3 for CSI1
-pub csi1-kept : (line buffer : List ℕ) (answer : Answer) (after : List ℕ) → Csi1Answered line buffer answer after → (answer .code ≡ 0 → ⊥) → after ≡ buffer
-csi1-kept line buffer answer after (First.Csi1Answered.answered (First.Csi1.long over)) refused = refl
-csi1-kept line buffer answer after (First.Csi1Answered.answered (First.Csi1.short fits few)) refused = refl
-csi1-kept line buffer answer after (First.Csi1Answered.answered (First.Csi1.wrong fits room at)) refused = refl
+-- 1.3 for CSI1: "any other number in the answer 0 (but for the place with 50)"
+pub csi1-kept : (line buffer : List ℕ) (answer : Answer) (after : List ℕ) → Csi1Answered line buffer answer after → (answer .code ≡ 0 → ⊥)
+    → (after ≡ buffer) × ((answer .code ≡ 0o50 → ⊥) → answer .number ≡ 0)
+csi1-kept line buffer answer after (First.Csi1Answered.answered (First.Csi1.long over)) refused = (refl, λ other. refl)
+csi1-kept line buffer answer after (First.Csi1Answered.answered (First.Csi1.short fits few)) refused = (refl, λ other. refl)
+csi1-kept line buffer answer after (First.Csi1Answered.answered (First.Csi1.wrong fits room at)) refused = (refl, λ other. absurd (other refl))
 csi1-kept line buffer answer after (First.Csi1Answered.answered (First.Csi1.accepted fits room read)) refused = absurd (refused refl)
 
 module _ (line : List ℕ) (side k : ℕ) (buffer : List ℕ) where
@@ -65,11 +66,12 @@ module _ (line : List ℕ) (side k : ℕ) (buffer : List ℕ) where
   csi2-code-iff answer after is = exactly (Csi2Cases line side k buffer) (csi2-answered-code answer after is)
 
   -- 1.3 for CSI2
-  pub csi2-kept : (answer : SpecificationAnswer) (after : List ℕ) → Csi2Answered line side k buffer answer after → (answer .code ≡ 0 → ⊥) → after ≡ buffer
-  csi2-kept answer after (Second.Csi2Answered.answered (Second.Csi2.long over)) refused = refl
-  csi2-kept answer after (Second.Csi2Answered.answered (Second.Csi2.wrong fits at)) refused = refl
-  csi2-kept answer after (Second.Csi2Answered.answered (Second.Csi2.missing fits found)) refused = refl
-  csi2-kept answer after (Second.Csi2Answered.answered (Second.Csi2.short fits found few)) refused = refl
+  pub csi2-kept : (answer : SpecificationAnswer) (after : List ℕ) → Csi2Answered line side k buffer answer after → (answer .code ≡ 0 → ⊥)
+      → (after ≡ buffer) × (answer ≡ refusal (answer .code) (answer .place)) × ((answer .code ≡ 0o50 → ⊥) → answer .place ≡ 0)
+  csi2-kept answer after (Second.Csi2Answered.answered (Second.Csi2.long over)) refused = (refl, refl, λ other. refl)
+  csi2-kept answer after (Second.Csi2Answered.answered (Second.Csi2.wrong fits at)) refused = (refl, refl, λ other. absurd (other refl))
+  csi2-kept answer after (Second.Csi2Answered.answered (Second.Csi2.missing fits found)) refused = (refl, refl, λ other. refl)
+  csi2-kept answer after (Second.Csi2Answered.answered (Second.Csi2.short fits found few)) refused = (refl, refl, λ other. refl)
   csi2-kept answer after (Second.Csi2Answered.answered (Second.Csi2.given fits found room)) refused = absurd (refused refl)
 
   -- 3.4 for CSI2

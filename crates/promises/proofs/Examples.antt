@@ -1,5 +1,8 @@
 -- The examples of document 01 hold.
-use mathlib.Core.Path.{refl}
+use Prim.Native.Nat.{ℕ}
+use mathlib.Core.Path.{_≡_, refl, sym, _∙_}
+use mathlib.Core.Bool.{Bool, true, false}
+use native.Mathlib.Omega.{arith}
 use Rattle.answers.proofs.Conversion.{characters-60, characters-given}
 use Rattle.answers.specs.Refusals.{firstOf, onSuccess, answered}
 use Rattle.answers.specs.Conversion.{conversionRows, toNumber}
@@ -10,13 +13,24 @@ use Rattle.radix.specs.Radup.{radup}
 use Rattle.numerals.specs.Digits.{valueOf, numberOf, digitsOf}
 use Rattle.numerals.specs.Decimal.{d2bin, bin2d}
 use Rattle.numerals.specs.Octal.{o2bin, bin2o}
+use Rattle.asking.specs.declared.Right.{Right}
+use Rattle.asking.specs.declared.Right.the-variants.{Read, Write}
 use Rattle.asking.specs.RightsTest.{may, inField}
+use Rattle.asking.specs.Rights.{May}
+use Rattle.asking.proofs.Rights.{may-iff}
 use Rattle.command_cursor.specs.FilledWord.{filledWord}
 use Rattle.command_grammar.specs.Reading.{reads, kept, sideOf, specificationAt}
 use Rattle.command_grammar.specs.Reader.{readLine}
 use Rattle.command_grammar.proofs.ReaderLines.{said-by, placed-by}
 use Rattle.command_parts.specs.Numbers.{numbersOf}
 use Rattle.promises.specs.Examples.{Examples, gives}
+
+-- what the test denies nobody may do
+denied : (right : Right) (caller uic protect : ℕ) → may right caller uic protect ≡ false → May caller uic protect right → ⊥
+denied right caller uic protect fails allowed =
+    let both : _≡_ {A = Bool} true false = sym (may-iff right caller uic protect .1 allowed) ∙ fails in
+    let z : _≡_ {A = ℕ} 0 1 = cc in
+    omega arith
 
 pub examples : Examples
 unfolding radpk radup d2bin bin2d o2bin bin2o toNumber conversionRows answered onSuccess firstOf wordOf charactersOf codeOf characterOf table numberOf valueOf digitsOf readLine
@@ -46,5 +60,5 @@ examples =
       p10 = placed-by _ _ refl;
       p11 = placed-by _ _ refl;
       p12 = placed-by _ _ refl;
-      p13 = unfold may inField in (refl, refl);
+      p13 = (may-iff Read _ _ 3 .0 (unfold may inField in refl), denied Write _ _ 3 (unfold may inField in refl));
     }

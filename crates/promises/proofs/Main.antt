@@ -60,10 +60,11 @@ use Rattle.command_grammar.specs.LinePlace.{Viable, LinePlace}
 use Rattle.command.specs.declared.csi2.SpecificationAnswer.{SpecificationAnswer}
 use Rattle.command.specs.Condensed.{condensed, TooLong}
 use Rattle.command.specs.Csi1.{Csi1Answered}
-use Rattle.command.specs.Csi2.{Csi2Answered}
+use Rattle.command.specs.Csi2.{refusal, Csi2Answered}
 use Rattle.command.specs.Known.{Known, knownOf, AskedFrom}
 use Rattle.command.proofs.Csi1Only
 use Rattle.command.proofs.Csi2Only
+use Rattle.command.proofs.KnownReading
 use Rattle.requests.specs.Request.{Request, outcome, Names, bufferLent}
 use Rattle.requests.specs.Contract.{Result, numbersIn, Meets, contractOf}
 use Rattle.requests.proofs.RequestConsistent
@@ -79,6 +80,8 @@ use Rattle.promises.specs.CommandCodes.{Csi1Cases, Csi2Cases}
 use Rattle.promises.specs.AddedAgain.{openedImage}
 use Rattle.promises.specs.Refused.{NotRadix, NotWord, TooLarge, NotNumeral}
 use Rattle.promises.specs.Conversions.{NumberDemands, CharactersDemands, InverseDemands}
+use Rattle.promises.specs.Examples.{Examples}
+use Rattle.promises.proofs.Examples as Shown
 use Rattle.promises.proofs.Measures
 use Rattle.promises.proofs.Codes
 use Rattle.promises.proofs.CodesRoom
@@ -140,11 +143,12 @@ pub refusal-leaves : (r : Request) (img : List ℕ) → (outcome r img .code ≡
     → Unchanged (outcome r img) (replicate (numbersIn (contractOf r)) 0) img (bufferLent r)
 refusal-leaves = RequestRefused.refusal-leaves
 
-pub csi1-kept : (line buffer : List ℕ) (answer : Answer) (after : List ℕ) → Csi1Answered line buffer answer after → (answer .code ≡ 0 → ⊥) → after ≡ buffer
+pub csi1-kept : (line buffer : List ℕ) (answer : Answer) (after : List ℕ) → Csi1Answered line buffer answer after → (answer .code ≡ 0 → ⊥)
+    → (after ≡ buffer) × ((answer .code ≡ 0o50 → ⊥) → answer .number ≡ 0)
 csi1-kept = CommandCodes.csi1-kept
 
 pub csi2-kept : (line : List ℕ) (side k : ℕ) (buffer : List ℕ) (answer : SpecificationAnswer) (after : List ℕ) → Csi2Answered line side k buffer answer after
-    → (answer .code ≡ 0 → ⊥) → after ≡ buffer
+    → (answer .code ≡ 0 → ⊥) → (after ≡ buffer) × (answer ≡ refusal (answer .code) (answer .place)) × ((answer .code ≡ 0o50 → ⊥) → answer .place ≡ 0)
 csi2-kept = CommandCodes.csi2-kept
 
 -- 2.1 "From any consistent image, each request has exactly the effect and answer that the build document draws from the handbook."
@@ -298,6 +302,15 @@ line-written = Commands.line-written
 pub line-reading : (line : List ℕ) (a b : Reading) → Reads line a → Reads line b → a ≡ b
 line-reading = Commands.line-reading
 
+-- and for given inputs CSI1 and CSI2 have one answer and leave one buffer
+pub csi1-single : (line buffer : List ℕ) (a b : Answer) (after after′ : List ℕ) → Csi1Answered line buffer a after → Csi1Answered line buffer b after′
+    → (a ≡ b) × (after ≡ after′)
+csi1-single = Commands.csi1-single
+
+pub csi2-single : (line : List ℕ) (side k : ℕ) (buffer : List ℕ) (a b : SpecificationAnswer) (after after′ : List ℕ)
+    → Csi2Answered line side k buffer a after → Csi2Answered line side k buffer b after′ → (a ≡ b) × (after ≡ after′)
+csi2-single = Commands.csi2-single
+
 -- 3.3 "Asking for each side's specifications by place yields that reading, all of it and no more."
 -- From what CSI1 wrote: with 384 bytes for each answer the asking ends, and what is then known, with whatever buffers it ends, is this.
 pub line-asked : (line buffer : List ℕ) (answer : Answer) (after : List ℕ) → Csi1Answered line buffer answer after → answer .code ≡ 0
@@ -305,6 +318,11 @@ pub line-asked : (line buffer : List ℕ) (answer : Answer) (after : List ℕ) �
     × ((side : ℕ) (lent : ℕ → List ℕ) → ((k : ℕ) → 384 ≤ length (lent k)) → AskedFrom (take (answer .number) after) side lent 0 (knownOf (sideOf side reading)))
     × ((side : ℕ) (lent : ℕ → List ℕ) (known : List Known) → AskedFrom (take (answer .number) after) side lent 0 known → known ≡ knownOf (sideOf side reading))
 line-asked = Commands.line-asked
+
+-- what is so known tells readings apart
+pub known-reading : (line other : List ℕ) (r q : Reading) → Reads line r → Reads other q
+    → ((side : ℕ) → knownOf (sideOf side r) ≡ knownOf (sideOf side q)) → r ≡ q
+known-reading = KnownReading.known-reading
 
 -- 3.4 "A refused line is answered with the place, in what remains, of the first character with which no command could go on, or with its end if
 -- it only stops too soon."
@@ -317,3 +335,12 @@ place-viable = Commands.place-viable
 
 pub place-end : (line : List ℕ) (p : ℕ) → LinePlace line p → p ≡ length line ↔ Viable line
 place-end = Commands.place-end
+
+-- CSI2 gives the place too
+pub csi2-place : (line : List ℕ) (side k : ℕ) (buffer : List ℕ) (answer : SpecificationAnswer) (after : List ℕ) → Csi2Answered line side k buffer answer after
+    → answer .code ≡ 0o50 → LinePlace line (answer .place)
+csi2-place = CommandCodes.csi2-place
+
+-- P1 to P13, "a single tabulated statement"
+pub examples : Examples
+examples = Shown.examples

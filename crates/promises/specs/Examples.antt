@@ -14,7 +14,7 @@ use Rattle.numerals.specs.Decimal.{d2bin, bin2d}
 use Rattle.numerals.specs.Octal.{o2bin, bin2o}
 use Rattle.words.specs.Text.{bytes}
 use Rattle.asking.specs.declared.Right.the-variants.{Read, Write}
-use Rattle.asking.specs.RightsTest.{may}
+use Rattle.asking.specs.Rights.{May}
 use Rattle.command_grammar.specs.Parsed.{Specification}
 use Rattle.command_grammar.specs.Reading.{Reading, Reads, sideOf, specificationAt}
 use Rattle.command_grammar.specs.LinePlace.{LinePlace}
@@ -68,4 +68,4 @@ pub record Examples : Type 0 where
   pub p11 : LinePlace (bytes "DT8:") 3
   pub p12 : LinePlace (bytes "/S:") 3
   -- P13 protect 3, owner [23,10]: [12,4] may read, not write.
-  pub p13 : (may Read (uicWord 0o12 0o4) (uicWord 0o23 0o10) 3 ≡ true) × (may Write (uicWord 0o12 0o4) (uicWord 0o23 0o10) 3 ≡ false)
+  pub p13 : May (uicWord 0o12 0o4) (uicWord 0o23 0o10) 3 Read × (May (uicWord 0o12 0o4) (uicWord 0o23 0o10) 3 Write → ⊥)
