@@ -48,7 +48,7 @@ enum {
     ABZ_WRITER       = 4,   /* the file has a writer already */
     ABZ_OPEN         = 014, /* the file is open, and the call takes closed ones only */
     ABZ_NOT_OPEN     = 045, /* the file is not open in the way that the call needs */
-    ABZ_NO_BLOCK     = 044, /* there is no such block */
+    ABZ_NO_BLOCK     = 044, /* there is no such block, or no such position in a text */
     ABZ_OPENS        = 3,   /* the file has 62 opens already, the most there can be */
     ABZ_NO_ENTRY     = 012, /* the contents have no empty entry for another file */
     ABZ_NO_ROOM      = 042, /* there is no free block, or too few of them in a row */
@@ -452,6 +452,129 @@ size_t abz_linked_read(const uint8_t *image, size_t image_len, size_t caller,
 abz_answer abz_linked_add(uint8_t *image, size_t image_len, size_t caller,
                           size_t name1, size_t name2, size_t extension, size_t uic,
                           const uint8_t *payload, size_t payload_len);
+
+/*
+ * Lines
+ *
+ * The calls that move the text of a linked file, line by line. Its text is what the file has in the 510 bytes of each
+ * block, joined in the order of the chain: 510 * length bytes, in which a line runs on from one block into the next. A
+ * line ends with its terminator, a LINE FEED, VERTICAL TAB or FORM FEED (012, 013, 014). NULs and RUBOUTs (0 and 0177)
+ * are no characters: a write puts one behind each TAB and FORM FEED, the last block is filled up with NUL, and a read
+ * drops them all.
+ *
+ * The file must be open as the call says, whoever opened it, and it stays so; the caller's right is judged in each call
+ * anew. A file that has a writer and a reader can be written and read by turns: what was added is there to be read at
+ * once, and what is only gathered is not.
+ *
+ * The host keeps what goes on from call to call: the position of a read; the gather buffer and the filled count of the
+ * writes. A refusal has 0 for position and filled too, and then the host keeps the number that it passed in.
+ */
+
+/* The modes of a read or write. They differ where a line is longer than the buffer, or the text more than a line. */
+enum {
+    ABZ_NORMAL  = 0,
+    ABZ_SPECIAL = 1
+};
+
+/* What a status is the sum of, as said at the call; 0 if nothing is to be said. They are its bits 0 and 6. */
+enum {
+    ABZ_INVALID_LINE = 1,
+    ABZ_FILE_ENDED   = 64
+};
+
+typedef struct {
+    size_t code;
+    size_t count;    /* characters that were laid down, each that was laid over the last byte too */
+    size_t status;
+    size_t position; /* for the next read */
+} abz_read_answer;
+
+/*
+ * Line read: reads a line of a linked file into the buffer; the image stays as it is. position is that of a byte in the
+ * file's text: 0 for the first line, and behind it the number that the read before gave. The file must have a reader; a
+ * writer does not serve, though there may be one too.
+ *
+ * Byte after byte is taken from there on. Bit 7 of each is cleared, NUL and RUBOUT are dropped, and what is left is laid
+ * into the buffer, from its start, and counted. The read ends behind a terminator, which is laid down as well: then
+ * status is 0, and position is that of the byte behind it. But
+ *   - where buffer_len characters are laid down and the last of them is no terminator, status has ABZ_INVALID_LINE.
+ *     ABZ_NORMAL lays each surplus character over the last byte of the buffer, up to the terminator, and counts it;
+ *     count is above buffer_len then. ABZ_SPECIAL ends: position is that of the byte behind the last character that
+ *     was laid down, and the next read gives the rest of the line;
+ *   - where the text ends before a terminator, status has ABZ_FILE_ENDED, and position is 510 * length. ABZ_NORMAL may
+ *     set both; ABZ_SPECIAL sets one of them, since where the buffer is full it takes no further byte.
+ * Bytes of the buffer over which nothing is laid stay.
+ *
+ * So whoever wants lines of any length reads in ABZ_SPECIAL and takes ABZ_INVALID_LINE to say that the line goes on.
+ * Behind the last line of a text that abz_line_end ended, as at the end of every text, a read has count 0 and status
+ * ABZ_FILE_ENDED.
+ *   ABZ_INCONSISTENT
+ *   ABZ_NAME          the name or the extension is not legal;
+ *   ABZ_ARGUMENT      mode is neither 0 nor 1, or buffer_len is 0;
+ *   ABZ_EXISTENCE     there is no such file;
+ *   ABZ_RIGHT         the caller may not read it;
+ *   ABZ_KIND          it is contiguous;
+ *   ABZ_NOT_OPEN      it has no reader;
+ *   ABZ_NO_BLOCK      position is above 510 * length; just that is the end of the text, and no refusal.
+ */
+abz_read_answer abz_line_read(const uint8_t *image, size_t image_len, size_t caller,
+                              size_t name1, size_t name2, size_t extension, size_t uic,
+                              size_t mode, size_t position, uint8_t *buffer, size_t buffer_len);
+
+typedef struct {
+    size_t code;
+    size_t count;  /* bytes of the text that were taken */
+    size_t status;
+    size_t filled; /* for the next write, or the end: 0 to 509 */
+} abz_write_answer;
+
+/*
+ * Line write: writes lines to the end of a linked file, which must be open for output or for extension. Since only full
+ * blocks are added to the file, the host lends a gather buffer of 510 bytes to all writes and to the end. Its first
+ * filled bytes wait to be added: none for the first write, and behind it as many as the write before gave. The host
+ * leaves those as they are; what the others hold does not matter.
+ *
+ * ABZ_NORMAL takes all of the text. ABZ_SPECIAL takes one line, up to its terminator and with that, or all of the text
+ * if it has no terminator. count is how many bytes were taken. status is ABZ_INVALID_LINE if the last of them is no
+ * terminator, or if there is none; else it is 0.
+ *
+ * What was taken is laid into the gather buffer as it is, bit 7 too, with one RUBOUT behind each TAB (011) and one NUL
+ * behind each FORM FEED. Each time the buffer is full it is added to the file as by linked add, and laying goes on at
+ * its start: byte j of all that is laid, counted from 0, lies at (filled + j) % 510. Bytes of the buffer over which
+ * nothing is laid stay.
+ *
+ * A write is refused whole: where not all blocks that become full have room, none is added. Lines of 7-bit characters
+ * with no NUL and no RUBOUT, each with one terminator, at its end, are read back the same by a buffer long enough.
+ *   ABZ_INCONSISTENT
+ *   ABZ_NAME          the name or the extension is not legal;
+ *   ABZ_ARGUMENT      mode is neither 0 nor 1, gather_len is not 510, or filled is above 509;
+ *   ABZ_EXISTENCE     there is no such file;
+ *   ABZ_RIGHT         the caller may not write to it;
+ *   ABZ_KIND          it is contiguous;
+ *   ABZ_NOT_OPEN      it is open neither for output nor for extension;
+ *   ABZ_NO_ROOM       fewer blocks are free than become full, which may be none.
+ */
+abz_write_answer abz_line_write(uint8_t *image, size_t image_len, size_t caller,
+                                size_t name1, size_t name2, size_t extension, size_t uic,
+                                size_t mode, const uint8_t *text, size_t text_len,
+                                uint8_t *gather, size_t gather_len, size_t filled);
+
+/*
+ * Line end: adds what waits in the gather buffer, which else would not come into the file; to be called before CLOSE.
+ * NUL is laid into the buffer from filled to its end, and it is added to the file as by linked add. Where filled is 0
+ * nothing changes, though the causes are looked at. A write that follows begins with filled 0.
+ *   ABZ_INCONSISTENT
+ *   ABZ_NAME          the name or the extension is not legal;
+ *   ABZ_ARGUMENT      gather_len is not 510, or filled is above 509;
+ *   ABZ_EXISTENCE     there is no such file;
+ *   ABZ_RIGHT         the caller may not write to it;
+ *   ABZ_KIND          it is contiguous;
+ *   ABZ_NOT_OPEN      it is open neither for output nor for extension;
+ *   ABZ_NO_ROOM       filled is not 0, and no block is free.
+ */
+size_t abz_line_end(uint8_t *image, size_t image_len, size_t caller,
+                    size_t name1, size_t name2, size_t extension, size_t uic,
+                    uint8_t *gather, size_t gather_len, size_t filled);
 
 /*
  * Command lines

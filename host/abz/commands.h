@@ -22,6 +22,10 @@ int command_keep(char **arguments);
 int command_put(char **arguments);
 int command_get(char **arguments);
 
+/* Text of linked files */
+int command_type(char **arguments);
+int command_enter(char **arguments);
+
 /* Command lines */
 int command_read(char **arguments);
 

@@ -1,6 +1,7 @@
 /*
  * abz: the files of a pack, at the command line; and an example of a host of the service. How a host calls it is shown
- * in requests.c, transfer.c, reports.c and reading.c; the rest is what a program with files and arguments needs.
+ * in requests.c, transfer.c, text.c, reports.c and reading.c; the rest is what a program with files and arguments
+ * needs.
  */
 #include "commands.h"
 #include "files.h"
@@ -52,6 +53,14 @@ static const command commands[] = {
     { "get", "PACK CALLER FILE HOSTFILE", 4, 4, command_get,
       "write the bytes of a linked file to HOSTFILE, also if there is one\n"
       "already; NULs that filled it up are among them" },
+    { "type", "PACK CALLER FILE", 3, 3, command_type,
+      "write the lines of a linked file to standard output: its text with\n"
+      "no NUL and no RUBOUT, and in 7 bits" },
+    { "enter", "[--append] PACK CALLER FILE [PROTECT]", 3, 4, command_enter,
+      "make a linked file of the lines on standard input. With --append, and\n"
+      "then without PROTECT, they go to the end of a file that is there. They\n"
+      "are ASCII without NUL and RUBOUT; the last gets a LINE FEED unless it\n"
+      "ends with that, a VERTICAL TAB or a FORM FEED." },
     { "read", "LINE", 1, 1, command_read,
       "how a command line is understood, or where it goes wrong. Put LINE\n"
       "into quotes, for the shell has a use of its own for <." },
@@ -78,8 +87,9 @@ static const char rest_of_help[] =
     "BLOCKS, CONTENTS and SEGMENTS are decimal.\n"
     "\n"
     "Exit status: 0 if it was done; 1 if the service refused it, which is told with\n"
-    "the code (octal), or if a file could not be read or written; 2 if the arguments\n"
-    "are wrong. Unless it is 0, PACK and HOSTFILE are as they were.\n"
+    "the code (octal), if a file could not be read or written, or if what is entered\n"
+    "is no text; 2 if the arguments are wrong. Unless it is 0, PACK and HOSTFILE are\n"
+    "as they were.\n"
     "\n"
     "Example: a pack of 64 blocks for two users, and a file in it:\n"
     "  abz format station.pack 64 2 23,10 12,4\n"

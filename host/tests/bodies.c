@@ -177,15 +177,6 @@ static void protect_codes(void)
             }
 }
 
-/* A number's last digit to some base, which is taken off it. */
-static size_t digit(size_t *number, size_t base)
-{
-    size_t last = *number % base;
-
-    *number /= base;
-    return last;
-}
-
 /*
  * Several causes at once: each kind and way of being open, also such as no consistent pack has, with right values and
  * wrong ones of each argument.

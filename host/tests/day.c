@@ -10,7 +10,9 @@
 
 enum { PACK = BLOCK * 16 };
 
+/* What is written: to the logs, to the table, and to the month's text, a line for each day. */
 static uint8_t payloads[6][PAYLOAD], blocks[3][BLOCK];
+static char lines[30][64];
 
 /* ---- What a step is held to ---- */
 
@@ -66,6 +68,32 @@ static void add(size_t caller, file_key key, uint8_t *payload, size_t block)
     const abz_answer answer = abz_linked_add(image, PACK, caller, FILE4(key), payload, PAYLOAD);
     DONE(answer.code);
     CHECK_NUMBER(answer.number, block, "%s: block added", part);
+}
+
+/* Writes a line whole. filled is what the gather buffer has of the block to come. */
+static void write_line(file_key key, const char *line, uint8_t *gather, size_t *filled)
+{
+    const abz_write_answer answer = abz_line_write(image, PACK, ME, FILE4(key), ABZ_NORMAL, (const uint8_t *)line,
+                                                   strlen(line), gather, PAYLOAD, *filled);
+
+    DONE(answer.code);
+    CHECK_NUMBER(answer.count, strlen(line), "%s: characters of %s", part, line);
+    CHECK_NUMBER(answer.status, 0, "%s: status of %s", part, line);
+    *filled = answer.filled;
+}
+
+/* Reads a line from a position, which goes on to the next. */
+static void read_line(size_t caller, file_key key, const char *line, size_t *position)
+{
+    uint8_t bytes[64];
+    const abz_read_answer answer = abz_line_read(image, PACK, caller, FILE4(key), ABZ_NORMAL, *position, bytes,
+                                                 sizeof bytes);
+
+    DONE(answer.code);
+    CHECK_NUMBER(answer.count, strlen(line), "%s: characters read of %s", part, line);
+    CHECK_NUMBER(answer.status, 0, "%s: status of %s", part, line);
+    CHECK_BYTES(bytes, (const uint8_t *)line, strlen(line), "%s: line read", part);
+    *position = answer.position;
 }
 
 /* ---- The day ---- */
@@ -162,6 +190,52 @@ static void evening(void)
     DONE_UNSEEN(abz_close(image, PACK, OTHER, FILE4(day), ABZ_EXTEND));
 }
 
+/* The pack while the month's text has so many blocks, which are those below 7. */
+static void shows_month(size_t length)
+{
+    static char letters[17], listing[200];
+
+    strcpy(letters, "ss.....022200000");
+    memset(letters + 7 - length, '1', length);
+    sprintf(listing, "BLOCKS 00016 FREE %05zu\n"
+                     "DAY   .LOG L 00006 [023,010] 001\n"
+                     "MONTH .TXT L %05zu [023,010] 003\n"
+                     "FREQ  .DAT C 00003 [023,010] 003\n", 5 - length, length);
+    shows(letters, listing);
+}
+
+/* A text with a line for each day of the month: those that are over, and then today's, which begins another block. */
+static void month(void)
+{
+    static uint8_t gather[PAYLOAD];
+    const file_key days = named("MONTH TXT", 0);
+    const size_t today = COUNT(lines) - 1;
+    size_t filled = 0, laid = 0;
+
+    for (size_t i = 0; i < COUNT(lines); i++)
+        sprintf(lines[i], "%02zu NOV 1971\t%zu MB\tWIND SW %zu\tSEA %zu\n", i + 1, 1003 + i, i % 9, i % 7);
+    DONE(abz_openo(image, PACK, ME, FILE4(days), 3));
+    for (size_t i = 0; i < today; i++) {
+        shows_month(laid / PAYLOAD);
+        write_line(days, lines[i], gather, &filled);
+        laid += strlen(lines[i]) + 3; /* a RUBOUT behind each TAB */
+        CHECK_NUMBER(filled, laid % PAYLOAD, "%s: filled", part);
+    }
+    shows_month(2);
+    REFUSED(abz_line_end(image, PACK, OTHER, FILE4(named("MONTH TXT", ME)), gather, PAYLOAD, filled), ABZ_RIGHT);
+    DONE(abz_line_end(image, PACK, ME, FILE4(days), gather, PAYLOAD, filled));
+    shows_month(3);
+    DONE_UNSEEN(abz_close(image, PACK, ME, FILE4(days), ABZ_OUTPUT));
+
+    filled = 0;
+    DONE_UNSEEN(abz_opene(image, PACK, ME, FILE4(days)));
+    write_line(days, lines[today], gather, &filled);
+    DONE_UNSEEN(abz_line_end(image, PACK, ME, FILE4(days), gather, PAYLOAD, 0));
+    DONE(abz_line_end(image, PACK, ME, FILE4(days), gather, PAYLOAD, filled));
+    shows_month(4);
+    DONE_UNSEEN(abz_close(image, PACK, ME, FILE4(days), ABZ_EXTEND));
+}
+
 /* All that was written is read back, by another user. */
 static void reading(void)
 {
@@ -187,13 +261,39 @@ static void reading(void)
     DONE_UNSEEN(abz_close(image, PACK, OTHER, FILE4(table), ABZ_INPUT));
 }
 
+/* And so are the lines, the last of them behind the NULs that fill up a block. */
+static void reading_lines(void)
+{
+    const file_key days = named("MONTH TXT", ME);
+    size_t position = 0;
+    uint8_t byte = '?';
+
+    DONE_UNSEEN(abz_openi(image, PACK, OTHER, FILE4(days)));
+    for (size_t i = 0; i < COUNT(lines); i++)
+        read_line(OTHER, days, lines[i], &position);
+
+    const abz_read_answer answer = abz_line_read(image, PACK, OTHER, FILE4(days), ABZ_SPECIAL, position, &byte, 1);
+    DONE_UNSEEN(answer.code);
+    CHECK_NUMBER(answer.count, 0, "%s: behind the last line", part);
+    CHECK_NUMBER(answer.status, ABZ_FILE_ENDED, "%s: status behind the last line", part);
+    CHECK_NUMBER(answer.position, 4 * PAYLOAD, "%s: position behind the last line", part);
+    CHECK_NUMBER(byte, '?', "%s: buffer behind the last line", part);
+    REFUSED(abz_line_read(image, PACK, OTHER, FILE4(days), ABZ_NORMAL, 4 * PAYLOAD + 1, &byte, 1).code, ABZ_NO_BLOCK);
+    DONE_UNSEEN(abz_close(image, PACK, OTHER, FILE4(days), ABZ_INPUT));
+    REFUSED(abz_line_read(image, PACK, OTHER, FILE4(days), ABZ_NORMAL, 0, &byte, 1).code, ABZ_NOT_OPEN);
+}
+
 /* Everything is deleted, by its owner alone; what was written stays in the image. */
 static void night(void)
 {
     static uint8_t before[PACK];
-    const file_key day = named("DAY   LOG", ME), table = named("FREQ  DAT", ME);
+    const file_key day = named("DAY   LOG", ME), table = named("FREQ  DAT", ME), days = named("MONTH TXT", ME);
 
     memcpy(before, image, PACK);
+    DONE(abz_delet(image, PACK, ME, FILE4(days)));
+    shows("ss.....022200000", "BLOCKS 00016 FREE 00005\n"
+                              "DAY   .LOG L 00006 [023,010] 001\n"
+                              "FREQ  .DAT C 00003 [023,010] 003\n");
     REFUSED(abz_delet(image, PACK, OTHER, FILE4(day)), ABZ_RIGHT);
     DONE(abz_keep(image, PACK, ME, FILE4(table)));
     shows("ss.....022200000", "BLOCKS 00016 FREE 00005\n"
@@ -213,7 +313,8 @@ int main(void)
         const char *name;
         void (*part)(void);
     } day[] = {
-        { "morning", morning }, { "noon", noon }, { "evening", evening }, { "reading", reading }, { "night", night },
+        { "morning", morning }, { "noon", noon },       { "evening", evening },       { "month", month },
+        { "reading", reading }, { "reading lines", reading_lines }, { "night", night },
     };
 
     for (size_t i = 0; i < COUNT(day); i++) {

@@ -26,6 +26,11 @@ size_t abz_block_in(const uint8_t *, size_t, size_t, size_t, size_t, size_t, siz
 size_t abz_block_out(uint8_t *, size_t, size_t, size_t, size_t, size_t, size_t, size_t, const uint8_t *, size_t);
 size_t abz_linked_read(const uint8_t *, size_t, size_t, size_t, size_t, size_t, size_t, size_t, uint8_t *, size_t);
 abz_answer abz_linked_add(uint8_t *, size_t, size_t, size_t, size_t, size_t, size_t, const uint8_t *, size_t);
+abz_read_answer abz_line_read(const uint8_t *, size_t, size_t, size_t, size_t, size_t, size_t, size_t, size_t,
+                              uint8_t *, size_t);
+abz_write_answer abz_line_write(uint8_t *, size_t, size_t, size_t, size_t, size_t, size_t, size_t, const uint8_t *,
+                                size_t, uint8_t *, size_t, size_t);
+size_t abz_line_end(uint8_t *, size_t, size_t, size_t, size_t, size_t, size_t, uint8_t *, size_t, size_t);
 abz_answer abz_alloc(uint8_t *, size_t, size_t, size_t, size_t, size_t, size_t, size_t, size_t);
 size_t abz_openo(uint8_t *, size_t, size_t, size_t, size_t, size_t, size_t, size_t);
 

@@ -445,6 +445,17 @@ static inline void check_given(size_t from, size_t end)
     }
 }
 
+/* ---- Cases that are counted ---- */
+
+/* A number's last digit to some base, which is taken off it: so a number stands for one of several choices each time. */
+static inline size_t digit(size_t *number, size_t base)
+{
+    size_t last = *number % base;
+
+    *number /= base;
+    return last;
+}
+
 /* ---- A pack to try requests on ---- */
 
 static const size_t users[] = { ME, GROUP, OTHER };
@@ -501,9 +512,9 @@ static inline size_t *number_of(request *it, size_t i)
     return numbers[i];
 }
 
-static inline void spoil(request *it)
+static inline void spoil(size_t *number)
 {
-    size_t *const number = number_of(it, chance(NUMBERS)), old = *number;
+    const size_t old = *number;
     const size_t others[] = { 0,       old + 1,         old - 1,    old + 40, old + 256,
                               old ^ 1, chance(65536), old + 65536, 64000,    huge[chance(COUNT(huge))] };
 
@@ -548,7 +559,7 @@ static inline request chance_request(size_t what, const uint8_t *pack)
     if (it.caller == it.second.uic && chance(2))
         it.second.uic = 0;
     while (chance(6) == 0)
-        spoil(&it);
+        spoil(number_of(&it, chance(NUMBERS)));
     return it;
 }
 
@@ -579,6 +590,27 @@ static inline void chance_requests(size_t from, size_t end, size_t packs, size_t
     }
 }
 
+/* Makes the image a pack with one of its first words changed, a link of it, or its length. Returns the length. */
+static inline size_t damage(const uint8_t *sound, size_t length, size_t words)
+{
+    const size_t word = chance(words), old = get_word(sound, word);
+    size_t block;
+
+    memcpy(image, sound, length);
+    switch (chance(5)) {
+    case 0: return chance(2) ? chance(length) : length + 1 - 2 * chance(2);
+    case 1:
+        do
+            block = chance(length / BLOCK);
+        while (block <= get_word(sound, CONTENTS));
+        set_word(image, BLOCK_WORDS * block, chance(2) ? 0 : chance(length / BLOCK));
+        return length;
+    default:
+        set_word(image, word, chance(2) ? old ^ ((size_t)1 << chance(16)) : chance(65536));
+        return length;
+    }
+}
+
 /* One word of a pack changed, or its length: 40 wherever we judge so, and whatever is asked. */
 static inline void damaged_images(size_t from, size_t end, size_t packs)
 {
@@ -588,23 +620,8 @@ static inline void damaged_images(size_t from, size_t end, size_t packs)
     for (size_t pack = 0; pack < packs; pack++) {
         size_t c = 1 + chance(2), length = chance_pack(sound, 16 + chance(24), c, 16);
         for (size_t i = 0; i < 8 * (end - from); i++) {
-            size_t what = from + i % (end - from), damaged_len = length;
-            request it = chance_request(what, sound);
-            size_t words = i % 3 ? BLOCK_WORDS * (1 + c) : length / 2, word = chance(words), old, block;
-
-            memcpy(image, sound, length);
-            switch (chance(5)) {
-            case 0: damaged_len = chance(2) ? chance(length) : length + 1 - 2 * chance(2); break;
-            case 1:
-                do
-                    block = chance(length / BLOCK);
-                while (block <= c);
-                set_word(image, BLOCK_WORDS * block, chance(2) ? 0 : chance(length / BLOCK));
-                break;
-            default:
-                old = get_word(sound, word);
-                set_word(image, word, chance(2) ? old ^ ((size_t)1 << chance(16)) : chance(65536));
-            }
+            request it = chance_request(from + i % (end - from), sound);
+            size_t damaged_len = damage(sound, length, i % 3 ? BLOCK_WORDS * (1 + c) : length / 2);
             refused += try_request("damaged pack", pack, damaged_len, it) == 040;
         }
     }

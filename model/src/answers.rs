@@ -4,6 +4,7 @@ use crate::command::Specification;
 use crate::pack::entry::Entry;
 use crate::pack::owner::Owner;
 use crate::refusal::{LineRefusal, Refusal};
+use crate::requests::lines::{Read, Written};
 
 /// A code and one number.
 #[repr(C)]
@@ -34,6 +35,26 @@ pub struct OwnerAnswer {
     pub kind: usize,
     pub entry: usize,
     pub place: usize,
+}
+
+/// What a read of a line gives: the count, the status, and the next position.
+#[repr(C)]
+#[derive(Clone, Copy, Debug, Default, PartialEq, Eq)]
+pub struct ReadAnswer {
+    pub code: usize,
+    pub count: usize,
+    pub status: usize,
+    pub position: usize,
+}
+
+/// What a write of lines gives: the count taken, the status, and how far the gather buffer is filled.
+#[repr(C)]
+#[derive(Clone, Copy, Debug, Default, PartialEq, Eq)]
+pub struct WriteAnswer {
+    pub code: usize,
+    pub count: usize,
+    pub status: usize,
+    pub filled: usize,
 }
 
 /// A specification of a command. In `present` bit 0 is the device, 1 the name, 2 the extension, 3 group and user.
@@ -104,6 +125,24 @@ impl From<Result<Owner, Refusal>> for OwnerAnswer {
             Ok(Owner::Free) => OwnerAnswer { kind: 1, ..OwnerAnswer::default() },
             Ok(Owner::Held { entry, place }) => OwnerAnswer { code: 0, kind: 2, entry, place },
             Err(refusal) => OwnerAnswer { code: refusal.code(), ..OwnerAnswer::default() },
+        }
+    }
+}
+
+impl From<Result<Read, Refusal>> for ReadAnswer {
+    fn from(result: Result<Read, Refusal>) -> ReadAnswer {
+        match result {
+            Ok(Read { count, status, position }) => ReadAnswer { code: 0, count, status, position },
+            Err(refusal) => ReadAnswer { code: refusal.code(), ..ReadAnswer::default() },
+        }
+    }
+}
+
+impl From<Result<Written, Refusal>> for WriteAnswer {
+    fn from(result: Result<Written, Refusal>) -> WriteAnswer {
+        match result {
+            Ok(Written { count, status, filled }) => WriteAnswer { code: 0, count, status, filled },
+            Err(refusal) => WriteAnswer { code: refusal.code(), ..WriteAnswer::default() },
         }
     }
 }

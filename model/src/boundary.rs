@@ -22,6 +22,9 @@ extern "C" {
     fn abz_block_out(image: *mut u8, image_len: usize, caller: usize, name1: usize, name2: usize, extension: usize, uic: usize, place: usize, buffer: *const u8, buffer_len: usize) -> usize;
     fn abz_linked_read(image: *const u8, image_len: usize, caller: usize, name1: usize, name2: usize, extension: usize, uic: usize, place: usize, buffer: *mut u8, buffer_len: usize) -> usize;
     fn abz_linked_add(image: *mut u8, image_len: usize, caller: usize, name1: usize, name2: usize, extension: usize, uic: usize, payload: *const u8, payload_len: usize) -> Answer;
+    fn abz_line_read(image: *const u8, image_len: usize, caller: usize, name1: usize, name2: usize, extension: usize, uic: usize, mode: usize, position: usize, buffer: *mut u8, buffer_len: usize) -> crate::answers::ReadAnswer;
+    fn abz_line_write(image: *mut u8, image_len: usize, caller: usize, name1: usize, name2: usize, extension: usize, uic: usize, mode: usize, text: *const u8, text_len: usize, gather: *mut u8, gather_len: usize, filled: usize) -> crate::answers::WriteAnswer;
+    fn abz_line_end(image: *mut u8, image_len: usize, caller: usize, name1: usize, name2: usize, extension: usize, uic: usize, gather: *mut u8, gather_len: usize, filled: usize) -> usize;
     fn abz_radpk(chars: *const u8, chars_len: usize) -> Answer;
     fn abz_radup(word: usize, chars: *mut u8, chars_len: usize) -> usize;
     fn abz_d2bin(chars: *const u8, chars_len: usize) -> Answer;
@@ -134,6 +137,30 @@ pub fn linked_add(image: &mut [u8], caller: usize, file: File, payload: &[u8]) -
     let File { name1, name2, extension, uic } = file;
     unsafe {
         abz_linked_add(image.as_mut_ptr(), image.len(), caller, name1, name2, extension, uic, payload.as_ptr(), payload.len())
+    }
+}
+
+#[rustfmt::skip]
+pub fn line_read(image: &[u8], caller: usize, file: File, mode: usize, position: usize, buffer: &mut [u8]) -> crate::answers::ReadAnswer {
+    let File { name1, name2, extension, uic } = file;
+    unsafe {
+        abz_line_read(image.as_ptr(), image.len(), caller, name1, name2, extension, uic, mode, position, buffer.as_mut_ptr(), buffer.len())
+    }
+}
+
+#[rustfmt::skip]
+pub fn line_write(image: &mut [u8], caller: usize, file: File, mode: usize, text: &[u8], gather: &mut [u8], filled: usize) -> crate::answers::WriteAnswer {
+    let File { name1, name2, extension, uic } = file;
+    unsafe {
+        abz_line_write(image.as_mut_ptr(), image.len(), caller, name1, name2, extension, uic, mode, text.as_ptr(), text.len(), gather.as_mut_ptr(), gather.len(), filled)
+    }
+}
+
+#[rustfmt::skip]
+pub fn line_end(image: &mut [u8], caller: usize, file: File, gather: &mut [u8], filled: usize) -> usize {
+    let File { name1, name2, extension, uic } = file;
+    unsafe {
+        abz_line_end(image.as_mut_ptr(), image.len(), caller, name1, name2, extension, uic, gather.as_mut_ptr(), gather.len(), filled)
     }
 }
 

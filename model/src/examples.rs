@@ -1,5 +1,7 @@
 //! The examples of 01, those marked P and the others, and what readings of it are easily got wrong.
 
+mod lines;
+
 use crate::answers::SpecificationAnswer;
 use crate::command::{csi1, csi2, grammar, reading};
 use crate::conversions::{bin2d, bin2o, d2bin, o2bin, radpk, radup};

@@ -4,6 +4,6 @@ pub mod LinkedAddWrites
 pub mod LinkedAddEnlarged
 pub mod LinkedAddMap
 pub mod LinkedAddAnswers
-pub mod LinkedAddAgain
 pub mod LinkedAddEffect
+pub mod LinkedAddAgain
 pub mod LinkedAddOwners

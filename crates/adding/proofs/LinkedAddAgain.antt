@@ -1,85 +1,146 @@
--- A block added where several are needed: one block fewer is free, and all that the next one counts on holds again.
+-- A block added where several are needed: one block fewer is free, the file is found as before with all but its chain, and so nothing speaks against the next.
 use Prim.Native.Nat.{ℕ, _+_, _<_}
-use mathlib.Core.Path.{_≡_, sym, ap, subst, _∙_}
+use mathlib.Core.Path.{_≡_, refl, sym, ap, subst, _∙_}
+use mathlib.Core.Bool.{false, not, _||_}
 use mathlib.Core.List.{List}
+use mathlib.Core.Option.{some}
 use native.Mathlib.Omega.{arith}
+use lib.Dec.{eqb}
 use lib.ListN.{length}
+use borrow.Author.Tests.{eq-eqb}
+use Rattle.answers.specs.Refusals.{firstOf}
 use Rattle.pack.specs.declared.Geometry.{Geometry}
 use Rattle.pack.specs.declared.Entry.{Entry}
-use Rattle.pack.specs.GeometrySized.{mostBlocks, Sized}
+use Rattle.pack.specs.declared.Key.{Key}
 use Rattle.pack.specs.Geometry.{geometryOf, payloadBytes, slots}
-use Rattle.pack.specs.Entry.{entryOf}
+use Rattle.pack.specs.Entry.{entryWord, entryOf}
+use Rattle.pack.specs.Key.{keyIn, SameKey}
 use Rattle.pack.specs.Consistent.{total, Consistent}
-use Rattle.pack.specs.Owner.{freeCount, FreeBlock}
+use Rattle.pack.specs.Owner.{freeCount}
 use Rattle.pack.proofs.ConsistentTotal.{total-swap}
-use Rattle.pack.proofs.HeaderRules.{header-sized}
+use Rattle.consistency.proofs.ConsistentTestIff.{consistent-iff}
 use Rattle.owners.proofs.OwnerSum.{sum-of-blocks}
+use Rattle.asking.specs.declared.Right.the-variants.{Write}
+use Rattle.asking.specs.KeysTest.{found}
+use Rattle.asking.specs.RightsTest.{may}
+use Rattle.asking.specs.Asked.{entryNo, fileOf}
+use Rattle.asking.proofs.Keys.{found-iff}
+use Rattle.asking.proofs.AccessRows.{Accessed}
+use Rattle.asking.proofs.AskedStage.{number-found, asked-file, asked-is-file, asked-entry}
 use Rattle.frame.specs.Framed.{Only}
 use Rattle.frame.specs.Framing.{Framed}
-use Rattle.frame.specs.Growth.{Grown}
 use Rattle.frame.proofs.FramedStays.{geometry-framed, entry-framed}
-use Rattle.frame.proofs.GrowthConsistent.{grown-framed, grown-consistent}
-use Rattle.room.specs.RoomMap.{Says}
-use Rattle.adding.specs.LinkedAdd.{addedBlock, added}
-use Rattle.adding.specs.LinkedAddStage.{Ready}
-use Rattle.adding.proofs.LinkedAddStage.{block-free}
-use Rattle.adding.proofs.LinkedAddEnlarged.{Touched, enlarged}
+use Rattle.frame.proofs.GrowthConsistent.{grown-framed}
+use Rattle.bodies.specs.BufferSizes.{wrongPayload}
+use Rattle.adding.specs.LinkedAddRows.{openForAdding, linkedAddRows}
+use Rattle.adding.specs.LinkedAdd.{addedBlock, linkedAdd}
+use Rattle.adding.proofs.LinkedAddStage.{Admitted, add-clear, clear-add}
+use Rattle.adding.proofs.LinkedAddEnlarged.{Touched}
+use Rattle.adding.proofs.LinkedAddEffect.{add-code, add-admitted, add-free, add-enlarged, add-consistent}
 
-module _ {img map : List ℕ} {g : Geometry} {e : ℕ} {payload : List ℕ} (ready : Ready img map g e payload) where
-  abbrev after : List ℕ
-  after = added img g e (entryOf img g e) (addedBlock img) payload
+-- what access looks at
+same-access : (x y : Entry) (caller : ℕ) → y .uic ≡ x .uic → y .protect ≡ x .protect → y .kind ≡ x .kind → y .writer ≡ x .writer
+    → Accessed x caller Write 1 (not (openForAdding x)) → Accessed y caller Write 1 (not (openForAdding y))
+same-access x y caller uic protect kind writer a =
+    record {
+      right-given = ap (λ (u : ℕ). may Write caller u (y .protect)) uic ∙ ap (may Write caller (x .uic)) protect ∙ a .right-given;
+      kind = λ is. a .kind (sym kind ∙ is);
+      opened = ap (λ (w : ℕ). not (eqb w 2 || eqb w 3)) writer ∙ a .opened;
+    }
 
-  stated : g ≡ geometryOf img
-  stated = sym (ready .measures)
+module _ (img : List ℕ) (key : Key) (caller : ℕ) (payload : List ℕ) where
+  -- a payload of the right size, where so many blocks are free
+  pub again-accepted : (needed : ℕ) → 0 < needed → firstOf (linkedAddRows img key caller false needed) ≡ 0 → length payload ≡ payloadBytes (geometryOf img)
+      → linkedAdd img key caller payload .code ≡ 0
+  again-accepted needed positive passed whole =
+      let fits : wrongPayload img payload ≡ false = ap not (eq-eqb (length payload) (payloadBytes (geometryOf img)) whole) in
+      let r = add-clear img key caller false needed passed in
+      add-code img key caller payload ∙ rw fits (clear-add img key caller false 1 (r .0) (omega (arith, r .1)))
 
-  free : FreeBlock img (addedBlock img)
-  free = block-free (ready .right) (ready .free)
+  module _ (success : linkedAdd img key caller payload .code ≡ 0) where
+    abbrev image : List ℕ
+    image = linkedAdd img key caller payload .image
 
-  grown : Grown (Touched img g e (addedBlock img)) img after g e (addedBlock img)
-  grown =
-      enlarged img g e (addedBlock img) payload stated (ready .right)
-      (subst (Sized img) (ready .measures) (header-sized img (ready .right .header))) (ready .entry) (ready .linked) free (ready .whole) .grown
+    known : Admitted img key (wrongPayload img payload)
+    known = add-admitted img key caller payload success
 
-  framed : Framed (Only e) (Touched img g e (addedBlock img)) img after g
-  framed = grown-framed stated (ready .right) (ready .entry) (ready .linked) free grown
+    framed : Framed (Only (entryNo img key)) (Touched img (geometryOf img) (entryNo img key) (addedBlock img)) img image (geometryOf img)
+    framed =
+        grown-framed refl (known .file .right) (known .file .inside) (known .linked) (add-free img key caller payload success)
+        (add-enlarged img key caller payload success .grown)
 
-  pub again-consistent : Consistent after
-  again-consistent = grown-consistent stated (ready .right) (ready .entry) (ready .linked) free grown
+    consistent-again : Consistent image
+    consistent-again = add-consistent img key caller payload (known .file .right)
 
-  again-measures : geometryOf after ≡ g
-  again-measures = geometry-framed stated (ready .right) framed ∙ ready .measures
+    pub again-measures : geometryOf image ≡ geometryOf img
+    again-measures = geometry-framed refl (known .file .right) framed
 
-  -- the blocks of all files, by the measures that the code read
-  summed : (i : List ℕ) → Consistent i → geometryOf i ≡ g → g .bodies .0 + total (λ x. entryOf i g x .length) 0 (slots g) + freeCount i ≡ g .blocks
-  summed i right measures =
-      subst (λ (h : Geometry). h .bodies .0 + total (λ x. entryOf i h x .length) 0 (slots h) + freeCount i ≡ h .blocks) measures (sum-of-blocks right)
+    -- all words of the entry but "6 first block; 7 length in blocks; 8 last block"
+    pub again-words : (i : ℕ) → i < 16 → (i ≡ 6 → ⊥) → (i ≡ 7 → ⊥) → (i ≡ 8 → ⊥)
+        → entryWord image (geometryOf img) (entryNo img key) i ≡ entryWord img (geometryOf img) (entryNo img key) i
+    again-words = add-enlarged img key caller payload success .grown .resized .words
 
-  pub again-free : freeCount after + 1 ≡ freeCount img
-  again-free =
-      omega (
-        arith,
-        summed img (ready .right) (ready .measures),
-        summed after again-consistent again-measures,
-        total-swap (λ x. entryOf img g x .length) (λ x. entryOf after g x .length) e 0 (slots g)
-            (λ x low high other. ap (λ (y : Entry). y .length) (entry-framed stated (ready .right) framed x (omega arith) other))
-            (omega arith) (omega (arith, ready .entry)),
-        grown .size,
-      )
+    same-word : (i : ℕ) → i < 16 → (i < 6) → entryWord image (geometryOf img) (entryNo img key) i ≡ entryWord img (geometryOf img) (entryNo img key) i
+    same-word i small front = again-words i small (λ is. omega arith) (λ is. omega arith) (λ is. omega arith)
 
-  again-linked : entryOf after g e .kind ≡ 2
-  unfolding entryOf
-  again-linked = grown .resized .words 5 (omega arith) (λ is. omega (arith, is)) (λ is. omega (arith, is)) (λ is. omega (arith, is)) ∙ ready .linked
+    -- the blocks of all files, by the measures of the image before
+    summed : (i : List ℕ) → Consistent i → geometryOf i ≡ geometryOf img
+        → geometryOf img .bodies .0 + total (λ x. entryOf i (geometryOf img) x .length) 0 (slots (geometryOf img)) + freeCount i ≡ geometryOf img .blocks
+    summed i right measures =
+        subst (λ (h : Geometry). h .bodies .0 + total (λ x. entryOf i h x .length) 0 (slots h) + freeCount i ≡ h .blocks) measures (sum-of-blocks right)
 
-  pub ready-again : 1 < freeCount img → (map′ next : List ℕ) → length map′ ≡ mostBlocks → Says map′ after → length next ≡ payloadBytes g
-      → Ready after map′ g e next
-  ready-again more map′ next long says whole =
-      record {
-        right = again-consistent;
-        measures = again-measures;
-        entry = ready .entry;
-        linked = again-linked;
-        whole = whole;
-        free = omega (arith, more, again-free);
-        long = long;
-        says = says;
-      }
+    pub again-free : freeCount image + 1 ≡ freeCount img
+    again-free =
+        omega (
+          arith,
+          summed img (known .file .right) refl,
+          summed image consistent-again again-measures,
+          total-swap (λ x. entryOf img (geometryOf img) x .length) (λ x. entryOf image (geometryOf img) x .length) (entryNo img key) 0 (slots (geometryOf img))
+              (λ x low high other. ap (λ (y : Entry). y .length) (entry-framed refl (known .file .right) framed x (omega arith) other))
+              (omega arith) (omega (arith, known .file .inside)),
+          add-enlarged img key caller payload success .grown .size,
+        )
+
+    -- the entry has the key still
+    keyed-again : SameKey (keyIn (entryOf image (geometryOf img) (entryNo img key))) key
+    unfolding entryOf fileOf
+    keyed-again =
+        let k = known .file .keyed in
+        record {
+          name1 = same-word 0 (omega arith) (omega arith) ∙ k .name1;
+          name2 = same-word 1 (omega arith) (omega arith) ∙ k .name2;
+          extension = same-word 2 (omega arith) (omega arith) ∙ k .extension;
+          uic = same-word 3 (omega arith) (omega arith) ∙ k .uic;
+        }
+
+    there-again : found image key ≡ some (entryNo img key)
+    there-again =
+        found-iff consistent-again key (known .file .legal) (entryNo img key) .1 (
+          subst (λ (h : Geometry). entryNo img key < slots h) (sym again-measures) (known .file .inside),
+          subst (λ (h : Geometry). SameKey (keyIn (entryOf image h (entryNo img key))) key) (sym again-measures) keyed-again,
+        )
+
+    pub again-number : entryNo image key ≡ entryNo img key
+    again-number = number-found image key there-again
+
+    accessed-again : Accessed (fileOf img key) caller Write 1 (not (openForAdding (fileOf img key)))
+        → Accessed (entryOf image (geometryOf image) (entryNo img key)) caller Write 1 (not (openForAdding (entryOf image (geometryOf image) (entryNo img key))))
+    unfolding entryOf fileOf
+    accessed-again a =
+        subst (λ (h : Geometry). Accessed (entryOf image h (entryNo img key)) caller Write 1 (not (openForAdding (entryOf image h (entryNo img key))))) (sym again-measures)
+        (same-access (entryOf img (geometryOf img) (entryNo img key)) (entryOf image (geometryOf img) (entryNo img key)) caller
+        (same-word 3 (omega arith) (omega arith)) (same-word 4 (omega arith) (omega arith)) (same-word 5 (omega arith) (omega arith))
+        (again-words 9 (omega arith) (λ is. omega (arith, is)) (λ is. omega (arith, is)) (λ is. omega (arith, is))) a)
+
+    -- one block fewer is needed then
+    pub again-clear : (needed : ℕ) → firstOf (linkedAddRows img key caller false (needed + 1)) ≡ 0 → firstOf (linkedAddRows image key caller false needed) ≡ 0
+    again-clear needed passed =
+        let r = add-clear img key caller false (needed + 1) passed in
+        let asked = sym (asked-file image key false (consistent-iff image .1 consistent-again) (known .file .legal) refl (entryNo img key) there-again) in
+        clear-add image key caller false needed
+        (record {
+          file = asked-is-file image key false (geometryOf image) (entryNo img key) (entryOf image (geometryOf image) (entryNo img key)) asked;
+          entry = asked-entry image key false (geometryOf image) (entryNo img key) (entryOf image (geometryOf image) (entryNo img key)) asked;
+          access = accessed-again (r .0 .access);
+        })
+        (omega (arith, r .1, again-free))

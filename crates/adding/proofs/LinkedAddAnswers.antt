@@ -1,5 +1,5 @@
 -- What an answer of the stage of linked add comes to: that a block can be added, and the code, the number and the image of the request.
-use Prim.Native.Nat.{ℕ, _≤_, _<_}
+use Prim.Native.Nat.{ℕ, _+_, _≤_, _<_}
 use mathlib.Core.Path.{_≡_, refl, sym, ap, subst, _∙_}
 use mathlib.Core.Bool.{true, not}
 use mathlib.Core.List.{List, [], _∷_}
@@ -29,8 +29,8 @@ use Rattle.asking.proofs.Outcome.{done-answer, refused-answer}
 use Rattle.asking.proofs.AskedStage.{Given, stage-is-refused, stage-is-file}
 use Rattle.room.specs.declared.Run.{Run}
 use Rattle.room.specs.declared.Run.the-variants.{Start, Nowhere}
-use Rattle.room.specs.RoomMap.{Says, FreeOn, runOn, startIn}
-use Rattle.room.proofs.RoomMapRun.{run-is}
+use Rattle.room.specs.RoomMap.{Says, FreeOn, NoneFrom, runOn, startIn}
+use Rattle.room.proofs.RoomMapRun.{one-from, run-is}
 use Rattle.room.proofs.RoomMapTaken.{free-on}
 use Rattle.bodies.specs.BufferSizes.{wrongPayload}
 use Rattle.bodies.proofs.BufferSizes.{payload-fits}
@@ -39,7 +39,17 @@ use Rattle.adding.specs.LinkedAddRows.{linkedAddRows}
 use Rattle.adding.specs.LinkedAdd.{addedBlock, added, linkedAdd}
 use Rattle.adding.specs.LinkedAddStage.{Addable, Ready}
 use Rattle.adding.proofs.LinkedAddStage.{Admitted, admitted, free-block, block-free}
-use Rattle.adding.proofs.LinkedAddMap.{map-enlarged}
+use Rattle.adding.proofs.LinkedAddMap.{map-enlarged, none-enlarged}
+
+-- a file has no more blocks than the pack: a word can count one more
+pub length-few : {img : List ℕ} (e : ℕ) → Consistent img → e < slots (geometryOf img) → entryOf img (geometryOf img) e .length + 1 < 65536
+length-few {img} e right within =
+    omega (
+      arith,
+      total-has (λ i. entryOf img (geometryOf img) i .length) e 0 (slots (geometryOf img)) (omega arith) (omega (arith, within)),
+      sum-of-blocks right,
+      header-sized img (right .header) .most,
+    )
 
 -- a free block can be added to a linked file of a consistent image
 pub addable : {img : List ℕ} (e b : ℕ) (payload : List ℕ) → Consistent img → e < slots (geometryOf img) → entryOf img (geometryOf img) e .kind ≡ 2
@@ -52,24 +62,22 @@ addable {img} e b payload right within linked free whole =
       body = free .body;
       below = free .below;
       whole = whole;
-      fits =
-          omega (
-            arith,
-            total-has (λ i. entryOf img (geometryOf img) i .length) e 0 (slots (geometryOf img)) (omega arith) (omega (arith, within)),
-            sum-of-blocks right,
-            sized .most,
-          );
+      fits = length-few e right within;
       last = last-body (geometryOf img) refl right sized e within linked;
     }
 
 -- the highest free block taken: what the code found on the map, and what it asks and leaves
 module _ {img map : List ℕ} {g : Geometry} {e : ℕ} {payload : List ℕ} (ready : Ready img map g e payload) where
-  pub run-ready : (length map ≡ mostBlocks) × (g .blocks ≤ mostBlocks) × (0 < 1)
-  run-ready = (ready .long, subst (λ (h : Geometry). h .blocks ≤ mostBlocks) (ready .measures) (header-sized img (ready .right .header) .most), omega arith)
+  map-whole : g .blocks ≤ length map
+  map-whole = omega (arith, ready .long, subst (λ (h : Geometry). h .blocks ≤ mostBlocks) (ready .measures) (header-sized img (ready .right .header) .most))
 
-  module _ (run : Run) (is : startIn run ≡ runOn map (g .bodies .0) (g .blocks) 1 (g .blocks)) where
+  pub run-ready : {from : ℕ} → NoneFrom map g from → (g .blocks ≤ length map) × (from ≤ g .blocks)
+  run-ready none-free = (map-whole, none-free .within)
+
+  -- from a block from which on none is free
+  module _ {from : ℕ} (none-free : NoneFrom map g from) (run : Run) (is : startIn run ≡ runOn map (g .bodies .0) (g .blocks) 1 from) where
     sought : startIn run ≡ some (addedBlock img)
-    sought = is ∙ run-is img map (ready .says) g (ready .measures) 1 ∙ free-block (ready .right) (ready .free)
+    sought = is ∙ one-from none-free ∙ run-is img map (ready .says) g (ready .measures) 1 ∙ free-block (ready .right) (ready .free)
 
     pub never-nowhere : {A : Type 0} → run ≡ Nowhere → A
     never-nowhere told =
@@ -86,7 +94,7 @@ module _ {img map : List ℕ} {g : Geometry} {e : ℕ} {payload : List ℕ} (rea
       block-own = subst (FreeBlock img) (sym start-is) (block-free (ready .right) (ready .free))
 
       pub take-ready : (g .blocks ≤ length map) × FreeOn map g (b .0)
-      take-ready = (omega (arith, ready .long, run-ready .1), free-on (ready .says) (ready .measures) block-own)
+      take-ready = (map-whole, free-on (ready .says) (ready .measures) block-own)
 
       -- taking a block changes nothing of the image
       pub block-addable : (img′ : List ℕ) → img′ ≡ img → Addable img′ g e (b .0) payload
@@ -98,15 +106,13 @@ module _ {img map : List ℕ} {g : Geometry} {e : ℕ} {payload : List ℕ} (rea
 
       pub block-done : (img′ : List ℕ) → img′ ≡ img → (img″ : List ℕ) → img″ ≡ added img′ g e (entryOf img′ g e) (b .0) payload
           → (map′ : List ℕ) → map′ ≡ set map (b .0) 1
-          → (b .0 ≡ addedBlock img) × ((img″ ≡ added img g e (entryOf img g e) (addedBlock img) payload) × Says map′ img″)
+          → (b .0 ≡ addedBlock img) × ((img″ ≡ added img g e (entryOf img g e) (addedBlock img) payload) × (Says map′ img″ × NoneFrom map′ g (b .0)))
       block-done img′ same img″ written map′ marked =
-          let image : img″ ≡ added img g e (entryOf img g e) (b .0) payload = written ∙ ap (λ (i : List ℕ). added i g e (entryOf i g e) (b .0) payload) same in (
-            start-is,
-            (
-              image ∙ ap (λ (z : ℕ). added img g e (entryOf img g e) z payload) start-is,
-              rw (image, marked) (map-enlarged ready (b .0) block-own),
-            ),
-          )
+          let image : img″ ≡ added img g e (entryOf img g e) (addedBlock img) payload =
+          written ∙ ap (λ (i : List ℕ). added i g e (entryOf i g e) (b .0) payload) same ∙ ap (λ (z : ℕ). added img g e (entryOf img g e) z payload) start-is in
+          let says : Says map′ (added img g e (entryOf img g e) (addedBlock img) payload) =
+          rw (marked, start-is) (map-enlarged ready (addedBlock img) (block-free (ready .right) (ready .free))) in
+          (start-is, (image, (rw image says, rw start-is (none-enlarged ready map′ says))))
 
 -- what the stage's two answers say; `size` is what the payload's length is compared to
 module _ (img : List ℕ) (key : Key) (caller : ℕ) (payload : List ℕ) (size : ℕ) (stated : size ≡ payloadBytes (geometryOf img))

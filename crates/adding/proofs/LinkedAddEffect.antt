@@ -48,9 +48,9 @@ use Rattle.adding.proofs.LinkedAddStage.{Admitted, admitted, add-rows-l
 use Rattle.adding.proofs.LinkedAddEnlarged.{Touched, Enlarged, enlarged}
 
 module _ (img : List ℕ) (key : Key) (caller : ℕ) (payload : List ℕ) where
-  code-rows : linkedAdd img key caller payload .code ≡ firstOf (linkedAddRows img key caller (wrongPayload img payload) 1)
+  pub add-code : linkedAdd img key caller payload .code ≡ firstOf (linkedAddRows img key caller (wrongPayload img payload) 1)
   unfolding linkedAdd
-  code-rows = code-is (linkedAddRows img key caller (wrongPayload img payload) 1) img payload _
+  add-code = code-is (linkedAddRows img key caller (wrongPayload img payload) 1) img payload _
 
   -- "A refusal returns its code, any other number in the answer 0 .., and nothing in the image or a lent buffer changes."
   pub add-refused : (linkedAdd img key caller payload .code ≡ 0 → ⊥) → Unchanged (linkedAdd img key caller payload) (0 ∷ []) img payload
@@ -70,7 +70,7 @@ module _ (img : List ℕ) (key : Key) (caller : ℕ) (payload : List ℕ) where
 
     -- row 42 decides
     last-row : linkedAdd img key caller payload .code ≡ firstOf (row (ltb (freeCount img) 1) 0o42 ∷ [])
-    last-row = code-rows ∙ add-rows-last img key caller (wrongPayload img payload) 1 reached
+    last-row = add-code ∙ add-rows-last img key caller (wrongPayload img payload) 1 reached
 
     none-left : freeCount img < 1 → linkedAdd img key caller payload .code ≡ 0o42
     none-left few = last-row ∙ refuse [] (lt-ltb (freeCount img) 1 few)
@@ -152,11 +152,11 @@ module _ (img : List ℕ) (key : Key) (caller : ℕ) (payload : List ℕ) where
   -- the request, on success
   module _ (success : linkedAdd img key caller payload .code ≡ 0) where
     pub add-admitted : Admitted img key (wrongPayload img payload)
-    add-admitted = admitted img key caller (wrongPayload img payload) 1 (omega arith) (sym code-rows ∙ success)
+    add-admitted = admitted img key caller (wrongPayload img payload) 1 (omega arith) (sym add-code ∙ success)
 
-    image-is : linkedAdd img key caller payload .image ≡ after
+    pub add-image : linkedAdd img key caller payload .image ≡ after
     unfolding linkedAdd fileOf
-    image-is = success-image (linkedAddRows img key caller (wrongPayload img payload) 1) img payload _ (sym code-rows ∙ success)
+    add-image = success-image (linkedAddRows img key caller (wrongPayload img payload) 1) img payload _ (sym add-code ∙ success)
 
     -- "the highest free block is joined": its number is the answer's
     pub add-highest : (linkedAdd img key caller payload .numbers ≡ addedBlock img ∷ [])
@@ -164,7 +164,7 @@ module _ (img : List ℕ) (key : Key) (caller : ℕ) (payload : List ℕ) where
         × ((b : ℕ) → addedBlock img < b → FreeBlock img b → ⊥)
     unfolding linkedAdd
     add-highest = (
-      success-numbers (linkedAddRows img key caller (wrongPayload img payload) 1) img payload _ (sym code-rows ∙ success),
+      success-numbers (linkedAddRows img key caller (wrongPayload img payload) 1) img payload _ (sym add-code ∙ success),
       free-of add-admitted,
       block-highest (add-admitted .file .right) (add-admitted .more),
     )
@@ -174,17 +174,17 @@ module _ (img : List ℕ) (key : Key) (caller : ℕ) (payload : List ℕ) where
 
     pub add-enlarged : Enlarged img (linkedAdd img key caller payload .image) (geometryOf img) (entryNo img key) (addedBlock img) payload
     add-enlarged =
-        subst (λ (img′ : List ℕ). Enlarged img img′ (geometryOf img) (entryNo img key) (addedBlock img) payload) (sym image-is) (larger add-admitted)
+        subst (λ (img′ : List ℕ). Enlarged img img′ (geometryOf img) (entryNo img key) (addedBlock img) payload) (sym add-image) (larger add-admitted)
 
     -- "joined at the end"
     pub add-blocks : blocksAt (linkedAdd img key caller payload .image) (geometryOf img) (entryNo img key)
         ≡ blocksAt img (geometryOf img) (entryNo img key) ++ (addedBlock img ∷ [])
-    add-blocks = rw image-is (after-blocks add-admitted)
+    add-blocks = rw add-image (after-blocks add-admitted)
 
     pub add-payloads : payloadsOf (linkedAdd img key caller payload .image) (geometryOf img)
         (blocksAt (linkedAdd img key caller payload .image) (geometryOf img) (entryNo img key))
         ≡ payloadsOf img (geometryOf img) (blocksAt img (geometryOf img) (entryNo img key)) ++ payload
-    add-payloads = rw image-is (after-payloads add-admitted)
+    add-payloads = rw add-image (after-payloads add-admitted)
 
     pub add-payload : payloadOf (linkedAdd img key caller payload .image) (geometryOf img) (addedBlock img) ≡ payload
     add-payload = add-enlarged .own

@@ -1,10 +1,13 @@
--- How often each block is held when one was added: the added block once, any other as before. So the map that the block was marked on stays right.
-use Prim.Native.Nat.{ℕ, _+_, _<_}
+-- How often each block is held when one was added: the added block once, any other as before. So the map that the block was marked on stays right,
+-- and where it was the highest that is free, none from it on is.
+use Prim.Native.Nat.{ℕ, _+_, _≤_, _<_}
 use mathlib.Core.Path.{_≡_, sym, ap, subst}
 use mathlib.Core.List.{List, [], _∷_}
 use native.Mathlib.Omega.{arith}
+use native.Mathlib.Decide.{ℕ-discrete}
 use lib.Dec.{eqb}
-use lib.ListN.{length, set}
+use lib.ListN.{length, getD, set}
+use borrow.Author.Tests.{eq-eqb}
 use Rattle.pack.specs.declared.Geometry.{Geometry}
 use Rattle.pack.specs.Geometry.{geometryOf, payloadBytes, slots}
 use Rattle.pack.specs.GeometrySized.{Sized}
@@ -16,10 +19,11 @@ use Rattle.pack.proofs.FileCount.{count-append}
 use Rattle.pack.proofs.HeaderRules.{header-sized}
 use Rattle.frame.proofs.FramedHeld.{held-one}
 use Rattle.frame.proofs.GrowthConsistent.{grown-framed, grown-blocks}
-use Rattle.room.specs.RoomMap.{Says}
+use Rattle.room.specs.RoomMap.{Says, NoneFrom}
 use Rattle.room.proofs.RoomMapTaken.{map-added}
-use Rattle.adding.specs.LinkedAdd.{added}
+use Rattle.adding.specs.LinkedAdd.{addedBlock, added}
 use Rattle.adding.specs.LinkedAddStage.{Ready}
+use Rattle.adding.proofs.LinkedAddStage.{block-free, block-highest}
 use Rattle.adding.proofs.LinkedAddEnlarged.{enlarged}
 
 count-one : (z b : ℕ) → count z (b ∷ []) ≡ one (eqb z b)
@@ -47,3 +51,27 @@ map-enlarged {img} {map} {g} {e} {payload} ready b free =
     map-added img (added img g e (entryOf img g e) b payload) map b (ready .says)
     (omega (arith, ready .long, free .below, ap (λ (h : Geometry). h .blocks) (ready .measures), sized .most))
     (held-enlarged img g e b payload (sym (ready .measures)) (ready .right) sized (ready .entry) (ready .linked) free (ready .whole)) (free .nobody)
+
+-- the block was the highest that is free: from there on none is now
+pub none-enlarged : {img map : List ℕ} {g : Geometry} {e : ℕ} {payload : List ℕ} → Ready img map g e payload
+    → (map′ : List ℕ) → Says map′ (added img g e (entryOf img g e) (addedBlock img) payload) → NoneFrom map′ g (addedBlock img)
+none-enlarged {img} {map} {g} {e} {payload} ready map′ says =
+    record { within = omega (arith, free .below, ap (λ (h : Geometry). h .blocks) (ready .measures)); never = λ b low high nobody. by b low high nobody (ℕ-discrete b (addedBlock img)) }
+  where
+    free : FreeBlock img (addedBlock img)
+    free = block-free (ready .right) (ready .free)
+
+    held-now : (b : ℕ) → held (added img g e (entryOf img g e) (addedBlock img) payload) b ≡ held img b + one (eqb b (addedBlock img))
+    held-now =
+        held-enlarged img g e (addedBlock img) payload (sym (ready .measures)) (ready .right)
+        (subst (Sized img) (ready .measures) (header-sized img (ready .right .header))) (ready .entry) (ready .linked) free (ready .whole)
+
+    by : (b : ℕ) → addedBlock img ≤ b → b < g .blocks → getD map′ b 0 ≡ 0 → Dec (b ≡ addedBlock img) → ⊥
+    by b low high nobody (yes is) = omega (arith, says b, nobody, held-now b, ap one (eq-eqb b (addedBlock img) is))
+    by b low high nobody (no other) =
+        block-highest (ready .right) (ready .free) b (omega (arith, low, other))
+        (record {
+          body = omega (arith, free .body, low);
+          below = omega (arith, high, ap (λ (h : Geometry). h .blocks) (ready .measures));
+          nobody = omega (arith, says b, nobody, held-now b);
+        })

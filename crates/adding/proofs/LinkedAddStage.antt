@@ -141,15 +141,27 @@ module _ (img : List ℕ) (key : Key) (caller : ℕ) (wrong : Bool) (needed : �
   unfolding linkedAddRows
   add-rows-last reached = reached-rows img key wrong caller Write 1 (λ y. not (openForAdding y)) _ reached
 
-  pub admitted : 0 < needed → firstOf (linkedAddRows img key caller wrong needed) ≡ 0 → Admitted img key wrong
-  unfolding linkedAddRows fileOf
-  admitted positive passed =
+  -- no row is given: the file is there and open as needed, and enough blocks are free
+  pub add-clear : firstOf (linkedAddRows img key caller wrong needed) ≡ 0
+      → Reached img key wrong caller Write 1 (λ y. not (openForAdding y)) (geometryOf img) (entryNo img key) (fileOf img key) × (needed ≤ freeCount img)
+  unfolding linkedAddRows
+  add-clear passed =
       let r = reached-clear img key wrong caller Write 1 (λ y. not (openForAdding y)) (row (ltb (freeCount img) needed) 0o42 ∷ []) passed in
-      let f = r .0 .file in
       let crowded = none-given (ltb (freeCount img) needed) 0o42 [] (λ is. omega (arith, is)) (r .1) in
+      (r .0, ltb-false (freeCount img) needed (crowded .0))
+
+  pub clear-add : {g : Geometry} {e : ℕ} {x : Entry} → Reached img key wrong caller Write 1 (λ y. not (openForAdding y)) g e x → needed ≤ freeCount img
+      → firstOf (linkedAddRows img key caller wrong needed) ≡ 0
+  clear-add reached enough = add-rows-last reached ∙ pass 0o42 [] (le-ltb (freeCount img) needed enough) ∙ clear
+
+  pub admitted : 0 < needed → firstOf (linkedAddRows img key caller wrong needed) ≡ 0 → Admitted img key wrong
+  unfolding fileOf
+  admitted positive passed =
+      let r = add-clear passed in
+      let f = r .0 .file in
       record {
         file = f;
         linked = linked-kind img (geometryOf img) (entryNo img key) (not-empty img (geometryOf img) key (entryNo img key) (f .legal) (f .keyed))
             (ne-eqb _ 1 (r .0 .access .kind)) (f .right .entries (entryNo img key) (f .inside));
-        more = omega (arith, ltb-false (freeCount img) needed (crowded .0));
+        more = omega (arith, r .1);
       }

@@ -9,7 +9,7 @@ ghost use Rattle.pack.specs.Geometry.{payloadBytes};
 ghost use Rattle.pack.specs.Entry.{entryOf};
 ghost use Rattle.consistency.specs.ConsistentTest.{consistent};
 ghost use Rattle.asking.specs.AskedStage.{stageOf};
-ghost use Rattle.room.specs.RoomMap.{Says};
+ghost use Rattle.room.specs.RoomMap.{Says, NoneFrom};
 ghost use Rattle.adding.specs.LinkedAddRows.{openForAdding, linkedAddRows};
 ghost use Rattle.adding.specs.LinkedAdd.{blockWith, added, addedBlock, linkedAdd};
 ghost use Rattle.adding.specs.LinkedAddStage.{Addable, Ready};
@@ -86,19 +86,38 @@ pub fn add_block(img: &mut [u8], g: Geometry, e: usize, b: BlockNo, payload: &[u
     bodies::resize(img, g, e, x.first, x.length + 1, b);
 }
 
-// The highest free block taken and added to the file of entry e. Afterwards the map says how often each block is held of the new image.
+// The highest free block taken and added to the file of entry e, sought below a block from which on none is free; then none is from the added one on.
+// Afterwards the map says how often each block is held of the new image.
+pub fn add_below(
+    img: &mut [u8],
+    map: &mut [u8],
+    g: Geometry,
+    e: usize,
+    from: BlockNo,
+    payload: &[u8],
+) -> BlockNo
+    requires { ⌜ Ready (now img) (now map) g e (now payload) ⌝ }
+    requires { ⌜ NoneFrom (now map) g (from .0) ⌝ }
+    ensures { λ r. ⌜ r .0 ≡ addedBlock (now (img .entry)) ⌝ }
+    ensures { λ r. ⌜ now (img .exit) ≡ added (now (img .entry)) g e (entryOf (now (img .entry)) g e) (addedBlock (now (img .entry))) (now (payload .entry)) ⌝ }
+    ensures { λ r. ⌜ Says (now (map .exit)) (now (img .exit)) ⌝ }
+    ensures { λ r. ⌜ NoneFrom (now (map .exit)) g (r .0) ⌝ }
+{
+    let Run::Start(b) = room::highest_below(map, g, from) else {
+        return BlockNo(0);
+    };
+    room::take_block(img, map, g, b);
+    add_block(img, g, e, b, payload);
+    b
+}
+
 pub fn add_highest(img: &mut [u8], map: &mut [u8], g: Geometry, e: usize, payload: &[u8]) -> BlockNo
     requires { ⌜ Ready (now img) (now map) g e (now payload) ⌝ }
     ensures { λ r. ⌜ r .0 ≡ addedBlock (now (img .entry)) ⌝ }
     ensures { λ r. ⌜ now (img .exit) ≡ added (now (img .entry)) g e (entryOf (now (img .entry)) g e) (addedBlock (now (img .entry))) (now (payload .entry)) ⌝ }
     ensures { λ r. ⌜ Says (now (map .exit)) (now (img .exit)) ⌝ }
 {
-    let Run::Start(b) = room::highest_run(map, g, Blocks(1)) else {
-        return BlockNo(0);
-    };
-    room::take_block(img, map, g, b);
-    add_block(img, g, e, b, payload);
-    b
+    add_below(img, map, g, e, BlockNo(g.blocks), payload)
 }
 
 pub fn linked_add(img: &mut [u8], key: Key, caller: usize, payload: &[u8]) -> Answer

@@ -67,17 +67,17 @@ unfolding findFrom
 find-end img g key e t over = let none-left : t - e ≡ 0 = omega arith in ap (findFrom img g key e) none-left
 
 -- what was found has the key
-pub record FoundAt (img : List ℕ) (g : Geometry) (key : Key) (e k i : ℕ) : Type 0 where
+pub record KeyFound (img : List ℕ) (g : Geometry) (key : Key) (e k i : ℕ) : Type 0 where
   pub low : e ≤ i
   pub high : i < e + k
   pub keyed : SameKey (keyIn (entryOf img g i)) key
 
-pub found-keyed : (img : List ℕ) (g : Geometry) (key : Key) (e k i : ℕ) → findFrom img g key e k ≡ some i → FoundAt img g key e k i
+pub found-keyed : (img : List ℕ) (g : Geometry) (key : Key) (e k i : ℕ) → findFrom img g key e k ≡ some i → KeyFound img g key e k i
 unfolding findFrom
 found-keyed img g key e zero i is = let z : _≡_ {A = ℕ} 0 1 = cc in absurd (omega arith)
 found-keyed img g key e (suc k) i is = by (sameKey (keyIn (entryOf img g e)) key) refl (found-keyed img g key (e + 1) k i)
   where
-    by : (b : Bool) → sameKey (keyIn (entryOf img g e)) key ≡ b → (findFrom img g key (e + 1) k ≡ some i → FoundAt img g key (e + 1) k i) → FoundAt img g key e (suc k) i
+    by : (b : Bool) → sameKey (keyIn (entryOf img g e)) key ≡ b → (findFrom img g key (e + 1) k ≡ some i → KeyFound img g key (e + 1) k i) → KeyFound img g key e (suc k) i
     by true m later =
         let at : _≡_ {A = Option ℕ} (some e) (some i) = rw m at is in
         let same : e ≡ i = cc in

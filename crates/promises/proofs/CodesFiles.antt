@@ -36,19 +36,22 @@ use Rattle.appending.specs.Appnd.{appnd}
 use Rattle.requests.specs.Request.{OPEN, CLOSE, DELET, APPND, LOOK, KEEP, OWNER}
 use Rattle.promises.specs.GivenWhen.{Case, behind, GivesCode}
 use Rattle.promises.specs.Codes.{LegalKey, Exists, NoMode, FileCases, RenamCases, casesOf}
-use Rattle.promises.proofs.GivenWhen.{denied, rung, passed, clear}
+use Rattle.promises.proofs.GivenWhen.{fails, denied, rung, passed, clear}
 use Rattle.promises.proofs.CodesTests.{equal-numbers, above, at-least, denies, no-argument, inconsistent, illegal, mode-iff, one-key, absent-key, present-key, lacks-right, as-iff}
 
 -- the rows that all requests on a file share
-module _ (img : List ℕ) (key : Key) (wrong : Bool) (Wrong : Type 0) (decides : wrong ≡ true ↔ Wrong) (more : List Row) (own : List Case)
-    (rest : Consistent img → GivesCode own (firstOf more)) where
-  pub file-code : GivesCode (FileCases img key Wrong ++ own) (firstOf (fileRows img key wrong ++ more))
+module _ (img : List ℕ) (key : Key) (wrong : Bool) (Wrong : Type 0) (decides : wrong ≡ true ↔ Wrong) (more : List Row) (own : List Case) where
+  pub argued-code : (Consistent img → (Wrong → ⊥) → GivesCode own (firstOf more)) → GivesCode (FileCases img key Wrong ++ own) (firstOf (fileRows img key wrong ++ more))
   unfolding fileRows
-  file-code =
+  argued-code rest =
       rung _ 0o40 _ (inconsistent img) (λ c.
       rung _ 0o15 _ (illegal key) (λ l.
       rung _ 0o41 _ decides (λ w.
-      rung _ 0o2 _ (absent-key (consistent-iff img .0 (not-false _ c)) key (not-false _ l)) (λ f. rest (consistent-iff img .0 (not-false _ c))))))
+      rung _ 0o2 _ (absent-key (consistent-iff img .0 (not-false _ c)) key (not-false _ l))
+      (λ f. rest (consistent-iff img .0 (not-false _ c)) (fails wrong decides w)))))
+
+  pub file-code : (Consistent img → GivesCode own (firstOf more)) → GivesCode (FileCases img key Wrong ++ own) (firstOf (fileRows img key wrong ++ more))
+  file-code rest = argued-code (λ right good. rest right)
 
 -- a file with nothing against it at these rows
 pub file-behind : {img : List ℕ} {key : Key} {Wrong : Type 0} (own : List Case) {code : ℕ} → Consistent img → LegalKey key → (Wrong → ⊥) → Exists img key

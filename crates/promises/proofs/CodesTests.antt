@@ -58,6 +58,10 @@ either true b first second = (λ t. inl (first .0 refl), λ x. refl)
 either false true first second = (λ t. inr (second .0 refl), λ x. refl)
 either false false first second = (λ never. true-not-false (sym never), λ x. ⊎-elim (first .1) (second .1) x)
 
+pub one-alone : {A : Type 0} (a : Bool) → a ≡ true ↔ A → a || false ≡ true ↔ A
+one-alone true first = first
+one-alone false first = first
+
 -- a request that has no argument of its own
 pub no-argument : false ≡ true ↔ ⊥
 no-argument = (λ never. true-not-false (sym never), λ never. absurd never)

@@ -21,3 +21,21 @@ pub use Rattle.transfer.proofs.BlockWritten.{block-out-inside}
 pub use Rattle.transfer.proofs.BlockAgain.{block-again}
 -- linked add: the highest free block, joined at the end, its payload behind the others
 pub use Rattle.adding.proofs.LinkedAddEffect.{add-highest, add-blocks, add-payloads}
+-- lines, document 02 §1. Reading: from the position on, one of three results; what is laid, counted and passed; to the end of the file, call after call
+pub use Rattle.requests.proofs.RequestDone.{line-read-done}
+pub use Rattle.lines.proofs.LineReadingProgress.{line-read-most, line-read-grows}
+pub use Rattle.lines.proofs.LineReadCases.{found-case}
+pub use Rattle.lines.proofs.LineReadProgress.{passed-most, passed-some, laid-length, normal-count, special-count, found-empty}
+pub use Rattle.lines.proofs.LineReadKept.{special-laid, read-count}
+pub use Rattle.lines.proofs.ReadOn.{read-on-ends, special-joined, counts-added}
+-- writing: the payloads and the gathered bytes go on with what is put, no byte lost or added; the highest free blocks are taken; bytes not laid over stay
+pub use Rattle.requests.proofs.RequestDone.{line-write-stream}
+pub use Rattle.requests.proofs.Taken.{line-write-taken, line-end-taken}
+pub use Rattle.lines.proofs.LineWritingEffect.{line-write-numbers, line-write-filled, line-write-stays}
+-- ending: the last block is filled with NUL, and at 0 nothing changes
+pub use Rattle.lines.proofs.LineWritingEnding.{line-end-payloads, line-end-buffer, line-end-nothing}
+-- lines that are put read back the same
+pub use Rattle.lines.proofs.LineRoundTrip.{lines-read-back}
+pub use Rattle.lines.proofs.LineRoundTripWritten.{line-taken, line-whole, line-status}
+-- written by any calls, ended, closed, opened and read: any call goes on, and the writing can be finished (`lines-round-trip` is in Main.antt)
+pub use Rattle.promises.proofs.LinesAgainAccepted.{lines-accepted, lines-go-on, lines-finish}

@@ -10,10 +10,17 @@ pub mod CodesTests
 pub mod CodesFiles
 pub mod CodesCreation
 pub mod CodesBlocks
+pub mod CodesLines
 pub mod Codes
 pub mod CodesRoom
 pub mod AddedAgainStored
 pub mod AddedAgain
+pub mod LinesAgainLaid
+pub mod LinesAgainCalls
+pub mod LinesAgainHeld
+pub mod LinesAgainRead
+pub mod LinesAgainAccepted
+pub mod LinesAgain
 pub mod Commands
 pub mod CommandCodes
 pub mod Effects

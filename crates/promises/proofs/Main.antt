@@ -3,7 +3,7 @@ use Prim.Native.Nat.{ℕ, _+_, _*_, _≤_, _<_}
 use mathlib.Core.Path.{_≡_}
 use mathlib.Core.Logic.{_↔_, _⊎_}
 use mathlib.Core.Bool.{true}
-use mathlib.Core.List.{List, [], _∷_, _++_}
+use mathlib.Core.List.{List, [], _∷_, flatten}
 use mathlib.Core.Option.{none, some}
 use native.Mathlib.Omega.{arith}
 use lib.ListN.{length, getD, take, replicate}
@@ -31,7 +31,6 @@ use Rattle.pack.specs.Untouched.{Untouched}
 use Rattle.consistency.specs.ConsistentTest.{consistent}
 use Rattle.consistency.proofs.ConsistentTestIff.{consistent-iff}
 use Rattle.asking.specs.declared.Right.{Right}
-use Rattle.asking.specs.declared.Right.the-variants.{Write}
 use Rattle.asking.specs.Outcome.{Unchanged}
 use Rattle.asking.specs.KeysTest.{legalKey, found}
 use Rattle.asking.specs.Asked.{fileOf}
@@ -53,6 +52,7 @@ use Rattle.creation.proofs.FormatRows.{format-iff}
 use Rattle.creation.proofs.FormatEffect.{format-consistent, format-free}
 use Rattle.transfer.specs.LinkedRead.{linkedRead}
 use Rattle.adding.specs.LinkedAdd.{linkedAdd}
+use Rattle.lines.specs.LineWriting.{lineWrite, lineEnd}
 use Rattle.command_grammar.specs.Parsed.{Parsed}
 use Rattle.command_grammar.specs.Grammar.{Command}
 use Rattle.command_grammar.specs.Reading.{Reading, Reads, sideOf}
@@ -75,13 +75,20 @@ use Rattle.requests.specs.Changes.{MayChange}
 use Rattle.requests.proofs.Changes
 use Rattle.promises.specs.Measures.{DocumentHeader, DocumentMeasures}
 use Rattle.promises.specs.GivenWhen.{GivesCode, InTableOrder}
-use Rattle.promises.specs.Codes.{FileCases, CreatingCases, AccessCases, OtherPayload, casesOf}
+use Rattle.promises.specs.Codes.{CreatingCases, AddingCases, OtherPayload, OtherGather, NoLineMode, fullBlocks, casesOf}
 use Rattle.promises.specs.CommandCodes.{Csi1Cases, Csi2Cases}
 use Rattle.promises.specs.AddedAgain.{openedImage}
 use Rattle.promises.specs.Refused.{NotRadix, NotWord, TooLarge, NotNumeral}
 use Rattle.promises.specs.Conversions.{NumberDemands, CharactersDemands, InverseDemands}
 use Rattle.promises.specs.Examples.{Examples}
 use Rattle.promises.proofs.Examples as Shown
+use Rattle.opening.specs.declared.Opening.the-variants.{Input}
+use Rattle.opening.specs.Open.{opened}
+use Rattle.opening.specs.Close.{close}
+use Rattle.lines.specs.LineWrite.{putAll}
+use Rattle.lines.specs.LineRoundTrip.{TextLines}
+use Rattle.promises.specs.LinesAgain.{WrittenBy, reopened, ReadAgain}
+use Rattle.promises.proofs.LinesAgain
 use Rattle.promises.proofs.Measures
 use Rattle.promises.proofs.Codes
 use Rattle.promises.proofs.CodesRoom
@@ -195,6 +202,18 @@ add-again = AddedAgain.add-again
 pub document-header : (long form n c u : ℕ) → Measured long form n c u ↔ DocumentHeader long form n c u
 document-header = Measures.document-header
 
+-- 02 §1: lines that are written by any calls, ended, closed and opened for input are read back the same; every code is 0, and any call goes on
+-- (`lines-accepted`, `lines-go-on`, `lines-finish`, LinesAgainAccepted.antt)
+module _ (img : List ℕ) (key : Key) (caller : ℕ) (gather : List ℕ) (clear : GivesCode (AddingCases img key caller (OtherPayload img gather)) 0)
+    {lines : List (List ℕ)} (all : TextLines lines) (room : length (putAll (flatten lines)) ≤ freeCount img * payloadBytes (geometryOf img))
+    {img′ gather′ : List ℕ} {filled′ : ℕ} (written : WrittenBy key caller img gather 0 (flatten lines) img′ gather′ filled′ []) where
+  pub lines-round-trip : (lineEnd img′ key caller gather′ filled′ .code ≡ 0)
+      × (close (lineEnd img′ key caller gather′ filled′ .image) key (fileOf img key .writer) .code ≡ 0)
+      × (opened Input (close (lineEnd img′ key caller gather′ filled′ .image) key (fileOf img key .writer) .image) key caller .code ≡ 0)
+      × ReadAgain (reopened (lineEnd img′ key caller gather′ filled′ .image) key (fileOf img key .writer) caller) key caller
+      (fileOf img key .length * payloadBytes (geometryOf img)) lines
+  lines-round-trip = LinesAgain.lines-round-trip img key caller gather clear all room written
+
 -- Format makes a consistent pack of any image, whose bodies are all free
 module _ (image : List ℕ) (form blocks contents : ℕ) (uics : List ℕ) (right : Formattable (length image) form blocks contents uics) where
   pub format-makes : Consistent (formatted image form blocks contents uics)
@@ -245,14 +264,28 @@ module _ (img : List ℕ) (key : Key) (caller protect segments : ℕ) (clear : G
   pub room-given : (s : ℕ) → FreeRun img (lengthFor img segments) s → alloc img key caller protect segments .code ≡ 0
   room-given = CodesRoom.room-given img key caller protect segments clear
 
-module _ (img : List ℕ) (key : Key) (caller : ℕ) (payload : List ℕ)
-    (clear : GivesCode (FileCases img key (OtherPayload img payload)
-    ++ AccessCases Write 1 ((fileOf img key .writer ≡ 2) ⊎ (fileOf img key .writer ≡ 3)) (fileOf img key) caller) 0) where
+module _ (img : List ℕ) (key : Key) (caller : ℕ) (payload : List ℕ) (clear : GivesCode (AddingCases img key caller (OtherPayload img payload)) 0) where
   pub block-refused : linkedAdd img key caller payload .code ≡ 0o42 ↔ ((b : ℕ) → FreeBlock img b → ⊥)
   block-refused = CodesRoom.block-refused img key caller payload clear
 
   pub block-given : (b : ℕ) → FreeBlock img b → linkedAdd img key caller payload .code ≡ 0
   block-given = CodesRoom.block-given img key caller payload clear
+
+-- document 02 §1: a write needs as many blocks as become full, an ending call one, or none at 0
+module _ (img : List ℕ) (key : Key) (caller mode : ℕ) (text gather : List ℕ) (filled : ℕ)
+    (clear : GivesCode (AddingCases img key caller (OtherGather img gather filled ⊎ NoLineMode mode)) 0) where
+  pub lines-refused : lineWrite img key caller mode text gather filled .code ≡ 0o42 ↔ freeCount img < fullBlocks img filled mode text
+  lines-refused = CodesRoom.lines-refused img key caller mode text gather filled clear
+
+  pub lines-given : fullBlocks img filled mode text ≤ freeCount img → lineWrite img key caller mode text gather filled .code ≡ 0
+  lines-given = CodesRoom.lines-given img key caller mode text gather filled clear
+
+module _ (img : List ℕ) (key : Key) (caller : ℕ) (gather : List ℕ) (filled : ℕ) (clear : GivesCode (AddingCases img key caller (OtherGather img gather filled)) 0) where
+  pub ending-refused : lineEnd img key caller gather filled .code ≡ 0o42 ↔ ((0 < filled) × ((b : ℕ) → FreeBlock img b → ⊥))
+  ending-refused = CodesRoom.ending-refused img key caller gather filled clear
+
+  pub ending-given : (filled ≡ 0) ⊎ ((b : ℕ) × FreeBlock img b) → lineEnd img key caller gather filled .code ≡ 0
+  ending-given = CodesRoom.ending-given img key caller gather filled clear
 
 -- 2.4 "Radix-50 and number conversions are right, packing as well as unpacking."
 pub radpk-right : (s : List ℕ) → length s ≡ 3 → (a b c : ℕ) → codeOf (getD s 0 0) ≡ some a → codeOf (getD s 1 0) ≡ some b → codeOf (getD s 2 0) ≡ some c

@@ -1,6 +1,6 @@
 -- When each code is given, in the paper's propositions: "What cannot be done is refused with the code that the build document orders first".
 -- The cases of a request stand as in the paper's table, row under row.
-use Prim.Native.Nat.{ℕ, _≤_, _<_}
+use Prim.Native.Nat.{ℕ, _+_, _*_, _/_, _≤_, _<_}
 use mathlib.Core.Path.{_≡_}
 use mathlib.Core.Logic.{_⊎_}
 use mathlib.Core.List.{List, [], _∷_, _++_}
@@ -12,7 +12,7 @@ use Rattle.pack.specs.Geometry.{geometryOf, slots, blockBytes, payloadBytes}
 use Rattle.pack.specs.Header.{Listed}
 use Rattle.pack.specs.Entry.{entryOf, Empty}
 use Rattle.pack.specs.Consistent.{Consistent}
-use Rattle.pack.specs.Owner.{FreeBlock}
+use Rattle.pack.specs.Owner.{FreeBlock, freeCount}
 use Rattle.pack.specs.Key.{keyIn, SameKey}
 use Rattle.asking.specs.declared.Right.{Right}
 use Rattle.asking.specs.declared.Right.the-variants.{Delete, Read, Write}
@@ -24,7 +24,10 @@ use Rattle.creation.specs.Rounding.{lengthFor}
 use Rattle.room.specs.Room.{FreeRun}
 use Rattle.opening.specs.declared.Opening.the-variants.{Input, Update, Extension}
 use Rattle.directory.specs.Renam.{newKey}
-use Rattle.requests.specs.Request.{Request, FORMAT, ALLOC, OPENO, OPEN, CLOSE, DELET, RENAM, APPND, LOOK, KEEP, BLOCK-INPUT, BLOCK-OUTPUT, LINKED-READ, LINKED-ADD, OWNER}
+use Rattle.lines.specs.LineReading.{modeOf}
+use Rattle.lines.specs.LineWrite.{putAll, takenOf}
+use Rattle.requests.specs.Request.{Request, FORMAT, ALLOC, OPENO, OPEN, CLOSE, DELET, RENAM, APPND, LOOK, KEEP, BLOCK-INPUT, BLOCK-OUTPUT, LINKED-READ, LINKED-ADD}
+use Rattle.requests.specs.Request.{LINE-READ, LINE-WRITE, LINE-END, OWNER}
 use Rattle.promises.specs.GivenWhen.{Case, _when_}
 
 -- "A legal name is ..; an extension .."
@@ -103,6 +106,23 @@ OtherBlock img buffer = length buffer ≡ blockBytes (geometryOf img) → ⊥
 abbrev pub OtherPayload : List ℕ → List ℕ → Type 0
 OtherPayload img buffer = length buffer ≡ payloadBytes (geometryOf img) → ⊥
 
+-- "Linked add: .. write right, writer 2 or 3": what speaks against adding to a file, but for the room
+abbrev pub AddingCases : List ℕ → Key → ℕ → Type 0 → List Case
+AddingCases img key caller Wrong =
+    FileCases img key Wrong ++ AccessCases Write 1 ((fileOf img key .writer ≡ 2) ⊎ (fileOf img key .writer ≡ 3)) (fileOf img key) caller
+
+-- document 02 §1: "the formatted ASCII normal and special modes", 0 and 1
+abbrev pub NoLineMode : ℕ → Type 0
+NoLineMode mode = 1 < mode
+
+-- "a lent 510-byte buffer, whose filled count of 0 to 509 is passed in"; "41 also for .. a filled count over 509"
+abbrev pub OtherGather : List ℕ → List ℕ → ℕ → Type 0
+OtherGather img gather filled = OtherPayload img gather ⊎ (payloadBytes (geometryOf img) ≤ filled)
+
+-- how many blocks become full: what is written goes behind what is filled already
+abbrev pub fullBlocks : List ℕ → ℕ → ℕ → List ℕ → ℕ
+fullBlocks img filled mode text = (filled + length (putAll (takenOf (modeOf mode) text))) / payloadBytes (geometryOf img)
+
 -- the cases of each request
 abbrev pub casesOf : Request → List ℕ → List Case
 -- "41 unless the image is 512n bytes and n, c, UICs are as above"
@@ -164,8 +184,17 @@ casesOf (LINKED-READ key caller place buffer) img =
     ++ AccessCases Read 1 (0 < fileOf img key .readers) (fileOf img key) caller ++ 0o44 when (fileOf img key .length ≤ place) ∷ []
 -- "Linked add: payload of 510, write right, writer 2 or 3"; "42: no free block"
 casesOf (LINKED-ADD key caller payload) img =
-    FileCases img key (OtherPayload img payload)
-    ++ AccessCases Write 1 ((fileOf img key .writer ≡ 2) ⊎ (fileOf img key .writer ≡ 3)) (fileOf img key) caller
-    ++ 0o42 when ((b : ℕ) → FreeBlock img b → ⊥) ∷ []
+    AddingCases img key caller (OtherPayload img payload) ++ 0o42 when ((b : ℕ) → FreeBlock img b → ⊥) ∷ []
+-- 02 §1: "Refusals: those of linked read and add; 41 also for a maximum count of 0 ..; 44 for a position beyond the payloads.", which are 510 bytes each, joined
+casesOf (LINE-READ key caller mode position buffer) img =
+    FileCases img key ((length buffer ≡ 0) ⊎ NoLineMode mode)
+    ++ AccessCases Read 1 (0 < fileOf img key .readers) (fileOf img key) caller
+    ++ 0o44 when (fileOf img key .length * payloadBytes (geometryOf img) < position) ∷ []
+-- "A write whose full blocks have no room is refused whole."
+casesOf (LINE-WRITE key caller mode text gather filled) img =
+    AddingCases img key caller (OtherGather img gather filled ⊎ NoLineMode mode) ++ 0o42 when (freeCount img < fullBlocks img filled mode text) ∷ []
+-- "an ending call fills the last with NUL, or adds none at 0"
+casesOf (LINE-END key caller gather filled) img =
+    AddingCases img key caller (OtherGather img gather filled) ++ 0o42 when ((0 < filled) × ((b : ℕ) → FreeBlock img b → ⊥)) ∷ []
 -- whose a block is: 40, and 44 where the pack has no such block (docs/DECISIONS.md 22)
 casesOf (OWNER block) img = 0o40 when (Consistent img → ⊥) ∷ 0o44 when (geometryOf img .blocks ≤ block) ∷ []

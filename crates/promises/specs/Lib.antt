@@ -7,3 +7,4 @@ pub mod GivenWhen
 pub mod Codes
 pub mod CommandCodes
 pub mod AddedAgain
+pub mod LinesAgain

@@ -6,12 +6,15 @@ use native.Mathlib.Omega.{arith}
 use lib.ListN.{length, getD}
 use Rattle.words.specs.Word.{wordAt}
 use Rattle.frame.proofs.EntrySame.{word-same}
-use Rattle.requests.specs.Request.{Request, outcome, FORMAT, ALLOC, OPENO, OPEN, CLOSE, DELET, RENAM, APPND, LOOK, KEEP, BLOCK-INPUT, BLOCK-OUTPUT, LINKED-READ, LINKED-ADD, OWNER}
+use Rattle.lines.proofs.LineReadingStage.{line-read-image}
+use Rattle.requests.specs.Request.{Request, outcome, FORMAT, ALLOC, OPENO, OPEN, CLOSE, DELET, RENAM, APPND, LOOK, KEEP, BLOCK-INPUT, BLOCK-OUTPUT, LINKED-READ, LINKED-ADD}
+use Rattle.requests.specs.Request.{LINE-READ, LINE-WRITE, LINE-END, OWNER}
 use Rattle.requests.specs.Changes.{MayChange}
 use Rattle.requests.proofs.RequestAsking.{look-image, owner-image, block-input-image, linked-read-image}
 use Rattle.requests.proofs.ChangesWritten.{ChangesOnly, changes-nothing}
 use Rattle.requests.proofs.ChangesEntries.{alloc-changes, openo-changes, open-changes, close-changes, delet-changes, keep-changes, renam-changes}
 use Rattle.requests.proofs.ChangesBodies.{format-changes, appnd-changes, block-output-changes, linked-add-changes}
+use Rattle.requests.proofs.ChangesLines.{line-write-changes, line-end-changes}
 
 -- the image is as it was
 kept-changes : {May : ℕ → Type 0} {img after : List ℕ} → after ≡ img → ChangesOnly May img after
@@ -32,6 +35,9 @@ changes-only (BLOCK-INPUT key caller place buffer) img = kept-changes (block-inp
 changes-only (BLOCK-OUTPUT key caller place buffer) img = block-output-changes img key caller place buffer
 changes-only (LINKED-READ key caller place buffer) img = kept-changes (linked-read-image img key caller place buffer)
 changes-only (LINKED-ADD key caller payload) img = linked-add-changes img key caller payload
+changes-only (LINE-READ key caller mode position buffer) img = kept-changes (line-read-image img key caller mode position buffer)
+changes-only (LINE-WRITE key caller mode text gather filled) img = line-write-changes img key caller mode text gather filled
+changes-only (LINE-END key caller gather filled) img = line-end-changes img key caller gather filled
 changes-only (OWNER block) img = kept-changes (owner-image img block)
 
 -- every other word is the same,

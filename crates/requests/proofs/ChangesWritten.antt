@@ -27,6 +27,10 @@ pub record ChangesOnly (May : ℕ → Type 0) (img img′ : List ℕ) : Type 0 w
   pub long : length img′ ≡ length img
   pub bytes : (k : ℕ) → (May (k / 2) → ⊥) → getD img′ k 0 ≡ getD img k 0
 
+-- what may change less may change more
+pub changes-wider : {Few May : ℕ → Type 0} {img img′ : List ℕ} → ((w : ℕ) → Few w → May w) → ChangesOnly Few img img′ → ChangesOnly May img img′
+changes-wider wider only = record { long = only .long; bytes = λ k never. only .bytes k (λ few. never (wider (k / 2) few)) }
+
 module _ {May : ℕ → Type 0} where
   pub changes-nothing : {img : List ℕ} → ChangesOnly May img img
   changes-nothing = record { long = refl; bytes = λ k never. refl }

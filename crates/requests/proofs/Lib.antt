@@ -1,11 +1,14 @@
 -- What holds of every request on an image, one theorem each.
 pub mod RequestAsking
 pub mod RequestFormat
+pub mod RequestDone
+pub mod Taken
 pub mod RequestConsistent
 pub mod RequestRefused
 pub mod RequestUntouched
 pub mod ChangesWritten
 pub mod ChangesEntries
 pub mod ChangesBodies
+pub mod ChangesLines
 pub mod Changes
 pub mod ContractSingle

@@ -15,7 +15,11 @@ use Rattle.directory.proofs.RenamEffect.{renam-consistent}
 use Rattle.transfer.proofs.BlockWritten.{block-out-consistent}
 use Rattle.appending.proofs.AppndEffect.{appnd-consistent}
 use Rattle.adding.proofs.LinkedAddEffect.{add-consistent}
-use Rattle.requests.specs.Request.{Request, outcome, FORMAT, ALLOC, OPENO, OPEN, CLOSE, DELET, RENAM, APPND, LOOK, KEEP, BLOCK-INPUT, BLOCK-OUTPUT, LINKED-READ, LINKED-ADD, OWNER}
+use Rattle.lines.proofs.LineReadingStage.{line-read-image}
+use Rattle.lines.proofs.LineWritingEffect.{line-write-consistent}
+use Rattle.lines.proofs.LineWritingEnding.{line-end-consistent}
+use Rattle.requests.specs.Request.{Request, outcome, FORMAT, ALLOC, OPENO, OPEN, CLOSE, DELET, RENAM, APPND, LOOK, KEEP, BLOCK-INPUT, BLOCK-OUTPUT, LINKED-READ, LINKED-ADD}
+use Rattle.requests.specs.Request.{LINE-READ, LINE-WRITE, LINE-END, OWNER}
 use Rattle.requests.proofs.RequestFormat.{format-by}
 use Rattle.requests.proofs.RequestAsking.{look-image, owner-image, block-input-image, linked-read-image}
 
@@ -40,4 +44,7 @@ stays-consistent (BLOCK-INPUT key caller place buffer) {img} right = kept-right 
 stays-consistent (BLOCK-OUTPUT key caller place buffer) {img} right = block-out-consistent img key caller place buffer right
 stays-consistent (LINKED-READ key caller place buffer) {img} right = kept-right (linked-read-image img key caller place buffer) right
 stays-consistent (LINKED-ADD key caller payload) {img} right = add-consistent img key caller payload right
+stays-consistent (LINE-READ key caller mode position buffer) {img} right = kept-right (line-read-image img key caller mode position buffer) right
+stays-consistent (LINE-WRITE key caller mode text gather filled) {img} right = line-write-consistent img key caller mode text gather filled right
+stays-consistent (LINE-END key caller gather filled) {img} right = line-end-consistent img key caller gather filled right
 stays-consistent (OWNER block) {img} right = kept-right (owner-image img block) right

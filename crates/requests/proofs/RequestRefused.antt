@@ -27,9 +27,12 @@ use Rattle.transfer.proofs.BlockOutput.{block-out-refused}
 use Rattle.transfer.proofs.LinkedReadStage.{linked-read-refused}
 use Rattle.appending.proofs.AppndEffect.{appnd-refused}
 use Rattle.adding.proofs.LinkedAddEffect.{add-refused}
+use Rattle.lines.proofs.LineReadingStage.{line-read-refused}
+use Rattle.lines.proofs.LineWritingEffect.{line-write-refused}
+use Rattle.lines.proofs.LineWritingEnding.{line-end-refused}
 use Rattle.requests.specs.Contract.{numbersIn, contractOf}
 use Rattle.requests.specs.Request.{Request, outcome, bufferLent, FORMAT, ALLOC, OPENO, OPEN, CLOSE}
-use Rattle.requests.specs.Request.{DELET, RENAM, APPND, LOOK, KEEP, BLOCK-INPUT, BLOCK-OUTPUT, LINKED-READ, LINKED-ADD, OWNER}
+use Rattle.requests.specs.Request.{DELET, RENAM, APPND, LOOK, KEEP, BLOCK-INPUT, BLOCK-OUTPUT, LINKED-READ, LINKED-ADD, LINE-READ, LINE-WRITE, LINE-END, OWNER}
 
 look-unchanged : (img : List ℕ) (key : Key) → (look img key .code ≡ 0 → ⊥) → Unchanged (look img key) (replicate 6 0) img []
 unfolding look
@@ -63,4 +66,7 @@ refusal-leaves (BLOCK-INPUT key caller place buffer) img = block-in-refused img 
 refusal-leaves (BLOCK-OUTPUT key caller place buffer) img = block-out-refused img key caller place buffer
 refusal-leaves (LINKED-READ key caller place buffer) img = linked-read-refused img key caller place buffer
 refusal-leaves (LINKED-ADD key caller payload) img = add-refused img key caller payload
+refusal-leaves (LINE-READ key caller mode position buffer) img = line-read-refused img key caller mode position buffer
+refusal-leaves (LINE-WRITE key caller mode text gather filled) img = line-write-refused img key caller mode text gather filled
+refusal-leaves (LINE-END key caller gather filled) img = line-end-refused img key caller gather filled
 refusal-leaves (OWNER block) img = owner-unchanged img block

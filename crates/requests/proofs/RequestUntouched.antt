@@ -18,7 +18,11 @@ use Rattle.directory.proofs.RenamEffect.{renam-untouched}
 use Rattle.transfer.proofs.BlockWritten.{block-out-untouched}
 use Rattle.appending.proofs.AppndEffect.{appnd-untouched}
 use Rattle.adding.proofs.LinkedAddEffect.{add-untouched}
-use Rattle.requests.specs.Request.{Request, outcome, Names, FORMAT, ALLOC, OPENO, OPEN, CLOSE, DELET, RENAM, APPND, LOOK, KEEP, BLOCK-INPUT, BLOCK-OUTPUT, LINKED-READ, LINKED-ADD, OWNER}
+use Rattle.lines.proofs.LineReadingStage.{line-read-image}
+use Rattle.lines.proofs.LineWritingEffect.{line-write-untouched}
+use Rattle.lines.proofs.LineWritingEnding.{line-end-untouched}
+use Rattle.requests.specs.Request.{Request, outcome, Names, FORMAT, ALLOC, OPENO, OPEN, CLOSE, DELET, RENAM, APPND, LOOK, KEEP, BLOCK-INPUT, BLOCK-OUTPUT, LINKED-READ, LINKED-ADD}
+use Rattle.requests.specs.Request.{LINE-READ, LINE-WRITE, LINE-END, OWNER}
 use Rattle.requests.proofs.RequestAsking.{look-image, owner-image, block-input-image, linked-read-image}
 
 -- the image is as it was
@@ -43,4 +47,7 @@ who-is-not-named (BLOCK-INPUT key caller place buffer) {img} right who apart = k
 who-is-not-named (BLOCK-OUTPUT key caller place buffer) {img} right who apart = block-out-untouched img key caller place buffer who apart
 who-is-not-named (LINKED-READ key caller place buffer) {img} right who apart = kept-untouched who (linked-read-image img key caller place buffer)
 who-is-not-named (LINKED-ADD key caller payload) {img} right who apart = add-untouched img key caller payload who apart
+who-is-not-named (LINE-READ key caller mode position buffer) {img} right who apart = kept-untouched who (line-read-image img key caller mode position buffer)
+who-is-not-named (LINE-WRITE key caller mode text gather filled) {img} right who apart = line-write-untouched img key caller mode text gather filled who apart
+who-is-not-named (LINE-END key caller gather filled) {img} right who apart = line-end-untouched img key caller gather filled who apart
 who-is-not-named (OWNER block) {img} right who apart = kept-untouched who (owner-image img block)

@@ -1,16 +1,24 @@
--- Which words of the image each request may change, as document 01 has it under 'What each request does'. That no other word changes is proofs/Changes.antt.
+-- Which words of the image each request may change, as document 01 has it under 'What each request does', and 02 in §1. That no other word changes is proofs/Changes.antt.
 use Prim.Native.Nat.{ℕ, _+_, _*_, _≤_, _<_}
 use mathlib.Core.Path.{_≡_}
 use mathlib.Core.Logic.{_⊎_}
 use mathlib.Core.List.{List}
 use Rattle.pack.specs.declared.Entry.{Entry}
+use Rattle.pack.specs.declared.Key.{Key}
 use Rattle.pack.specs.Form.{segmentsOf, bodiesOf}
 use Rattle.pack.specs.Geometry.{geometryOf, segmentWords, blockWords, blockAt, entryAt}
+use Rattle.pack.specs.File.{count}
 use Rattle.asking.specs.Asked.{entryNo, fileOf}
 use Rattle.creation.specs.Creating.{LowestEmpty}
 use Rattle.opening.specs.declared.Opening.the-variants.{Input, Update, Extension}
 use Rattle.adding.specs.LinkedAdd.{addedBlock}
-use Rattle.requests.specs.Request.{Request, FORMAT, ALLOC, OPENO, OPEN, CLOSE, DELET, RENAM, APPND, LOOK, KEEP, BLOCK-INPUT, BLOCK-OUTPUT, LINKED-READ, LINKED-ADD, OWNER}
+use Rattle.stream.specs.AddedAll.{takenBlocks}
+use Rattle.lines.specs.LineReading.{modeOf}
+use Rattle.lines.specs.LineWrite.{putAll, takenOf}
+use Rattle.lines.specs.BytesWriting.{gatheredIn}
+use Rattle.lines.specs.LineWriting.{nulsFor}
+use Rattle.requests.specs.Request.{Request, FORMAT, ALLOC, OPENO, OPEN, CLOSE, DELET, RENAM, APPND, LOOK, KEEP, BLOCK-INPUT, BLOCK-OUTPUT, LINKED-READ, LINKED-ADD}
+use Rattle.requests.specs.Request.{LINE-READ, LINE-WRITE, LINE-END, OWNER}
 
 -- w is word i of entry e; one of its words from `first` to `last`; one of its sixteen
 abbrev pub IsWord : List ℕ → ℕ → ℕ → ℕ → Type 0
@@ -33,6 +41,12 @@ InBlock img b w = (blockAt (geometryOf img) b ≤ w) × (w < blockAt (geometryOf
 -- w is the link of the last block of a file, which has one: "In a linked file word 0 of a block is the next block"
 abbrev pub IsLastLink : List ℕ → Entry → ℕ → Type 0
 IsLastLink img x w = (0 < x .length) × (w ≡ blockAt (geometryOf img) (x .last .0))
+
+-- what adding these payloads to a file may change: words 6 to 8 of its entry, the blocks that are taken, and the link of its last block
+abbrev pub MayAdd : List ℕ → Key → ℕ → List (List ℕ) → ℕ → Type 0
+MayAdd img key caller payloads w =
+    InWords img (entryNo img key) 6 8 w
+    ⊎ (((b : ℕ) × ((0 < count b (takenBlocks img key caller payloads)) × InBlock img b w)) ⊎ IsLastLink img (fileOf img key) w)
 
 -- The words of an entry: "0, 1 name; 2 extension; .. 4 protect code ..; 6 first block; 7 length in blocks; 8 last block; 9 writer ..; 10 readers".
 abbrev pub MayChange : Request → List ℕ → ℕ → Type 0
@@ -66,5 +80,11 @@ MayChange (BLOCK-OUTPUT key caller place buffer) img w = InBlock img (fileOf img
 MayChange (LINKED-READ key caller place buffer) img w = ⊥
 MayChange (LINKED-ADD key caller payload) img w =
     InWords img (entryNo img key) 6 8 w ⊎ (InBlock img (addedBlock img) w ⊎ IsLastLink img (fileOf img key) w)
+-- "Reading starts at a byte position .. and returns the next position."
+MayChange (LINE-READ key caller mode position buffer) img w = ⊥
+-- "Writing gathers a block's payload .., and adds full blocks; an ending call fills the last with NUL, or adds none at 0."
+MayChange (LINE-WRITE key caller mode text gather filled) img w =
+    MayAdd img key caller (gatheredIn img gather filled (putAll (takenOf (modeOf mode) text)) .full) w
+MayChange (LINE-END key caller gather filled) img w = MayAdd img key caller (gatheredIn img gather filled (nulsFor img filled) .full) w
 -- whose a block is: asked, and nothing written
 MayChange (OWNER block) img w = ⊥

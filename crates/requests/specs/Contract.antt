@@ -8,33 +8,46 @@ use Rattle.owners.specs.declared.OwnerAnswer.{OwnerAnswer}
 use Rattle.owners.specs.OwnerQuestion.{ownerOutcome}
 use Rattle.directory.specs.declared.look.LookAnswer.{LookAnswer}
 use Rattle.directory.specs.Look.{lookOutcome}
-use Rattle.requests.specs.Request.{Request, FORMAT, ALLOC, OPENO, OPEN, CLOSE, DELET, RENAM, APPND, LOOK, KEEP, BLOCK-INPUT, BLOCK-OUTPUT, LINKED-READ, LINKED-ADD, OWNER}
+use Rattle.lines.specs.declared.line_read.ReadAnswer.{ReadAnswer}
+use Rattle.lines.specs.declared.line_write.WriteAnswer.{WriteAnswer}
+use Rattle.requests.specs.Request.{Request, FORMAT, ALLOC, OPENO, OPEN, CLOSE, DELET, RENAM, APPND, LOOK, KEEP, BLOCK-INPUT, BLOCK-OUTPUT, LINKED-READ, LINKED-ADD}
+use Rattle.requests.specs.Request.{LINE-READ, LINE-WRITE, LINE-END, OWNER}
 
 -- the shapes of the contracts, by what they give: a code and the image; an answer of a code and a number, and the image; a code and the lent buffer;
--- the answer of LOOK, and of the question whose a block is
+-- the answer of LOOK, and of the question whose a block is; of lines, an answer of a code and three numbers with the lent buffer, or with the image and the gather
+-- buffer, and a code with both
 pub data Contract : Type 0 where
   code-and-image : Contract
   answer-and-image : Contract
   code-and-buffer : Contract
   look-answer : Contract
   owner-answer : Contract
+  read-answer-and-buffer : Contract
+  write-answer-and-both : Contract
+  code-and-both : Contract
 
--- what a function returns, and with it what the slice then holds that it may write
+-- what a function returns, and with it what each slice then holds that it may write
 abbrev pub Result : Contract → Type 0
 Result code-and-image = ℕ × List ℕ
 Result answer-and-image = Answer × List ℕ
 Result code-and-buffer = ℕ × List ℕ
 Result look-answer = LookAnswer
 Result owner-answer = OwnerAnswer
+Result read-answer-and-buffer = ReadAnswer × List ℕ
+Result write-answer-and-both = WriteAnswer × List ℕ × List ℕ
+Result code-and-both = ℕ × List ℕ × List ℕ
 
 -- how many numbers that is beside the code: "ALLOC and linked add also return the first or added block, LOOK its six numbers"; whose a block is
--- is three
+-- is three; a read has the count, the status and "the next position", a write "the count taken", the status and the filled count "given back"
 abbrev pub numbersIn : Contract → ℕ
 numbersIn code-and-image = 0
 numbersIn answer-and-image = 1
 numbersIn code-and-buffer = 0
 numbersIn look-answer = 6
 numbersIn owner-answer = 3
+numbersIn read-answer-and-buffer = 3
+numbersIn write-answer-and-both = 3
+numbersIn code-and-both = 0
 
 -- the lines of `ensures`: of an image as it was lent, and the outcome that is due
 abbrev pub Meets : (contract : Contract) → List ℕ → Outcome → Result contract → Type 0
@@ -43,6 +56,14 @@ Meets answer-and-image img due r = (r .0 .code ≡ due .code) × (r .0 .number �
 Meets code-and-buffer img due r = (r .0 ≡ due .code) × (r .1 ≡ due .buffer)
 Meets look-answer img due r = lookOutcome img r ≡ due
 Meets owner-answer img due r = ownerOutcome img r ≡ due
+Meets read-answer-and-buffer img due r =
+    (r .0 .code ≡ due .code) × (r .0 .count ∷ (r .0 .status ∷ (r .0 .position ∷ [])) ≡ due .numbers) × (r .1 ≡ due .buffer)
+Meets write-answer-and-both img due r =
+    (r .0 .code ≡ due .code)
+    × (r .0 .count ∷ (r .0 .status ∷ (r .0 .filled ∷ [])) ≡ due .numbers)
+    × (r .1 ≡ due .image)
+    × (r .2 ≡ due .buffer)
+Meets code-and-both img due r = (r .0 ≡ due .code) × (r .1 ≡ due .image) × (r .2 ≡ due .buffer)
 
 -- the contract of each request's function; OPEN has three, `abz_openi`, `abz_openu` and `abz_opene`
 abbrev pub contractOf : Request → Contract
@@ -60,4 +81,7 @@ contractOf (BLOCK-INPUT key caller place buffer) = code-and-buffer
 contractOf (BLOCK-OUTPUT key caller place buffer) = code-and-image
 contractOf (LINKED-READ key caller place buffer) = code-and-buffer
 contractOf (LINKED-ADD key caller payload) = answer-and-image
+contractOf (LINE-READ key caller mode position buffer) = read-answer-and-buffer
+contractOf (LINE-WRITE key caller mode text gather filled) = write-answer-and-both
+contractOf (LINE-END key caller gather filled) = code-and-both
 contractOf (OWNER block) = owner-answer

@@ -1,4 +1,5 @@
 -- The requests on an image, as one type, what they may change, and what their contracts allow.
 pub mod Request
 pub mod Changes
+pub mod Taken
 pub mod Contract

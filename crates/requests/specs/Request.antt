@@ -20,8 +20,11 @@ use Rattle.transfer.specs.Block.{blockIn, blockOut}
 use Rattle.transfer.specs.LinkedRead.{linkedRead}
 use Rattle.appending.specs.Appnd.{appnd}
 use Rattle.adding.specs.LinkedAdd.{linkedAdd}
+use Rattle.lines.specs.LineReading.{lineRead}
+use Rattle.lines.specs.LineWriting.{lineWrite, lineEnd}
 
--- "Requests taken up": those on an image, with their arguments, in the order of the paper's 'What each request does'; and whose a block is.
+-- "Requests taken up": those on an image, with their arguments, in the order of the paper's 'What each request does'; those of document 02 §1 on lines of text; and
+-- whose a block is.
 -- OPEN is OPENI, OPENU or OPENE. A UIC 0 has given place to the caller's. RENAM: "the UIC stays", so its new name comes without one.
 pub data Request : Type 0 where
   FORMAT : (form blocks contents : ℕ) (uics : List ℕ) → Request
@@ -38,6 +41,9 @@ pub data Request : Type 0 where
   BLOCK-OUTPUT : (key : Key) (caller place : ℕ) (buffer : List ℕ) → Request
   LINKED-READ : (key : Key) (caller place : ℕ) (buffer : List ℕ) → Request
   LINKED-ADD : (key : Key) (caller : ℕ) (payload : List ℕ) → Request
+  LINE-READ : (key : Key) (caller mode position : ℕ) (buffer : List ℕ) → Request
+  LINE-WRITE : (key : Key) (caller mode : ℕ) (text gather : List ℕ) (filled : ℕ) → Request
+  LINE-END : (key : Key) (caller : ℕ) (gather : List ℕ) (filled : ℕ) → Request
   OWNER : (block : ℕ) → Request
 
 -- what a request comes to on an image: the definition that the contract of its function cites
@@ -56,6 +62,9 @@ outcome (BLOCK-INPUT key caller place buffer) img = blockIn img key caller place
 outcome (BLOCK-OUTPUT key caller place buffer) img = blockOut img key caller place buffer
 outcome (LINKED-READ key caller place buffer) img = linkedRead img key caller place buffer
 outcome (LINKED-ADD key caller payload) img = linkedAdd img key caller payload
+outcome (LINE-READ key caller mode position buffer) img = lineRead img key caller mode position buffer
+outcome (LINE-WRITE key caller mode text gather filled) img = lineWrite img key caller mode text gather filled
+outcome (LINE-END key caller gather filled) img = lineEnd img key caller gather filled
 outcome (OWNER block) img = owner img block
 
 -- whom a request names by name, extension and UIC: Format every file, since it empties the pack; who asks whose a block is names nobody
@@ -74,9 +83,12 @@ Names (BLOCK-INPUT key caller place buffer) who = who ≡ key
 Names (BLOCK-OUTPUT key caller place buffer) who = who ≡ key
 Names (LINKED-READ key caller place buffer) who = who ≡ key
 Names (LINKED-ADD key caller payload) who = who ≡ key
+Names (LINE-READ key caller mode position buffer) who = who ≡ key
+Names (LINE-WRITE key caller mode text gather filled) who = who ≡ key
+Names (LINE-END key caller gather filled) who = who ≡ key
 Names (OWNER block) who = ⊥
 
--- "a lent buffer": what is lent beside the image
+-- "a lent buffer": what is lent beside the image; of a write the gather buffer, for its text is lent for reading only
 abbrev pub bufferLent : Request → List ℕ
 bufferLent (FORMAT form blocks contents uics) = uics
 bufferLent (ALLOC key caller protect segments) = []
@@ -92,4 +104,7 @@ bufferLent (BLOCK-INPUT key caller place buffer) = buffer
 bufferLent (BLOCK-OUTPUT key caller place buffer) = buffer
 bufferLent (LINKED-READ key caller place buffer) = buffer
 bufferLent (LINKED-ADD key caller payload) = payload
+bufferLent (LINE-READ key caller mode position buffer) = buffer
+bufferLent (LINE-WRITE key caller mode text gather filled) = gather
+bufferLent (LINE-END key caller gather filled) = gather
 bufferLent (OWNER block) = []

@@ -13,7 +13,7 @@ use Rattle.pack.specs.declared.Geometry.{Geometry}
 use Rattle.pack.specs.Geometry.{geometryOf}
 use Rattle.answers.proofs.RefusalsTests.{and-both}
 use Rattle.room.specs.RoomTest.{isFreeBlock, areFree, runBelow, highestRun}
-use Rattle.room.specs.RoomMap.{Says, isFreeOn, isFreeBody, areFreeOn, runOn, freeAfter, freeFrom}
+use Rattle.room.specs.RoomMap.{Says, isFreeOn, isFreeBody, NoneFrom, areFreeOn, runOn, freeAfter, freeFrom}
 
 -- the count behind one block more
 pub after-free : (times free : ℕ) → times ≡ 0 → free + 1 ≡ freeAfter (eqb times 0) free
@@ -131,6 +131,40 @@ module _ (map : List ℕ) where
       unfolding runOn
       run-end zero below positive = refl
       run-end (suc b) below positive = rw (not-before b (omega arith) positive) (run-end b (omega arith) positive)
+
+    -- a run of one block: it starts here, or where the search below finds it
+    pub one-here : (b : ℕ) → low < b → b ≤ end → getD map (b - 1) 0 ≡ 0 → runOn map low end 1 b ≡ some (b - 1)
+    unfolding areFreeOn
+    one-here b above below is = run-step 1 b (omega arith) ∙ rw (free-here (b - 1) (omega arith) (omega arith) is)
+
+    pub one-next : (b : ℕ) → low < b → b ≤ end → (getD map (b - 1) 0 ≡ 0 → ⊥) → runOn map low end 1 b ≡ runOn map low end 1 (b - 1)
+    unfolding areFreeOn
+    one-next b above below never = run-step 1 b (omega arith) ∙ rw (held-here (b - 1) (omega arith) (omega arith) never)
+
+-- where none is free from a block on, the search may begin there; none is behind the last block
+pub none-above : {map : List ℕ} {g : Geometry} → NoneFrom map g (g .blocks)
+none-above = record { within = omega arith; never = λ b low high. absurd (omega arith) }
+
+pub one-from : {map : List ℕ} {g : Geometry} {from : ℕ} → NoneFrom map g from
+    → runOn map (g .bodies .0) (g .blocks) 1 from ≡ runOn map (g .bodies .0) (g .blocks) 1 (g .blocks)
+one-from {map} {g} {from} none-free =
+    let all : from + (g .blocks - from) ≡ g .blocks = omega (arith, none-free .within) in
+    sym (by (g .blocks - from) (omega (arith, none-free .within))) ∙ ap (runOn map (g .bodies .0) (g .blocks) 1) all
+  where
+    by : (k : ℕ) → from + k ≤ g .blocks → runOn map (g .bodies .0) (g .blocks) 1 (from + k) ≡ runOn map (g .bodies .0) (g .blocks) 1 from
+    by zero below = let here : from + 0 ≡ from = omega arith in ap (runOn map (g .bodies .0) (g .blocks) 1) here
+    by (suc k) below = at (decLt (g .bodies .0) (from + suc k)) (by k (omega arith))
+      where
+        at : Dec (g .bodies .0 < from + suc k) → runOn map (g .bodies .0) (g .blocks) 1 (from + k) ≡ runOn map (g .bodies .0) (g .blocks) 1 from
+            → runOn map (g .bodies .0) (g .blocks) 1 (from + suc k) ≡ runOn map (g .bodies .0) (g .blocks) 1 from
+        at (yes above) lower =
+            let down : from + suc k - 1 ≡ from + k = omega arith in
+            one-next map (g .bodies .0) (g .blocks) (from + suc k) above below (rw down (none-free .never (from + k) (omega arith) (omega arith)))
+            ∙ ap (runOn map (g .bodies .0) (g .blocks) 1) down
+            ∙ lower
+        at (no low) lower =
+            run-end map (g .bodies .0) (g .blocks) 1 (from + suc k) (omega (arith, low)) (omega arith)
+            ∙ sym (run-end map (g .bodies .0) (g .blocks) 1 from (omega (arith, low)) (omega arith))
 
 -- a map that says how often each block is held
 module _ (img map : List ℕ) (says : Says map img) where

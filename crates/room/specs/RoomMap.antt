@@ -34,6 +34,11 @@ pub record FreeOn (map : List ℕ) (g : Geometry) (b : ℕ) : Type 0 where
   pub below : b < g .blocks
   pub nobody : getD map b 0 ≡ 0
 
+-- a block from which on no block of the pack is such a one
+pub record NoneFrom (map : List ℕ) (g : Geometry) (from : ℕ) : Type 0 where
+  pub within : from ≤ g .blocks
+  pub never : (b : ℕ) → from ≤ b → b < g .blocks → getD map b 0 ≡ 0 → ⊥
+
 unfoldable pub areFreeOn : List ℕ → ℕ → ℕ → ℕ → ℕ → Bool
 areFreeOn map low end b zero = true
 areFreeOn map low end b (suc k) = isFreeBody map low end b && areFreeOn map low end (b + 1) k

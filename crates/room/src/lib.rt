@@ -35,6 +35,23 @@ pub fn highest_run(map: &[u8], g: Geometry, count: Blocks) -> Run
     Run::Nowhere
 }
 
+// One block, sought downwards from a block from which on none is free: who takes several in a row passes no block twice.
+pub fn highest_below(map: &[u8], g: Geometry, from: BlockNo) -> Run
+    requires { ⌜ (g .blocks ≤ length (now map)) × (from .0 ≤ g .blocks) ⌝ }
+    ensures { λ r. ⌜ startIn r ≡ runOn (now (map .entry)) (g .bodies .0) (g .blocks) 1 (from .0) ⌝ }
+{
+    let low = g.bodies.0;
+    let mut b = from.0;
+    while low < b {
+        b -= 1;
+        if map[b] == 0 {
+            let highest = BlockNo(b);
+            return Run::Start(highest);
+        }
+    }
+    Run::Nowhere
+}
+
 fn free_after(times: u8, free: usize) -> usize
     requires { ⌜ free ≤ mostBlocks ⌝ }
     ensures { λ r. ⌜ r ≡ freeAfter (eqb times 0) free ⌝ }

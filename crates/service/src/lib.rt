@@ -1,7 +1,8 @@
 // The boundary to a host in C: one thin function for each name, over numbers and byte slices, with no condition on the caller.
 pub mod bodies;
+pub mod commands;
 pub mod conversions;
 pub mod entries;
-pub mod lines;
 pub mod opens;
 pub mod packs;
+pub mod text;

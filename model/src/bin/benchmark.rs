@@ -30,6 +30,10 @@ const ROWS: &[(&str, Run)] = &[
     ("alloc-delet-largest", alloc_delet_largest),
     ("linked-add-until-full", linked_add_until_full),
     ("linked-read-last", linked_read_last),
+    ("line-read-start", line_read_start),
+    ("line-read-end", line_read_end),
+    ("line-write-60", line_write_60),
+    ("line-write-5100", line_write_5100),
     ("csi1", csi1),
     ("csi2", csi2),
     ("radpk", radpk),
@@ -229,17 +233,19 @@ fn alloc_delet_largest(way: Way, times: usize) -> Duration {
     alloc_delet(way, times, &mut image)
 }
 
+/// Makes the only file of a pack, which is linked, empty again.
+fn empty(image: &mut [u8]) {
+    for word in [entry::FIRST, entry::LENGTH, entry::LAST] {
+        set_word(entry::bytes_mut(image, 0), word, 0);
+    }
+}
+
 /// Adds to the only file of the largest pack; when no block is free any more the file is made empty again.
 fn linked_add_until_full(way: Way, times: usize) -> Duration {
     let mut image = formatted(MOST_BLOCKS, 1);
     let file = file(0);
     requests::openo(&mut image, OWNER, file, 0).expect("there is an entry");
     let payload = [0o125; PAYLOAD_BYTES];
-    let empty = |image: &mut [u8]| {
-        for word in [entry::FIRST, entry::LENGTH, entry::LAST] {
-            set_word(entry::bytes_mut(image, 0), word, 0);
-        }
-    };
     timed!(
         way,
         times,
@@ -274,6 +280,79 @@ fn linked_read_last(way: Way, times: usize) -> Duration {
             code(requests::linked_read(black_box(&image), OWNER, black_box(file), black_box(place), buffer))
         }
     )
+}
+
+/// A line of 60 characters, its terminator included.
+const TEXT: &[u8; 60] = b"STATION 23  1971-02-14 06:00 TEMPERATURE 012.5  WIND 340/07\n";
+
+/// Reads a line of 60 characters at a position of a file of 200 blocks, which is full of such lines.
+fn line_read(way: Way, times: usize, position: usize) -> Duration {
+    let mut image = formatted(2 + TEXT_BLOCKS, 1);
+    let file = file(0);
+    requests::openo(&mut image, OWNER, file, 0).expect("there is an entry");
+    for payload in TEXT.repeat(TEXT_BLOCKS * PAYLOAD_BYTES / TEXT.len()).chunks(PAYLOAD_BYTES) {
+        requests::linked_add(&mut image, OWNER, file, payload).expect("there is room");
+    }
+    set_word(entry::bytes_mut(&mut image, 0), entry::READERS, 1);
+    let mut buffer = [0; 132];
+    timed!(
+        way,
+        times,
+        {
+            let (file, mode, position) = black_box((file, 0, position));
+            boundary::line_read(black_box(&image), OWNER, file, mode, position, black_box(&mut buffer))
+        },
+        {
+            let (file, mode, position) = black_box((file, 0, position));
+            let result = requests::line_read(black_box(&image), OWNER, file, mode, position, black_box(&mut buffer));
+            model::answers::ReadAnswer::from(result)
+        }
+    )
+}
+
+const TEXT_BLOCKS: usize = 200;
+
+fn line_read_start(way: Way, times: usize) -> Duration {
+    line_read(way, times, 0)
+}
+
+fn line_read_end(way: Way, times: usize) -> Duration {
+    line_read(way, times, TEXT_BLOCKS * PAYLOAD_BYTES - TEXT.len())
+}
+
+/// Writes text to the only file of the smallest pack, which is empty each time.
+fn line_write(way: Way, times: usize, text: &[u8]) -> Duration {
+    let mut image = formatted(LEAST_BLOCKS, 1);
+    let file = file(0);
+    requests::openo(&mut image, OWNER, file, 0).expect("there is an entry");
+    let mut gather = [0; PAYLOAD_BYTES];
+    timed!(
+        way,
+        times,
+        {
+            empty(&mut image);
+            let (image, gather) = black_box((&mut image, &mut gather));
+            let (file, mode, text, filled) = black_box((file, 0, text, 0));
+            boundary::line_write(image, OWNER, file, mode, text, gather, filled)
+        },
+        {
+            empty(&mut image);
+            let (image, gather) = black_box((&mut image, &mut gather));
+            let (file, mode, text, filled) = black_box((file, 0, text, 0));
+            let result = requests::line_write(image, OWNER, file, mode, text, gather, filled);
+            model::answers::WriteAnswer::from(result)
+        }
+    )
+}
+
+/// The gather buffer is not full after it.
+fn line_write_60(way: Way, times: usize) -> Duration {
+    line_write(way, times, TEXT)
+}
+
+/// Ten blocks.
+fn line_write_5100(way: Way, times: usize) -> Duration {
+    line_write(way, times, &TEXT.repeat(85))
 }
 
 /// A command of 120 characters with every part in it.

@@ -20,9 +20,9 @@ impl Pack {
         block > self.header.contents && block < self.header.blocks && !self.held.contains(block)
     }
 
-    /// The highest block that is free.
-    pub fn highest_free(&self) -> Option<usize> {
-        (self.header.contents + 1..self.header.blocks).rev().find(|&block| !self.held.contains(block))
+    /// The blocks that are free, the highest first.
+    pub fn free(&self) -> impl Iterator<Item = usize> + '_ {
+        (self.header.contents + 1..self.header.blocks).rev().filter(|&block| !self.held.contains(block))
     }
 
     /// The highest start of so many free blocks in a row.

@@ -1,8 +1,8 @@
 //! Linked read and linked add: one block's payload of a linked file.
 
 use super::File;
-use crate::pack::consistency::examine;
-use crate::pack::entry::{self, EXTEND, FIRST, LAST, LENGTH, LINKED, OUTPUT};
+use crate::pack::consistency::{examine, Pack};
+use crate::pack::entry::{self, Entry, EXTEND, FIRST, LAST, LENGTH, LINKED, OUTPUT};
 use crate::pack::form::PAYLOAD_BYTES;
 use crate::pack::rights::rights;
 use crate::pack::{block, block_mut, link};
@@ -14,10 +14,7 @@ pub fn linked_read(image: &[u8], caller: usize, file: File, place: usize, buffer
     let pack = examine(image)?;
     file.require_legal()?;
     require(buffer.len() == PAYLOAD_BYTES, Refusal::Argument)?;
-    let (_, found) = file.require(image, &pack, caller)?;
-    require(rights(caller, &found).read, Refusal::Right)?;
-    require(found.kind == LINKED, Refusal::Kind)?;
-    require(found.readers != 0, Refusal::NotOpen)?;
+    let found = require_readable(image, &pack, caller, &file)?;
     require(place < found.length as usize, Refusal::NoBlock)?;
     let number = (0..place).fold(found.first as usize, |number, _| link(image, number));
     buffer.copy_from_slice(&block(image, number)[2..]);
@@ -29,12 +26,33 @@ pub fn linked_add(image: &mut [u8], caller: usize, file: File, payload: &[u8]) -
     let pack = examine(image)?;
     file.require_legal()?;
     require(payload.len() == PAYLOAD_BYTES, Refusal::Argument)?;
-    let (index, found) = file.require(image, &pack, caller)?;
+    let index = require_writable(image, &pack, caller, &file)?;
+    let added = pack.free().next().ok_or(Refusal::NoRoom)?;
+    join(image, index, added, payload);
+    Ok(added)
+}
+
+/// A linked file that is there, is open to be read, and may be read by the caller.
+pub(super) fn require_readable(image: &[u8], pack: &Pack, caller: usize, file: &File) -> Result<Entry, Refusal> {
+    let (_, found) = file.require(image, pack, caller)?;
+    require(rights(caller, &found).read, Refusal::Right)?;
+    require(found.kind == LINKED, Refusal::Kind)?;
+    require(found.readers != 0, Refusal::NotOpen)?;
+    Ok(found)
+}
+
+/// The number of the entry of a linked file that is there, has a writer, and may be written by the caller.
+pub(super) fn require_writable(image: &[u8], pack: &Pack, caller: usize, file: &File) -> Result<usize, Refusal> {
+    let (index, found) = file.require(image, pack, caller)?;
     require(rights(caller, &found).write, Refusal::Right)?;
     require(found.kind == LINKED, Refusal::Kind)?;
     require(matches!(found.writer, OUTPUT | EXTEND), Refusal::NotOpen)?;
-    let added = pack.highest_free().ok_or(Refusal::NoRoom)?;
+    Ok(index)
+}
 
+/// Joins a free block with its payload to the end of the linked file of an entry.
+pub(super) fn join(image: &mut [u8], index: usize, added: usize, payload: &[u8]) {
+    let found = Entry::read(entry::bytes(image, index));
     let number = added as u16;
     let body = block_mut(image, added);
     set_word(body, 0, 0);
@@ -48,5 +66,4 @@ pub fn linked_add(image: &mut [u8], caller: usize, file: File, payload: &[u8]) -
     let bytes = entry::bytes_mut(image, index);
     set_word(bytes, LENGTH, found.length + 1);
     set_word(bytes, LAST, number);
-    Ok(added)
 }

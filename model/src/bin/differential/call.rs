@@ -1,11 +1,12 @@
 //! One call with all its arguments, made in both ways.
 
 use crate::request::Request;
-use model::answers::{code, Answer, LookAnswer, OwnerAnswer, SpecificationAnswer};
+use model::answers::{code, Answer, LookAnswer, OwnerAnswer, ReadAnswer, SpecificationAnswer, WriteAnswer};
 use model::requests::File;
 use model::{boundary, command, conversions, requests};
+use std::fmt;
 
-/// The numbers of a call. What it lends besides is an image or a line, and a buffer.
+/// The numbers of a call. What it lends besides is an image, a line or text, and a buffer.
 #[derive(Clone, Copy, Debug)]
 #[rustfmt::skip]
 pub enum Numbers {
@@ -16,6 +17,10 @@ pub enum Numbers {
     New { caller: usize, file: File, protect: usize, segments: usize },
     Mode { caller: usize, file: File, mode: usize },
     Place { caller: usize, file: File, place: usize },
+    /// Of a line that is read, of text that is written, and of its end.
+    Reading { caller: usize, file: File, mode: usize, position: usize },
+    Writing { caller: usize, file: File, mode: usize, filled: usize },
+    Ending { caller: usize, file: File, filled: usize },
     Rename { caller: usize, old: File, new: File, protect: usize },
     Append { caller: usize, first: File, second: File },
     /// A block, or a number to be converted.
@@ -23,12 +28,27 @@ pub enum Numbers {
     Side { side: usize, k: usize },
 }
 
-#[derive(Clone, Debug)]
+#[derive(Clone)]
 pub struct Call {
     pub request: Request,
     pub numbers: Numbers,
     pub line: Vec<u8>,
     pub buffer: Vec<u8>,
+}
+
+/// Of what is lent so many bytes are shown: a seed gives the rest.
+const SHOWN: usize = 600;
+
+impl fmt::Debug for Call {
+    fn fmt(&self, formatter: &mut fmt::Formatter) -> fmt::Result {
+        let Call { request, numbers, line, buffer } = self;
+        writeln!(formatter, "{request:?} {numbers:?}")?;
+        for (subject, bytes) in [("line", line), ("buffer", buffer)] {
+            let shown = &bytes[..bytes.len().min(SHOWN)];
+            writeln!(formatter, "{subject}, {} bytes: \"{}\"", bytes.len(), shown.escape_ascii())?;
+        }
+        Ok(())
+    }
 }
 
 /// An answer as numbers, the code first.
@@ -47,6 +67,14 @@ fn owner(answer: OwnerAnswer) -> Said {
     vec![answer.code, answer.kind, answer.entry, answer.place]
 }
 
+fn read(answer: ReadAnswer) -> Said {
+    vec![answer.code, answer.count, answer.status, answer.position]
+}
+
+fn written(answer: WriteAnswer) -> Said {
+    vec![answer.code, answer.count, answer.status, answer.filled]
+}
+
 fn specification(answer: SpecificationAnswer) -> Said {
     let SpecificationAnswer { code, place, present, device, unit, name1, name2, extension, group, user, switches } =
         answer;
@@ -54,6 +82,14 @@ fn specification(answer: SpecificationAnswer) -> Said {
 }
 
 impl Call {
+    /// The mode and the status of a line that was read, or of text that was written.
+    pub fn status(&self, answer: &Said) -> Option<(usize, usize)> {
+        match self.numbers {
+            Numbers::Reading { mode, .. } | Numbers::Writing { mode, .. } if answer[0] == 0 => Some((mode, answer[2])),
+            _ => None,
+        }
+    }
+
     /// Makes the call on the library.
     #[rustfmt::skip]
     pub fn library(&self, image: &mut [u8], line: &[u8], buffer: &mut [u8]) -> Said {
@@ -77,6 +113,9 @@ impl Call {
             (R::BlockOut, N::Place { caller, file, place }) => vec![boundary::block_out(image, caller, file, place, buffer)],
             (R::LinkedRead, N::Place { caller, file, place }) => vec![boundary::linked_read(image, caller, file, place, buffer)],
             (R::LinkedAdd, N::File { caller, file }) => number(boundary::linked_add(image, caller, file, buffer)),
+            (R::LineRead, N::Reading { caller, file, mode, position }) => read(boundary::line_read(image, caller, file, mode, position, buffer)),
+            (R::LineWrite, N::Writing { caller, file, mode, filled }) => written(boundary::line_write(image, caller, file, mode, line, buffer, filled)),
+            (R::LineEnd, N::Ending { caller, file, filled }) => vec![boundary::line_end(image, caller, file, buffer, filled)],
             (R::Radpk, N::None) => number(boundary::radpk(buffer)),
             (R::Radup, N::One(word)) => vec![boundary::radup(word, buffer)],
             (R::D2bin, N::None) => number(boundary::d2bin(buffer)),
@@ -112,6 +151,9 @@ impl Call {
             (R::BlockOut, N::Place { caller, file, place }) => vec![code(requests::block_out(image, caller, file, place, buffer))],
             (R::LinkedRead, N::Place { caller, file, place }) => vec![code(requests::linked_read(image, caller, file, place, buffer))],
             (R::LinkedAdd, N::File { caller, file }) => number(requests::linked_add(image, caller, file, buffer).into()),
+            (R::LineRead, N::Reading { caller, file, mode, position }) => read(requests::line_read(image, caller, file, mode, position, buffer).into()),
+            (R::LineWrite, N::Writing { caller, file, mode, filled }) => written(requests::line_write(image, caller, file, mode, line, buffer, filled).into()),
+            (R::LineEnd, N::Ending { caller, file, filled }) => vec![code(requests::line_end(image, caller, file, buffer, filled))],
             (R::Radpk, N::None) => number(conversions::radpk(buffer).into()),
             (R::Radup, N::One(word)) => vec![code(conversions::radup(word, buffer))],
             (R::D2bin, N::None) => number(conversions::d2bin(buffer).into()),

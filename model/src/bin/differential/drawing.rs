@@ -5,13 +5,14 @@ use crate::lines;
 use crate::packs::{self, packed, Seen, EXTENSIONS, NAMES, UICS};
 use crate::random::Random;
 use crate::request::Request;
+use crate::text;
 use model::command::{csi2, reading};
 use model::pack::entry::{Entry, CONTIGUOUS, EXTEND, LINKED, OUTPUT, UPDATE};
 use model::pack::form::{BLOCK_BYTES, FORM, LEAST_BLOCKS, MOST_BLOCKS, MOST_CONTENTS, PAYLOAD_BYTES};
 use model::requests::File;
 
 /// Numbers that are too large for what they are given for, some so that their low 16 or 32 bits would be good.
-const HUGE: [usize; 10] =
+pub const HUGE: [usize; 10] =
     [64000, 65535, 65536, 65537, 1 << 31, (1 << 32) + 1, 1 << 63, (1 << 63) + 3, usize::MAX - 2, usize::MAX];
 
 /// Words that are no part of a legal name, or only in some places.
@@ -32,7 +33,8 @@ pub fn request(random: &mut Random) -> Request {
 }
 
 /// A call of a request on a pack.
-pub fn call(random: &mut Random, request: Request, seen: &Seen) -> Call {
+pub fn call(random: &mut Random, request: Request, image: &[u8]) -> Call {
+    let seen = &Seen::of(image);
     let (numbers, line, buffer) = match request {
         Request::Format => without_line(format(random, seen)),
         Request::Alloc | Request::Openo => numbers_alone(creating(random, seen)),
@@ -46,6 +48,9 @@ pub fn call(random: &mut Random, request: Request, seen: &Seen) -> Call {
         Request::BlockIn | Request::BlockOut | Request::LinkedRead | Request::LinkedAdd => {
             without_line(transferring(random, request, seen))
         }
+        Request::LineRead => without_line(text::reading(random, seen, image)),
+        Request::LineWrite => text::writing(random, seen),
+        Request::LineEnd => without_line(text::ending(random, seen)),
         Request::Radpk | Request::D2bin | Request::O2bin => (Numbers::None, Vec::new(), to_number(random, request)),
         Request::Radup | Request::Bin2d | Request::Bin2o => without_line(to_characters(random, request)),
         Request::Csi1 => condensing(random),
@@ -292,7 +297,7 @@ fn new_file(random: &mut Random, seen: &Seen) -> (usize, File) {
 }
 
 /// A caller and a file that is mostly there, and mostly one that serves.
-fn old_file(random: &mut Random, seen: &Seen, serves: impl Fn(&Entry) -> bool) -> (usize, File) {
+pub fn old_file(random: &mut Random, seen: &Seen, serves: impl Fn(&Entry) -> bool) -> (usize, File) {
     let file = present(random, seen, serves);
     with_caller(random, file)
 }
@@ -351,10 +356,15 @@ fn spoil(random: &mut Random, file: &mut File) {
     }
 }
 
+/// The length of a file, or of one with its name.
+pub fn length(seen: &Seen, file: &File) -> usize {
+    let same = |there: &&Entry| there.name1 as usize == file.name1 && there.name2 as usize == file.name2;
+    seen.files.iter().find(same).map_or(1, |there| there.length as usize)
+}
+
 /// A place in a file, sometimes behind its end.
 fn place(random: &mut Random, seen: &Seen, file: &File) -> usize {
-    let same = |there: &&Entry| there.name1 as usize == file.name1 && there.name2 as usize == file.name2;
-    let length = seen.files.iter().find(same).map_or(1, |there| there.length as usize);
+    let length = length(seen, file);
     match random.below(10) {
         0 => length,
         1 => length + random.below(3),
@@ -365,7 +375,7 @@ fn place(random: &mut Random, seen: &Seen, file: &File) -> usize {
 }
 
 /// A buffer for a transfer, mostly of the size asked.
-fn transfer_buffer(random: &mut Random, size: usize) -> Vec<u8> {
+pub fn transfer_buffer(random: &mut Random, size: usize) -> Vec<u8> {
     const WRONG: [usize; 10] = [
         0,
         1,

@@ -12,13 +12,13 @@ mod packs;
 mod random;
 mod request;
 mod tally;
+mod text;
 
 use call::{Call, Numbers, Said};
 use lent::Lent;
 use model::command::grammar;
 use model::pack::consistency::examine;
 use model::pack::form::{BLOCK_BYTES, MOST_BLOCKS};
-use packs::Seen;
 use random::Random;
 use request::Request;
 use std::process::ExitCode;
@@ -81,8 +81,8 @@ fn main() -> ExitCode {
         start.elapsed().as_secs_f64()
     );
     let missed = report.tally.missed();
-    for (request, code) in &missed {
-        println!("NOT REACHED: {code:02o} of {request:?}");
+    for what in &missed {
+        println!("NOT REACHED: {what}");
     }
     if report.bytes == 0 || !missed.is_empty() {
         return ExitCode::FAILURE;
@@ -111,7 +111,7 @@ fn run(calls: u64, seed: u64, report: &mut Report) -> Result<(), (u64, String)> 
         }
 
         let request = drawing::request(&mut random);
-        let drawn = drawing::call(&mut random, request, &Seen::of(pack.model.slice()));
+        let drawn = drawing::call(&mut random, request, pack.model.slice());
         line.set(&drawn.line);
         buffer.set(&drawn.buffer);
         let damaged = request.is_on_pack() && random.chance(1, 8);
@@ -128,12 +128,12 @@ fn run(calls: u64, seed: u64, report: &mut Report) -> Result<(), (u64, String)> 
         }
         let image = if request.is_on_pack() && !damaged { &mut pack } else { &mut other };
 
-        let code = compare(&drawn, image, &mut line, &mut buffer, report).map_err(|difference| (step, difference))?;
-        report.tally.count(request, code);
+        let answer = compare(&drawn, image, &mut line, &mut buffer, report).map_err(|difference| (step, difference))?;
+        report.tally.count(&drawn, &answer);
         if examine(pack.model.slice()).is_err() {
-            return Err((step, format!("{drawn:?}\nthe pack is not consistent any more")));
+            return Err((step, format!("{drawn:?}the pack is not consistent any more")));
         }
-        if request == Request::Format && code == 0 && random.chance(1, 4) {
+        if request == Request::Format && answer[0] == 0 && random.chance(1, 4) {
             std::mem::swap(&mut pack, &mut other);
             left = random.between(20, 200);
         }
@@ -152,14 +152,14 @@ fn unformatted(random: &mut Random, blocks: usize) -> Vec<u8> {
     random.bytes(length)
 }
 
-/// Makes a call in both ways and compares; gives the code, or what differed.
+/// Makes a call in both ways and compares; gives the answer, or what differed.
 fn compare(
     call: &Call,
     image: &mut Pair,
     line: &mut Pair,
     buffer: &mut Pair,
     report: &mut Report,
-) -> Result<usize, String> {
+) -> Result<Said, String> {
     let before = image.model.slice().to_vec();
     let library = call.library(image.library.slice_mut(), line.library.slice(), buffer.library.slice_mut());
     let model = call.model(image.model.slice_mut(), line.model.slice(), buffer.model.slice_mut());
@@ -187,6 +187,9 @@ fn compare(
     if !call.request.codes().contains(&model[0]) {
         differences.push(format!("the model gives a code that {:?} does not have", call.request));
     }
+    if call.status(&model).is_some_and(|(mode, status)| !call.request.statuses()[mode].contains(&status)) {
+        differences.push(format!("the model gives a status that {:?} does not have in this mode", call.request));
+    }
     if call.request == Request::Csi2 && line.model.slice().len() <= 128 {
         // The model has the grammar twice, and is to be of one mind about it.
         if grammar::command().accepts(line.model.slice()) == (model[0] == 0o50) {
@@ -194,15 +197,9 @@ fn compare(
         }
     }
     if differences.is_empty() {
-        return Ok(model[0]);
+        return Ok(model);
     }
-    Err(format!(
-        "{call:?}\nline as text: {:?}\nlibrary: {}\nmodel:   {}\n{}",
-        String::from_utf8_lossy(&call.line),
-        said(&library),
-        said(&model),
-        differences.join("\n")
-    ))
+    Err(format!("{call:?}library: {}\nmodel:   {}\n{}", said(&library), said(&model), differences.join("\n")))
 }
 
 /// An answer as it is printed: the code octal, the numbers decimal.

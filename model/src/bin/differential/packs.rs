@@ -34,6 +34,11 @@ impl Seen {
             files: entries.filter(|bytes| !entry::is_empty(bytes)).map(Entry::read).collect(),
         }
     }
+
+    /// How many blocks are free: "c + 1, the stored lengths and the free blocks .. add to n".
+    pub fn free(&self) -> usize {
+        self.blocks - (self.contents + 1) - self.files.iter().map(|file| file.length as usize).sum::<usize>()
+    }
 }
 
 /// The three words of a name and an extension.
@@ -80,6 +85,7 @@ pub fn consistent(random: &mut Random) -> Vec<u8> {
     let (blocks, contents) = measures(random);
     let uics = uics(random);
     let mut image = random.bytes(BLOCK_BYTES * blocks);
+    crate::text::fill(random, &mut image);
     image[..BLOCK_BYTES * (1 + contents)].fill(0);
     for (index, value) in [FORM, blocks as u16, contents as u16, uics.len() as u16].into_iter().enumerate() {
         set_word(&mut image, index, value);

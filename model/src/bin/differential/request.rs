@@ -1,4 +1,4 @@
-//! The requests, and the codes that each can give, by the conditions of 01's table.
+//! The requests, and the codes that each can give, by the conditions of 01's table, and its statuses by 02, §1.
 
 #[derive(Clone, Copy, Debug, PartialEq, Eq)]
 pub enum Request {
@@ -19,6 +19,9 @@ pub enum Request {
     BlockOut,
     LinkedRead,
     LinkedAdd,
+    LineRead,
+    LineWrite,
+    LineEnd,
     Radpk,
     Radup,
     D2bin,
@@ -48,6 +51,9 @@ pub const ALL: &[Request] = &[
     Request::BlockOut,
     Request::LinkedRead,
     Request::LinkedAdd,
+    Request::LineRead,
+    Request::LineWrite,
+    Request::LineEnd,
     Request::Radpk,
     Request::Radup,
     Request::D2bin,
@@ -75,10 +81,12 @@ impl Request {
             Request::Opene => &[0, 0o40, 0o15, 0o2, 0o6, 0o5, 0o4, 0o3],
             Request::Close => &[0, 0o40, 0o15, 0o41, 0o2, 0o45],
             Request::Owner => &[0, 0o40, 0o44],
-            Request::BlockIn | Request::BlockOut | Request::LinkedRead => {
+            Request::BlockIn | Request::BlockOut | Request::LinkedRead | Request::LineRead => {
                 &[0, 0o40, 0o15, 0o41, 0o2, 0o6, 0o43, 0o45, 0o44]
             }
-            Request::LinkedAdd => &[0, 0o40, 0o15, 0o41, 0o2, 0o6, 0o43, 0o45, 0o42],
+            Request::LinkedAdd | Request::LineWrite | Request::LineEnd => {
+                &[0, 0o40, 0o15, 0o41, 0o2, 0o6, 0o43, 0o45, 0o42]
+            }
             Request::Radpk | Request::Radup | Request::D2bin | Request::Bin2d | Request::O2bin | Request::Bin2o => {
                 &[0, 0o41, 0o60]
             }
@@ -87,13 +95,23 @@ impl Request {
         }
     }
 
+    /// The statuses that can be reached in normal mode, and those in special mode; any other is a fault.
+    pub fn statuses(self) -> [&'static [usize]; 2] {
+        match self {
+            // "normal mode may set both": special mode stops before the file ends.
+            Request::LineRead => [&[0, 1, 64, 65], &[0, 1, 64]],
+            Request::LineWrite => [&[0, 1], &[0, 1]],
+            _ => [&[], &[]],
+        }
+    }
+
     /// How often the request is drawn, against the others.
     pub fn weight(self) -> usize {
         match self {
             Request::Alloc | Request::Openo | Request::Openi | Request::Openu | Request::Opene => 6,
             Request::BlockIn | Request::BlockOut | Request::LinkedRead | Request::LinkedAdd => 6,
-            Request::Delet | Request::Renam | Request::Appnd | Request::Close => 5,
-            Request::Csi1 | Request::Csi2 => 10,
+            Request::Delet | Request::Renam | Request::Appnd | Request::Close | Request::LineEnd => 5,
+            Request::Csi1 | Request::Csi2 | Request::LineRead | Request::LineWrite => 10,
             Request::Look | Request::Keep | Request::Owner => 3,
             _ => 2,
         }

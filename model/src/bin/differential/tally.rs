@@ -1,11 +1,13 @@
-//! How often each code of each request was reached.
+//! How often each code of each request was reached, and each status.
 
+use crate::call::{Call, Said};
 use crate::request::{Request, ALL};
 use std::collections::BTreeMap;
 
 #[derive(Default)]
 pub struct Tally {
-    times: BTreeMap<(usize, usize), usize>,
+    codes: BTreeMap<(usize, usize), usize>,
+    statuses: BTreeMap<(usize, usize, usize), usize>,
 }
 
 fn index(request: Request) -> usize {
@@ -13,12 +15,20 @@ fn index(request: Request) -> usize {
 }
 
 impl Tally {
-    pub fn count(&mut self, request: Request, code: usize) {
-        *self.times.entry((index(request), code)).or_default() += 1;
+    pub fn count(&mut self, call: &Call, answer: &Said) {
+        let request = index(call.request);
+        *self.codes.entry((request, answer[0])).or_default() += 1;
+        if let Some((mode, status)) = call.status(answer) {
+            *self.statuses.entry((request, mode, status)).or_default() += 1;
+        }
     }
 
     fn times(&self, request: Request, code: usize) -> usize {
-        self.times.get(&(index(request), code)).copied().unwrap_or(0)
+        self.codes.get(&(index(request), code)).copied().unwrap_or(0)
+    }
+
+    fn times_of_status(&self, request: Request, mode: usize, status: usize) -> usize {
+        self.statuses.get(&(index(request), mode, status)).copied().unwrap_or(0)
     }
 
     pub fn print(&self) {
@@ -31,12 +41,29 @@ impl Tally {
                 print!("  {code:02o}: {}", self.times(request, code));
             }
             println!();
+            for (mode, statuses) in request.statuses().into_iter().enumerate().filter(|(_, all)| !all.is_empty()) {
+                print!("{:19}  mode {mode}, status: times", "");
+                for &status in statuses {
+                    print!("  {status}: {}", self.times_of_status(request, mode, status));
+                }
+                println!();
+            }
         }
     }
 
-    /// The codes that could be reached and were not.
-    pub fn missed(&self) -> Vec<(Request, usize)> {
-        let all = ALL.iter().flat_map(|&request| request.codes().iter().map(move |&code| (request, code)));
-        all.filter(|&(request, code)| self.times(request, code) == 0).collect()
+    /// The codes and statuses that could be reached and were not.
+    pub fn missed(&self) -> Vec<String> {
+        let mut missed = Vec::new();
+        for &request in ALL {
+            for &code in request.codes().iter().filter(|&&code| self.times(request, code) == 0) {
+                missed.push(format!("{code:02o} of {request:?}"));
+            }
+            for (mode, statuses) in request.statuses().into_iter().enumerate() {
+                for &status in statuses.iter().filter(|&&status| self.times_of_status(request, mode, status) == 0) {
+                    missed.push(format!("status {status} of {request:?} in mode {mode}"));
+                }
+            }
+        }
+        missed
     }
 }

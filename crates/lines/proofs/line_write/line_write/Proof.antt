@@ -1,0 +1,95 @@
+-- Rests on `LineWritingAnswers`: what was counted is the front of the text, a file that the stage gives has room for what is put for it.
+use borrow.Author.Needs.{needs}
+use Prim.Native.Nat.{ℕ}
+use mathlib.Core.Path.{_∙_}
+use lib.ListN.{length-replicate}
+use Rattle.pack.specs.GeometrySized.{mostBlocks}
+use Rattle.lines.proofs.LineWritingAnswers.{front-fits, line-denied, line-begun, line-done}
+use Rattle.lines.proofs.line_write.line_write.Statement.{statement}
+use Rattle.lines.proofs.line_write.line_write.Tie as tie
+
+count-taken-requires : tie.Need-count-taken-requires
+count-taken-requires c κs = search needs
+
+slice-aggregate-ask-write : tie.Need-slice-aggregate-ask-write
+slice-aggregate-ask-write c = search needs
+
+ask-write-requires : tie.Need-ask-write-requires
+ask-write-requires c κs = search needs
+
+enum-known-code : tie.Need-enum-known-code
+enum-known-code c = search needs
+
+enum-known-g : tie.Need-enum-known-g
+enum-known-g c = search needs
+
+slice-aggregate-taken : tie.Need-slice-aggregate-taken
+slice-aggregate-taken c =
+    let a = c .before .before .before .before .before .before .before .before .before .before .before .before .before .args in
+    front-fits (a .mode) (a .text .now) (c .before .before .before .before .before .before .before .before .before .count-taken .ensures .0)
+
+slice-aggregate-lay-text : tie.Need-slice-aggregate-lay-text
+slice-aggregate-lay-text c = search needs
+
+lay-text-requires : tie.Need-lay-text-requires
+lay-text-requires c κs =
+    let a = c .before .before .before .before .before .before .before .before .before .before .before .before .before .before .before .before .args in
+    let counted = c .before .before .before .before .before .before .before .before .before .before .before .before .count-taken .ensures in
+    let f = c .before .before .before .before .before .before .before .before .ask-write in
+    let told = c .before .before .before .before .before .g .given .1 in
+    line-begun (a .img .now) (a .key) (a .caller) (a .mode) (a .text .now) (a .gather .now) (a .filled) (counted .1) (f .ensures .0) told
+    (f .last .1 .0) (f .kept .1 .0 ∙ length-replicate {A = ℕ} mostBlocks 0) (f .ensures .1) (counted .0)
+
+status-of-requires : tie.Need-status-of-requires
+status-of-requires c κs = search needs
+
+same-length : tie.Need-same-length
+same-length c = search needs
+
+same-length-2 : tie.Need-same-length-2
+same-length-2 c = search needs
+
+returns : tie.Need-returns
+returns c =
+    let a = c .before .before .before .before .before .before .before .before .before .before .before .before .args in
+    let counted = c .before .before .before .before .before .before .before .before .count-taken .ensures in
+    let f = c .before .before .before .before .ask-write in
+    let told = c .before .code .given .1 in
+    line-denied (a .img .now) (a .key) (a .caller) (a .mode) (a .text .now) (a .gather .now) (a .filled) (counted .1) (f .ensures .0) told
+
+same-length-3 : tie.Need-same-length-3
+same-length-3 c = search needs
+
+same-length-4 : tie.Need-same-length-4
+same-length-4 c = search needs
+
+returns-2 : tie.Need-returns-2
+returns-2 c =
+    let file = c .before .before .before .before .before .before .before .before .before .before .before .before in
+    let a = file .before .before .before .before .before .before .before .before .before .before .before .args in
+    let counted = file .before .before .before .before .before .before .before .count-taken .ensures in
+    let f = file .before .before .before .ask-write in
+    let told = file .g .given .1 in
+    let laid = c .before .before .before .before .before .before .lay-text .ensures in
+    line-done (a .img .now) (a .key) (a .caller) (a .mode) (a .text .now) (a .gather .now) (a .filled) (counted .1) (f .ensures .0) told
+    (f .last .1 .0) (f .kept .1 .0 ∙ length-replicate {A = ℕ} mostBlocks 0) (f .ensures .1) (counted .0) laid (c .status-of .ensures)
+
+pub line-write-spec : {M : Type 1} → statement M
+line-write-spec =
+    tie.close
+    (tie.spec
+    count-taken-requires
+    slice-aggregate-ask-write
+    ask-write-requires
+    enum-known-code
+    enum-known-g
+    slice-aggregate-taken
+    slice-aggregate-lay-text
+    lay-text-requires
+    status-of-requires
+    same-length
+    same-length-2
+    returns
+    same-length-3
+    same-length-4
+    returns-2)

@@ -1,0 +1,24 @@
+-- Rests on `LineWritingAnswers`: the NULs are as many as a payload has places left.
+use borrow.Author.Needs.{needs}
+use Rattle.lines.proofs.LineWritingAnswers.{nuls-left, nuls-over}
+use Rattle.lines.proofs.line_write.nuls_for.Statement.{statement}
+use Rattle.lines.proofs.line_write.nuls_for.Tie as tie
+
+payload-bytes-of-requires : tie.Need-payload-bytes-of-requires
+payload-bytes-of-requires c κs = search needs
+
+returns : tie.Need-returns
+returns c = search needs
+
+returns-2 : tie.Need-returns-2
+returns-2 c = nuls-over _ (c .before .before .payload-bytes-of .ensures) _ (c .before .if1 .left) (c .if2 .taken)
+
+sub-result : tie.Need-sub-result
+sub-result c = search needs
+
+returns-3 : tie.Need-returns-3
+returns-3 c = nuls-left _ (c .before .before .payload-bytes-of .ensures) _ (c .before .if1 .left)
+
+pub nuls-for-spec : {M : Type 1} → statement M
+nuls-for-spec =
+    tie.close (tie.spec payload-bytes-of-requires returns returns-2 sub-result returns-3)

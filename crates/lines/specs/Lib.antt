@@ -1,0 +1,13 @@
+-- Lines of text over linked files.
+pub mod TextBytes
+pub mod LineRead
+pub mod LineSteps
+pub mod Reader
+pub mod ReadOn
+pub mod LineWrite
+pub mod WriteSteps
+pub mod BytesWriting
+pub mod LineRoundTrip
+pub mod LineReadingRows
+pub mod LineReading
+pub mod LineWriting

@@ -1,0 +1,9 @@
+// Lines of text over linked files: formatted ASCII, normal and special.
+pub mod line_read;
+pub mod line_write;
+
+// "the formatted ASCII normal and special modes"
+pub enum LineMode {
+    Normal,
+    Special,
+}
