@@ -9,7 +9,7 @@ use Rattle.room.specs.RoomTest.{highestRun}
 use Rattle.creation.specs.CreatingRows.{creatingRows}
 use Rattle.creation.specs.Rounding.{lengthFor}
 
--- "41: argument: N is 0"; "42: .. no free run long enough", after 12
+-- "41: argument: N is 0"; "42: .. no free run long enough", after 12: a reading easily got wrong is "Giving 42 where the directory is full too and 12 is due."
 unfoldable pub allocRows : List ℕ → Key → ℕ → ℕ → ℕ → List Row
 allocRows img key caller protect segments =
     creatingRows img key caller protect (eqb segments 0) ++ (row (missing (highestRun img (lengthFor img segments))) 0o42 ∷ [])

@@ -1,4 +1,4 @@
--- The rounding step, which alone turns segments into blocks.
+-- "the rounding step alone turns segments into blocks".
 use Prim.Native.Nat.{ℕ, _+_, _/_, _%_}
 use mathlib.Core.List.{List}
 use lib.Dec.{ltb}
@@ -6,7 +6,8 @@ use Rattle.pack.specs.declared.Geometry.{Geometry}
 use Rattle.pack.specs.File.{one}
 use Rattle.pack.specs.Geometry.{geometryOf}
 
--- "N segments (000: B = 4 per block) make N/4 blocks rounded up": the segments in a block are the pack's
+-- "N segments (000: B = 4 per block) make N/4 blocks rounded up": the segments in a block are the pack's. A reading easily
+-- got wrong is "Giving ALLOC the lowest run, or N blocks."
 unfoldable pub blocksFor : Geometry → ℕ → ℕ
 blocksFor g segments = segments / g .segments .0 + one (ltb 0 (segments % g .segments .0))
 

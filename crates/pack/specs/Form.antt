@@ -25,6 +25,6 @@ mostContentsOf form = 8
 unfoldable pub mostUicsOf : ℕ → ℕ
 mostUicsOf form = 64
 
--- "Blocks 1 to c: 16 entries each .. Other blocks are bodies": the number of the first body in a pack of c blocks of contents
+-- "contents first, then bodies": "Blocks 1 to c: 16 entries each .. Other blocks are bodies": the number of the first body in a pack of c blocks of contents
 unfoldable pub bodiesOf : ℕ → ℕ → ℕ
 bodiesOf form contents = contents + 1

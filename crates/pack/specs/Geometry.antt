@@ -15,7 +15,8 @@ geometryOf img =
       bodies = record { 0 = bodiesOf (wordAt img 0) (wordAt img 2) };
     }
 
--- "64-word segments": the words and the bytes of so many, and of a block
+-- "Blocks, 64-word segments and words are separate units (000, 2.7.1); a block number in the pack is also kept apart from a block's place in a file."
+-- The words and the bytes of so many segments, and of a block
 abbrev pub segmentWords : ℕ → ℕ
 segmentWords segments = 64 * segments
 

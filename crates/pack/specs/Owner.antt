@@ -50,7 +50,7 @@ isFree System = false
 isFree Free = true
 isFree (Held e p) = false
 
--- the lengths that entries store, summed
+-- "the stored lengths", summed
 unfoldable pub storedLengths : List ℕ → ℕ
 storedLengths img = total (λ e. entryOf img (geometryOf img) e .length) 0 (slots (geometryOf img))
 

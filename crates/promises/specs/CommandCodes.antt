@@ -10,6 +10,7 @@ use Rattle.command.specs.Condensed.{condensed, lineLimit, TooLong}
 use Rattle.command.specs.Csi2.{FoundAt}
 use Rattle.promises.specs.GivenWhen.{Case, _when_}
 
+-- "Code 40 is not for Format, conversions or command lines."
 -- CSI1: "Order: 53, raw line over 512 or condensed over 128; 52, buffer shorter than the condensed line; 50, not in the grammar"
 abbrev pub Csi1Cases : List ℕ → List ℕ → List Case
 Csi1Cases line buffer =
