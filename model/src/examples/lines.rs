@@ -146,29 +146,29 @@ fn surplus_is_laid_over_or_kept() {
 #[test]
 fn the_file_ends_before_a_terminator() {
     let end = PAYLOAD_BYTES;
-    let image = holding(&[b'X'; PAYLOAD_BYTES]);
+    let image = holding(&[b'A'; PAYLOAD_BYTES]);
     for mode in MODES {
-        assert_eq!(read(&image, mode, end - 3, 4), (b"XXX?".to_vec(), line(3, 64, end)));
+        assert_eq!(read(&image, mode, end - 3, 4), (b"AAA?".to_vec(), line(3, 64, end)));
         assert_eq!(read(&image, mode, end, 4), (b"????".to_vec(), line(0, 64, end)));
     }
     // As many characters as the maximum count, and nothing behind them: the count came first.
-    assert_eq!(read(&image, NORMAL, end - 3, 3), (b"XXX".to_vec(), line(3, 65, end)));
-    assert_eq!(read(&image, SPECIAL, end - 3, 3), (b"XXX".to_vec(), line(3, 1, end)));
+    assert_eq!(read(&image, NORMAL, end - 3, 3), (b"AAA".to_vec(), line(3, 65, end)));
+    assert_eq!(read(&image, SPECIAL, end - 3, 3), (b"AAA".to_vec(), line(3, 1, end)));
     assert_eq!(read(&image, SPECIAL, end, 3), (b"???".to_vec(), line(0, 64, end)));
     // With surplus.
-    assert_eq!(read(&image, NORMAL, end - 3, 2), (b"XX".to_vec(), line(3, 65, end)));
-    assert_eq!(read(&image, SPECIAL, end - 3, 2), (b"XX".to_vec(), line(2, 1, end - 1)));
+    assert_eq!(read(&image, NORMAL, end - 3, 2), (b"AA".to_vec(), line(3, 65, end)));
+    assert_eq!(read(&image, SPECIAL, end - 3, 2), (b"AA".to_vec(), line(2, 1, end - 1)));
     // With NULs behind, which normal mode passes and special mode leaves.
     let image = holding(b"XYZ");
     assert_eq!(read(&image, NORMAL, 0, 3), (b"XYZ".to_vec(), line(3, 65, end)));
     assert_eq!(read(&image, SPECIAL, 0, 3), (b"XYZ".to_vec(), line(3, 1, 3)));
     assert_eq!(read(&image, SPECIAL, 3, 3), (b"???".to_vec(), line(0, 64, end)));
     // A terminator as the last byte of the file.
-    let mut bytes = [b'X'; PAYLOAD_BYTES];
+    let mut bytes = [b'A'; PAYLOAD_BYTES];
     bytes[end - 1] = b'\n';
     let image = holding(&bytes);
-    assert_eq!(read(&image, NORMAL, end - 2, 2), (b"X\n".to_vec(), line(2, 0, end)));
-    assert_eq!(read(&image, NORMAL, end - 3, 2), (b"X\n".to_vec(), line(3, 1, end)));
+    assert_eq!(read(&image, NORMAL, end - 2, 2), (b"A\n".to_vec(), line(2, 0, end)));
+    assert_eq!(read(&image, NORMAL, end - 3, 2), (b"A\n".to_vec(), line(3, 1, end)));
 }
 
 #[test]
