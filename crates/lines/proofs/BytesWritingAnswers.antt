@@ -1,11 +1,9 @@
 -- What an answer of the stage of writing comes to: that the bytes can be laid, and the code, the numbers, the image and the gather buffer of the request.
 use Prim.Native.Nat.{ℕ, _<_}
-use mathlib.Core.Path.{_≡_, refl, sym, ap, subst, _∙_}
-use mathlib.Core.Bool.{Bool, true, false, not, _||_, false≢true}
+use mathlib.Core.Path.{_≡_, sym, ap, subst, _∙_}
+use mathlib.Core.Bool.{Bool, true, _||_}
 use mathlib.Core.List.{List, []}
-use lib.Dec.{eqb, leb}
 use lib.ListN.{length}
-use borrow.Author.Tests.{eqb-true, leb-false}
 use Rattle.answers.specs.Refusals.{firstOf}
 use Rattle.pack.specs.declared.Geometry.{Geometry}
 use Rattle.pack.specs.declared.Entry.{Entry}
@@ -27,27 +25,11 @@ use Rattle.stream.specs.Filling.{Writing, Writable, Written, written, Laying}
 use Rattle.stream.proofs.FillingSteps.{writing-start}
 use Rattle.stream.proofs.FillingLoop.{writing-alone, laying-done}
 use Rattle.lines.specs.BytesWriting.{wrongGather, gatheredIn, writingRows, bytesWritten}
+use Rattle.lines.proofs.BytesWritingStage.{Fitting, argument-fits}
 
 -- how a write begins: no block from the end of the pack on is free
 abbrev pub fromStart : Geometry → ℕ → Filling
 fromStart g filled = record { filled = filled; from = record { 0 = g .blocks } }
-
--- neither the gather buffer nor another argument is wrong
-pub record Fitting (img : List ℕ) (wrong : Bool) (gather : List ℕ) (filled : ℕ) : Type 0 where
-  pub whole : length gather ≡ payloadBytes (geometryOf img)
-  pub room : filled < payloadBytes (geometryOf img)
-  pub other : wrong ≡ false
-
-fits-by : (same over wrong : Bool) → ((not same || over) || wrong) ≡ false → (same ≡ true) × (over ≡ false) × (wrong ≡ false)
-fits-by true false false is = (refl, refl, refl)
-fits-by true false true is = (refl, refl, is)
-fits-by true true wrong is = absurd (false≢true (sym is))
-fits-by false over wrong is = absurd (false≢true (sym is))
-
-pub argument-fits : (img : List ℕ) (wrong : Bool) (gather : List ℕ) (filled : ℕ) → (wrongGather img gather filled || wrong) ≡ false → Fitting img wrong gather filled
-argument-fits img wrong gather filled argument =
-    let a = fits-by (eqb (length gather) (payloadBytes (geometryOf img))) (leb (payloadBytes (geometryOf img)) filled) wrong argument in
-    record { whole = eqb-true _ _ (a .0); room = leb-false _ _ (a .1); other = a .2 }
 
 module _ (img : List ℕ) (key : Key) (caller : ℕ) (wrong : Bool) (gather : List ℕ) (filled : ℕ) (put : List ℕ) where
   pub write-fitting : firstOf (writingRows img key caller wrong gather filled put) ≡ 0 → Fitting img wrong gather filled

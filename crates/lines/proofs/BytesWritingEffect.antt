@@ -35,7 +35,8 @@ use Rattle.stream.specs.AddedAll.{addedAll, takenBlocks, EachAdded}
 use Rattle.stream.proofs.Gather.{Gathering, gathered-holds, gathered-bytes, gathered-count, gathered-filled}
 use Rattle.stream.proofs.AddedAll.{added-accepted, added-consistent, added-untouched, added-owner, added-payloads}
 use Rattle.lines.specs.BytesWriting.{wrongGather, gatheredIn, writingRows, bytesWritten}
-use Rattle.lines.proofs.BytesWritingAnswers.{Fitting, write-fitting}
+use Rattle.lines.proofs.BytesWritingStage.{Fitting}
+use Rattle.lines.proofs.BytesWritingAnswers.{write-fitting}
 
 module _ (img : List ℕ) (key : Key) (caller : ℕ) (wrong : Bool) (gather : List ℕ) (filled : ℕ) (put numbers : List ℕ) where
   abbrev rows : List Row

@@ -19,7 +19,7 @@ pub mod LineReadingStage
 pub mod LineReadingProgress
 pub mod LineWrite
 pub mod LineWriteLaid
-pub mod WriteSteps
+pub mod LineWriteCounted
 pub mod BytesWritingStage
 pub mod BytesWritingAnswers
 pub mod BytesWritingEffect

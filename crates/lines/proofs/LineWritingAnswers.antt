@@ -1,5 +1,5 @@
 -- What an answer of the stage comes to for writing a line, and for the ending call.
-use Prim.Native.Nat.{ℕ, _-_, _≤_}
+use Prim.Native.Nat.{ℕ, _+_, _-_, _/_, _≤_, _<_}
 use mathlib.Core.Path.{_≡_, sym, ap, subst, _∙_}
 use mathlib.Core.Bool.{Bool, true, false, cond}
 use mathlib.Core.List.{List, [], _∷_}
@@ -43,10 +43,14 @@ module _ (img : List ℕ) (key : Key) (caller mode : ℕ) (text gather : List �
   abbrev outcome : Outcome
   outcome = lineWrite img key caller mode text gather filled
 
-  module _ {puts : ℕ} (counted : puts ≡ length (putAll line)) {asked : Asked}
-      (is : (put : List ℕ) → length put ≡ puts → asked ≡ stageOf (writingRows img key caller (ltb 1 mode) gather filled put) img key) where
+  module _ {count : ℕ} (front : count ≡ length line) {blocks : ℕ}
+      (full : filled < length gather → blocks ≡ (filled + length (putAll (take count text))) / length gather) {asked : Asked}
+      (is : (put : List ℕ) → (filled < length gather → blocks ≡ (filled + length put) / length gather)
+      → asked ≡ stageOf (writingRows img key caller (ltb 1 mode) gather filled put) img key) where
     own : asked ≡ stageOf (writingRows img key caller (ltb 1 mode) gather filled (putAll line)) img key
-    own = is (putAll line) (sym counted)
+    own =
+        is (putAll (take count text)) full
+        ∙ ap (λ (s : List ℕ). stageOf (writingRows img key caller (ltb 1 mode) gather filled (putAll s)) img key) (front-taken mode text front)
 
     pub line-denied : {code : ℕ} → asked ≡ Refused code
         → (code ≡ outcome .code) × (((0 ∷ (0 ∷ (0 ∷ []))) ≡ outcome .numbers) × ((img ≡ outcome .image) × (gather ≡ outcome .buffer)))
@@ -54,7 +58,7 @@ module _ (img : List ℕ) (key : Key) (caller mode : ℕ) (text gather : List �
     line-denied told = write-denied img key caller (ltb 1 mode) gather filled (putAll line) _ own told
 
     module _ {g : Geometry} {e : ℕ} {x : Entry} (told : asked ≡ File g e x) (map : List ℕ) (long : length map ≡ mostBlocks)
-        (says : consistent img ≡ true → Says map img) {count : ℕ} (front : count ≡ length line) where
+        (says : consistent img ≡ true → Says map img) where
       pub line-begun : Writable img map g e gather (fromStart g filled) (putAll (take count text))
       line-begun =
           subst (λ (s : List ℕ). Writable img map g e gather (fromStart g filled) (putAll s)) (sym (front-taken mode text front))
@@ -88,10 +92,14 @@ module _ (img : List ℕ) (key : Key) (caller : ℕ) (gather : List ℕ) (filled
   abbrev ended : Outcome
   ended = lineEnd img key caller gather filled
 
-  module _ {nuls : ℕ} (counted : nulsFor img filled ≡ replicate nuls 0) {asked : Asked}
-      (is : (put : List ℕ) → length put ≡ nuls → asked ≡ stageOf (writingRows img key caller false gather filled put) img key) where
+  module _ (nuls : ℕ) (counted : nulsFor img filled ≡ replicate nuls 0) {blocks : ℕ}
+      (full : filled < length gather → blocks ≡ (filled + nuls) / length gather) {asked : Asked}
+      (is : (put : List ℕ) → (filled < length gather → blocks ≡ (filled + length put) / length gather)
+      → asked ≡ stageOf (writingRows img key caller false gather filled put) img key) where
     ending : asked ≡ stageOf (writingRows img key caller false gather filled (nulsFor img filled)) img key
-    ending = is (nulsFor img filled) (ap length counted ∙ length-replicate {A = ℕ} nuls 0)
+    ending =
+        let long : nuls ≡ length (nulsFor img filled) = sym (ap length counted ∙ length-replicate {A = ℕ} nuls 0) in
+        is (nulsFor img filled) (λ room. full room ∙ ap (λ (n : ℕ). (filled + n) / length gather) long)
 
     pub end-denied : {code : ℕ} → asked ≡ Refused code → (code ≡ ended .code) × ((img ≡ ended .image) × (gather ≡ ended .buffer))
     unfolding lineEnd

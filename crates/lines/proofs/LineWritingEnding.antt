@@ -32,7 +32,8 @@ use Rattle.stream.specs.AddedAll.{addedAll, takenBlocks}
 use Rattle.stream.proofs.Gather.{gathered-count, gathered-filled}
 use Rattle.lines.specs.BytesWriting.{wrongGather, gatheredIn, writingRows}
 use Rattle.lines.specs.LineWriting.{nulsFor, lineEnd}
-use Rattle.lines.proofs.BytesWritingAnswers.{Fitting, argument-fits, write-fitting}
+use Rattle.lines.proofs.BytesWritingStage.{Fitting, argument-fits}
+use Rattle.lines.proofs.BytesWritingAnswers.{write-fitting}
 use Rattle.lines.proofs.BytesWritingEffect as W
 
 one-of : (payloads : List (List ℕ)) → length payloads ≡ 1 → payloads ≡ flatten payloads ∷ []

@@ -13,7 +13,7 @@ use Rattle.lines.specs.Reader.{IsRole, discarded, terminator, plain}
 kept : {y : ℕ} → (y ≡ 0 → ⊥) → (y ≡ 127 → ⊥) → isDiscarded y ≡ false
 kept {y} nul rubout = rw (ne-eqb y 0 nul, ne-eqb y 127 rubout)
 
-ends : (y : ℕ) → 10 ≤ y → y < 13 → isTerminator y ≡ true
+ends : (y : ℕ) → 10 ≤ y → y ≤ 12 → isTerminator y ≡ true
 ends y low high = by (eqb y 10) (eqb y 11) refl refl
   where
     by : (feed tab : Bool) → eqb y 10 ≡ feed → eqb y 11 ≡ tab → (feed || (tab || eqb y 12)) ≡ true
@@ -31,13 +31,13 @@ module _ {y : ℕ} where
   pub nul-discarded : y ≡ 0 → IsRole y Discarded
   nul-discarded is = rw is (discarded refl)
 
-  pub high-plain : 13 ≤ y → (y ≡ 127 → ⊥) → IsRole y Plain
+  pub high-plain : 12 < y → (y ≡ 127 → ⊥) → IsRole y Plain
   high-plain high rubout = plain (kept (λ is. omega arith) rubout) (goes-on y (λ is. omega arith) (λ is. omega arith) (λ is. omega arith))
 
-  pub low-terminator : y < 13 → (y ≡ 0 → ⊥) → 10 ≤ y → IsRole y Terminator
+  pub low-terminator : y ≤ 12 → (y ≡ 0 → ⊥) → 10 ≤ y → IsRole y Terminator
   low-terminator low nul high = terminator (kept nul (λ is. omega arith)) (ends y high low)
 
-  pub low-plain : y < 13 → (y ≡ 0 → ⊥) → y < 10 → IsRole y Plain
+  pub low-plain : y ≤ 12 → (y ≡ 0 → ⊥) → y < 10 → IsRole y Plain
   low-plain low nul lower = plain (kept nul (λ is. omega arith)) (goes-on y (λ is. omega arith) (λ is. omega arith) (λ is. omega arith))
 
   pub role-discarded : IsRole y Discarded → isDiscarded y ≡ true

@@ -16,7 +16,8 @@ use Rattle.stream.specs.AddedAll.{addedAll}
 abbrev pub wrongGather : List ℕ → List ℕ → ℕ → Bool
 wrongGather img gather filled = not (eqb (length gather) (payloadBytes (geometryOf img))) || leb (payloadBytes (geometryOf img)) filled
 
--- the gather buffer and the filled count that the bytes leave, and the payloads that become full
+-- the bytes gathered behind the first `filled` of the buffer, a payload being of the size that the image's form says: the buffer and the filled count
+-- that they leave, and the payloads that became full, in order
 abbrev pub gatheredIn : List ℕ → List ℕ → ℕ → List ℕ → Gathered
 gatheredIn img gather filled bytes = gathered (payloadBytes (geometryOf img)) gather filled bytes
 

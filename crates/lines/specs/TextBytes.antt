@@ -8,11 +8,11 @@ use lib.Dec.{eqb}
 abbrev pub cleared : ℕ → ℕ
 cleared x = x % 128
 
--- "NUL and RUBOUT"
+-- "NUL and RUBOUT": of a byte whose bit 7 is cleared; the test itself clears nothing
 abbrev pub isDiscarded : ℕ → Bool
 isDiscarded x = eqb x 0 || eqb x 127
 
--- "LINE FEED, VERTICAL TAB or FORM FEED"
+-- "LINE FEED, VERTICAL TAB or FORM FEED": a reader asks it of a byte whose bit 7 is cleared, a writer of a character as it is given
 abbrev pub isTerminator : ℕ → Bool
 isTerminator x = eqb x 10 || (eqb x 11 || eqb x 12)
 

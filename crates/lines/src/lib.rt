@@ -1,4 +1,6 @@
 // Lines of text over linked files: formatted ASCII, normal and special.
+mod characters;
+mod counting;
 pub mod line_read;
 pub mod line_write;
 

@@ -10,6 +10,7 @@ ghost use Rattle.lines.specs.LineSteps.{isSpecial, readFrom, atEnd};
 ghost use Rattle.lines.specs.LineReading.{modeOf, lineRead};
 ghost use Rattle.lines.specs.Reader.{mostBytes, IsRole, stateOf};
 use crate::LineMode;
+use crate::characters;
 use asking::Asked;
 use pack::Geometry;
 use pack::Key;
@@ -39,20 +40,20 @@ pub enum Role {
     Plain,
 }
 
-// Nearly all characters are 13 or more: two tests tell of these.
+// Nearly all characters stand behind FORM FEED: two tests tell of these.
 fn role_of(character: u8) -> Role
     ensures { λ r. ⌜ IsRole character r ⌝ }
 {
-    if 13 <= character {
-        if character == 127 {
+    if characters::FORM_FEED < character {
+        if character == characters::RUBOUT {
             return Role::Discarded;
         }
         return Role::Plain;
     }
-    if character == 0 {
+    if character == characters::NUL {
         return Role::Discarded;
     }
-    if 10 <= character {
+    if characters::LINE_FEED <= character {
         return Role::Terminator;
     }
     Role::Plain

@@ -1,6 +1,6 @@
 // Writing a line, and the ending call. What is taken and put is counted first, so that a write without room is refused before a byte is laid.
 ghost use mathlib.Core.Path.{_≡_};
-ghost use mathlib.Core.Bool.{true, cond, _&&_};
+ghost use mathlib.Core.Bool.{true};
 ghost use mathlib.Core.List.{List, [], _∷_};
 ghost use Prim.Native.Nat.{ℕ, _+_, _/_, _<_};
 ghost use lib.ListN.{length, replicate};
@@ -9,11 +9,11 @@ ghost use Rattle.consistency.specs.ConsistentTest.{consistent};
 ghost use Rattle.asking.specs.AskedStage.{stageOf};
 ghost use Rattle.room.specs.RoomMap.{Says};
 ghost use Rattle.stream.specs.Filling.{Writable, Laying};
-ghost use Rattle.lines.specs.declared.LineMode.the-variants.{Normal, Special};
-ghost use Rattle.lines.specs.TextBytes.{isTerminator};
-ghost use Rattle.lines.specs.LineWrite.{putOf, putAll, takenOf, writtenStatus};
-ghost use Rattle.lines.specs.BytesWriting.{writingRows};
+ghost use Rattle.lines.specs.LineWrite.{putOf, putAll, writtenStatus};
+ghost use Rattle.lines.specs.BytesWriting.{wrongGather, writingRows};
 ghost use Rattle.lines.specs.LineWriting.{lineWrite, nulsFor, lineEnd};
+use crate::characters;
+use crate::counting;
 use adding::linked_add;
 use asking::Asked;
 use pack::BlockNo;
@@ -21,18 +21,6 @@ use pack::Geometry;
 use pack::Key;
 use room::Blocks;
 use stream::Filling;
-
-const NUL: u8 = 0;
-
-const TAB: u8 = 9;
-
-const LINE_FEED: u8 = 10;
-
-const VERTICAL_TAB: u8 = 11;
-
-const FORM_FEED: u8 = 12;
-
-const RUBOUT: u8 = 127;
 
 // What a write answers: "the count taken", the status, and the filled count.
 #[repr(C)]
@@ -43,62 +31,6 @@ pub struct WriteAnswer {
     pub filled: usize,
 }
 
-// How many characters a write takes, and how many bytes it puts for them.
-pub struct LineTaken {
-    pub taken: usize,
-    pub puts: usize,
-}
-
-fn is_terminator(character: u8) -> bool
-    ensures { λ r. ⌜ r ≡ isTerminator character ⌝ }
-{
-    if character == LINE_FEED {
-        return true;
-    }
-    if character == VERTICAL_TAB {
-        return true;
-    }
-    character == FORM_FEED
-}
-
-// "special stops after the first terminator".
-fn is_last(special: bool, character: u8) -> bool
-    ensures { λ r. ⌜ r ≡ (special && isTerminator character) ⌝ }
-{
-    if special {
-        return is_terminator(character);
-    }
-    false
-}
-
-fn put_length(character: u8) -> usize
-    ensures { λ r. ⌜ r ≡ length (putOf character) ⌝ }
-{
-    if character == TAB {
-        return 2;
-    }
-    if character == FORM_FEED {
-        return 2;
-    }
-    1
-}
-
-fn count_taken(special: bool, text: &[u8]) -> LineTaken
-    ensures { λ r. ⌜ r .taken ≡ length (takenOf (cond special Special Normal) (now (text .entry))) ⌝ }
-    ensures { λ r. ⌜ r .puts ≡ length (putAll (takenOf (cond special Special Normal) (now (text .entry)))) ⌝ }
-{
-    let mut puts = 0;
-    let mut i = 0;
-    while i < text.len() {
-        puts += put_length(text[i]);
-        if is_last(special, text[i]) {
-            return LineTaken { taken: i + 1, puts };
-        }
-        i += 1;
-    }
-    LineTaken { taken: i, puts }
-}
-
 // "bit 0 says that its last character was none, or that it is 0".
 fn status_of(taken: &[u8]) -> usize
     ensures { λ r. ⌜ r ≡ writtenStatus (now (taken .entry)) ⌝ }
@@ -107,7 +39,7 @@ fn status_of(taken: &[u8]) -> usize
     if count == 0 {
         return 1;
     }
-    if is_terminator(taken[count - 1]) {
+    if characters::is_terminator(taken[count - 1]) {
         return 0;
     }
     1
@@ -128,14 +60,14 @@ fn lay_character(
         (now (img .exit)) (now (map .exit)) (now (gather .exit)) r [] ⌝ }
 {
     let next = stream::lay(img, map, g, e, gather, at, character);
-    if FORM_FEED < character {
+    if characters::FORM_FEED < character {
         return next;
     }
-    if character == TAB {
-        return stream::lay(img, map, g, e, gather, next, RUBOUT);
+    if character == characters::TAB {
+        return stream::lay(img, map, g, e, gather, next, characters::RUBOUT);
     }
-    if character == FORM_FEED {
-        return stream::lay(img, map, g, e, gather, next, NUL);
+    if character == characters::FORM_FEED {
+        return stream::lay(img, map, g, e, gather, next, characters::NUL);
     }
     next
 }
@@ -178,25 +110,21 @@ fn lay_nuls(
     let mut at = start;
     let mut left = count;
     while 0 < left {
-        at = stream::lay(img, map, g, e, gather, at, NUL);
+        at = stream::lay(img, map, g, e, gather, at, characters::NUL);
         left -= 1;
     }
     at
 }
 
-// How many blocks become full. The filled count and the bytes together may be more than a number holds: the bytes that fill the first are taken off.
-fn full_blocks(size: usize, filled: usize, bytes: usize) -> Blocks
-    requires { ⌜ filled < size ⌝ }
-    ensures { λ r. ⌜ r .0 ≡ (filled + bytes) / size ⌝ }
+// Is the gather buffer not of a payload's size, or does the filled count leave no room in it?
+fn is_gather_wrong(img: &[u8], gather: &[u8], filled: usize) -> bool
+    ensures { λ r. ⌜ r ≡ wrongGather (now (img .entry)) (now (gather .entry)) filled ⌝ }
 {
-    let room = size - filled;
-    if bytes < room {
-        return Blocks(0);
-    }
-    Blocks((bytes - room) / size + 1)
+    let size = bodies::payload_bytes_of(img);
+    (gather.len() != size) | (size <= filled)
 }
 
-// All that can refuse a request that puts so many bytes; nothing is written here. `wrong` says that an argument is wrong other than the gather
+// All that can refuse a request that fills so many blocks; nothing is written here. `wrong` says that an argument is wrong other than the gather
 // buffer and its filled count. The map is lent all zero, as for linked add.
 fn ask_write(
     img: &[u8],
@@ -206,28 +134,15 @@ fn ask_write(
     wrong: bool,
     gather: &[u8],
     filled: usize,
-    bytes: usize,
+    needed: Blocks,
 ) -> Asked
     requires { ⌜ now map ≡ replicate mostBlocks 0 ⌝ }
-    ensures { λ r. ⌜ ((put : List ℕ) → length put ≡ bytes
+    ensures { λ r. ⌜ ((put : List ℕ) → (filled < length (now (gather .entry)) → needed .0 ≡ (filled + length put) / length (now (gather .entry)))
         → r ≡ stageOf (writingRows (now (img .entry)) key caller wrong (now (gather .entry)) filled put) (now (img .entry)) key) ⌝ }
     ensures { λ r. ⌜ (consistent (now (img .entry)) ≡ true → Says (now (map .exit)) (now (img .entry))) ⌝ }
 {
-    let size = bodies::payload_bytes_of(img);
-    if gather.len() != size {
-        return linked_add::ask_add(img, map, key, caller, true, Blocks(0));
-    }
-    if size <= filled {
-        return linked_add::ask_add(img, map, key, caller, true, Blocks(0));
-    }
-    linked_add::ask_add(
-        img,
-        map,
-        key,
-        caller,
-        wrong,
-        full_blocks(size, filled, bytes),
-    )
+    let unfit = is_gather_wrong(img, gather, filled);
+    linked_add::ask_add(img, map, key, caller, unfit | wrong, needed)
 }
 
 pub fn line_write(
@@ -245,18 +160,11 @@ pub fn line_write(
     ensures { λ r. ⌜ now (img .exit) ≡ lineWrite (now (img .entry)) key caller mode (now (text .entry)) (now (gather .entry)) filled .image ⌝ }
     ensures { λ r. ⌜ now (gather .exit) ≡ lineWrite (now (img .entry)) key caller mode (now (text .entry)) (now (gather .entry)) filled .buffer ⌝ }
 {
-    let line = count_taken(mode == 1, text);
+    let count = counting::count_taken(mode == 1, text);
+    let taken = &text[..count];
+    let needed = counting::text_blocks(gather.len(), filled, taken);
     let mut map = [0u8; pack::MOST_BLOCKS];
-    match ask_write(
-        img,
-        &mut map,
-        key,
-        caller,
-        1 < mode,
-        gather,
-        filled,
-        line.puts,
-    ) {
+    match ask_write(img, &mut map, key, caller, 1 < mode, gather, filled, needed) {
         Asked::Refused(code) => WriteAnswer {
             code,
             count: 0,
@@ -264,8 +172,6 @@ pub fn line_write(
             filled: 0,
         },
         Asked::File(g, e, _) => {
-            let count = line.taken;
-            let taken = &text[..count];
             let start = Filling {
                 filled,
                 from: BlockNo(g.blocks),
@@ -301,8 +207,9 @@ pub fn line_end(img: &mut [u8], key: Key, caller: usize, gather: &mut [u8], fill
     ensures { λ r. ⌜ now (gather .exit) ≡ lineEnd (now (img .entry)) key caller (now (gather .entry)) filled .buffer ⌝ }
 {
     let nuls = nuls_for(img, filled);
+    let needed = counting::full_blocks(gather.len(), filled, nuls);
     let mut map = [0u8; pack::MOST_BLOCKS];
-    match ask_write(img, &mut map, key, caller, false, gather, filled, nuls) {
+    match ask_write(img, &mut map, key, caller, false, gather, filled, needed) {
         Asked::Refused(code) => code,
         Asked::File(g, e, _) => {
             let start = Filling {

@@ -11,6 +11,9 @@ use Rattle.lines.proofs.line_write.line_end.Tie as tie
 nuls-for-requires : tie.Need-nuls-for-requires
 nuls-for-requires c κs = search needs
 
+full-blocks-requires : tie.Need-full-blocks-requires
+full-blocks-requires c κs = search needs
+
 slice-aggregate-ask-write : tie.Need-slice-aggregate-ask-write
 slice-aggregate-ask-write c = search needs
 
@@ -28,11 +31,12 @@ slice-aggregate-lay-nuls c = search needs
 
 lay-nuls-requires : tie.Need-lay-nuls-requires
 lay-nuls-requires c κs =
-    let a = c .before .before .before .before .before .before .before .before .before .before .before .before .before .before .before .args in
-    let counted = c .before .before .before .before .before .before .before .before .before .before .before .nuls-for .ensures in
+    let a = c .before .before .before .before .before .before .before .before .before .before .before .before .before .before .before .before .args in
+    let counted = c .before .before .before .before .before .before .before .before .before .before .before .before .nuls-for .ensures in
+    let full = c .before .before .before .before .before .before .before .before .before .before .before .full-blocks .ensures .0 in
     let f = c .before .before .before .before .before .before .before .ask-write in
     let told = c .before .before .before .before .g .given .1 in
-    end-begun (a .img .now) (a .key) (a .caller) (a .gather .now) (a .filled) counted (f .ensures .0) told
+    end-begun (a .img .now) (a .key) (a .caller) (a .gather .now) (a .filled) _ counted full (f .ensures .0) told
     (f .last .1 .0) (f .kept .1 .0 ∙ length-replicate {A = ℕ} mostBlocks 0) (f .ensures .1)
 
 same-length : tie.Need-same-length
@@ -43,11 +47,12 @@ same-length-2 c = search needs
 
 returns : tie.Need-returns
 returns c =
-    let a = c .before .before .before .before .before .before .before .before .before .before .before .before .args in
-    let counted = c .before .before .before .before .before .before .before .before .nuls-for .ensures in
+    let a = c .before .before .before .before .before .before .before .before .before .before .before .before .before .args in
+    let counted = c .before .before .before .before .before .before .before .before .before .nuls-for .ensures in
+    let full = c .before .before .before .before .before .before .before .before .full-blocks .ensures .0 in
     let f = c .before .before .before .before .ask-write in
     let told = c .before .code .given .1 in
-    end-denied (a .img .now) (a .key) (a .caller) (a .gather .now) (a .filled) counted (f .ensures .0) told
+    end-denied (a .img .now) (a .key) (a .caller) (a .gather .now) (a .filled) _ counted full (f .ensures .0) told
 
 same-length-3 : tie.Need-same-length-3
 same-length-3 c = search needs
@@ -58,12 +63,13 @@ same-length-4 c = search needs
 returns-2 : tie.Need-returns-2
 returns-2 c =
     let file = c .before .before .before .before .before .before .before .before .before .before in
-    let a = file .before .before .before .before .before .before .before .before .before .before .before .args in
-    let counted = file .before .before .before .before .before .before .before .nuls-for .ensures in
+    let a = file .before .before .before .before .before .before .before .before .before .before .before .before .args in
+    let counted = file .before .before .before .before .before .before .before .before .nuls-for .ensures in
+    let full = file .before .before .before .before .before .before .before .full-blocks .ensures .0 in
     let f = file .before .before .before .ask-write in
     let told = file .g .given .1 in
     let laid = c .before .before .before .before .before .lay-nuls .ensures in
-    end-done (a .img .now) (a .key) (a .caller) (a .gather .now) (a .filled) counted (f .ensures .0) told
+    end-done (a .img .now) (a .key) (a .caller) (a .gather .now) (a .filled) _ counted full (f .ensures .0) told
     (f .last .1 .0) (f .kept .1 .0 ∙ length-replicate {A = ℕ} mostBlocks 0) (f .ensures .1) laid
 
 pub line-end-spec : {M : Type 1} → statement M
@@ -71,6 +77,7 @@ line-end-spec =
     tie.close
     (tie.spec
     nuls-for-requires
+    full-blocks-requires
     slice-aggregate-ask-write
     ask-write-requires
     enum-known-code

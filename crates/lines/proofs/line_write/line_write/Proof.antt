@@ -11,6 +11,14 @@ use Rattle.lines.proofs.line_write.line_write.Tie as tie
 count-taken-requires : tie.Need-count-taken-requires
 count-taken-requires c κs = search needs
 
+slice-aggregate-taken : tie.Need-slice-aggregate-taken
+slice-aggregate-taken c =
+    let a = c .before .before .before .before .before .args in
+    front-fits (a .mode) (a .text .now) (c .before .count-taken .ensures)
+
+text-blocks-requires : tie.Need-text-blocks-requires
+text-blocks-requires c κs = search needs
+
 slice-aggregate-ask-write : tie.Need-slice-aggregate-ask-write
 slice-aggregate-ask-write c = search needs
 
@@ -23,22 +31,18 @@ enum-known-code c = search needs
 enum-known-g : tie.Need-enum-known-g
 enum-known-g c = search needs
 
-slice-aggregate-taken : tie.Need-slice-aggregate-taken
-slice-aggregate-taken c =
-    let a = c .before .before .before .before .before .before .before .before .before .before .before .before .before .args in
-    front-fits (a .mode) (a .text .now) (c .before .before .before .before .before .before .before .before .before .count-taken .ensures .0)
-
 slice-aggregate-lay-text : tie.Need-slice-aggregate-lay-text
 slice-aggregate-lay-text c = search needs
 
 lay-text-requires : tie.Need-lay-text-requires
 lay-text-requires c κs =
-    let a = c .before .before .before .before .before .before .before .before .before .before .before .before .before .before .before .before .args in
-    let counted = c .before .before .before .before .before .before .before .before .before .before .before .before .count-taken .ensures in
-    let f = c .before .before .before .before .before .before .before .before .ask-write in
-    let told = c .before .before .before .before .before .g .given .1 in
-    line-begun (a .img .now) (a .key) (a .caller) (a .mode) (a .text .now) (a .gather .now) (a .filled) (counted .1) (f .ensures .0) told
-    (f .last .1 .0) (f .kept .1 .0 ∙ length-replicate {A = ℕ} mostBlocks 0) (f .ensures .1) (counted .0)
+    let a = c .before .before .before .before .before .before .before .before .before .before .before .before .before .before .before .before .before .args in
+    let count = c .before .before .before .before .before .before .before .before .before .before .before .before .before .count-taken .ensures in
+    let full = c .before .before .before .before .before .before .before .before .before .before .before .text-blocks .ensures .0 in
+    let f = c .before .before .before .before .before .before .before .ask-write in
+    let told = c .before .before .before .before .g .given .1 in
+    line-begun (a .img .now) (a .key) (a .caller) (a .mode) (a .text .now) (a .gather .now) (a .filled) count full (f .ensures .0) told
+    (f .last .1 .0) (f .kept .1 .0 ∙ length-replicate {A = ℕ} mostBlocks 0) (f .ensures .1)
 
 status-of-requires : tie.Need-status-of-requires
 status-of-requires c κs = search needs
@@ -51,11 +55,12 @@ same-length-2 c = search needs
 
 returns : tie.Need-returns
 returns c =
-    let a = c .before .before .before .before .before .before .before .before .before .before .before .before .args in
-    let counted = c .before .before .before .before .before .before .before .before .count-taken .ensures in
+    let a = c .before .before .before .before .before .before .before .before .before .before .before .before .before .before .args in
+    let count = c .before .before .before .before .before .before .before .before .before .before .count-taken .ensures in
+    let full = c .before .before .before .before .before .before .before .before .text-blocks .ensures .0 in
     let f = c .before .before .before .before .ask-write in
     let told = c .before .code .given .1 in
-    line-denied (a .img .now) (a .key) (a .caller) (a .mode) (a .text .now) (a .gather .now) (a .filled) (counted .1) (f .ensures .0) told
+    line-denied (a .img .now) (a .key) (a .caller) (a .mode) (a .text .now) (a .gather .now) (a .filled) count full (f .ensures .0) told
 
 same-length-3 : tie.Need-same-length-3
 same-length-3 c = search needs
@@ -65,25 +70,27 @@ same-length-4 c = search needs
 
 returns-2 : tie.Need-returns-2
 returns-2 c =
-    let file = c .before .before .before .before .before .before .before .before .before .before .before .before in
-    let a = file .before .before .before .before .before .before .before .before .before .before .before .args in
-    let counted = file .before .before .before .before .before .before .before .count-taken .ensures in
+    let file = c .before .before .before .before .before .before .before .before .before .before .before in
+    let a = file .before .before .before .before .before .before .before .before .before .before .before .before .before .args in
+    let count = file .before .before .before .before .before .before .before .before .before .count-taken .ensures in
+    let full = file .before .before .before .before .before .before .before .text-blocks .ensures .0 in
     let f = file .before .before .before .ask-write in
     let told = file .g .given .1 in
     let laid = c .before .before .before .before .before .before .lay-text .ensures in
-    line-done (a .img .now) (a .key) (a .caller) (a .mode) (a .text .now) (a .gather .now) (a .filled) (counted .1) (f .ensures .0) told
-    (f .last .1 .0) (f .kept .1 .0 ∙ length-replicate {A = ℕ} mostBlocks 0) (f .ensures .1) (counted .0) laid (c .status-of .ensures)
+    line-done (a .img .now) (a .key) (a .caller) (a .mode) (a .text .now) (a .gather .now) (a .filled) count full (f .ensures .0) told
+    (f .last .1 .0) (f .kept .1 .0 ∙ length-replicate {A = ℕ} mostBlocks 0) (f .ensures .1) laid (c .status-of .ensures)
 
 pub line-write-spec : {M : Type 1} → statement M
 line-write-spec =
     tie.close
     (tie.spec
     count-taken-requires
+    slice-aggregate-taken
+    text-blocks-requires
     slice-aggregate-ask-write
     ask-write-requires
     enum-known-code
     enum-known-g
-    slice-aggregate-taken
     slice-aggregate-lay-text
     lay-text-requires
     status-of-requires

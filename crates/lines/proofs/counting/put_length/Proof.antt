@@ -1,7 +1,7 @@
 -- Rests on `TextBytesTests`: TAB and FORM FEED have a byte put after them.
 use Rattle.lines.proofs.TextBytesTests.{two-tab, two-form, one-else}
-use Rattle.lines.proofs.line_write.put_length.Statement.{statement}
-use Rattle.lines.proofs.line_write.put_length.Tie as tie
+use Rattle.lines.proofs.counting.put_length.Statement.{statement}
+use Rattle.lines.proofs.counting.put_length.Tie as tie
 
 returns : tie.Need-returns
 returns c = two-tab (c .if1 .taken)

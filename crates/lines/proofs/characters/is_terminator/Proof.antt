@@ -1,7 +1,7 @@
 -- Rests on `TextBytesTests`: the three characters that end a line, one after another.
 use Rattle.lines.proofs.TextBytesTests.{ends-feed, ends-vertical, ends-form}
-use Rattle.lines.proofs.line_write.is_terminator.Statement.{statement}
-use Rattle.lines.proofs.line_write.is_terminator.Tie as tie
+use Rattle.lines.proofs.characters.is_terminator.Statement.{statement}
+use Rattle.lines.proofs.characters.is_terminator.Tie as tie
 
 returns : tie.Need-returns
 returns c = ends-feed (c .if1 .taken)
