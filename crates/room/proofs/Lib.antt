@@ -1,6 +1,8 @@
--- The laws of what is free in a pack.
+-- The laws of what is free in a pack, and of blocks that are cleared.
 pub mod RoomHighest
 pub mod RoomMapRun
 pub mod RoomMapCount
 pub mod RoomMapTaken
 pub mod RoomNeeds
+pub mod Cleared
+pub mod ClearedRun

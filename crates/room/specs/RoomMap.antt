@@ -5,7 +5,7 @@ use mathlib.Core.Bool.{Bool, true, cond, _&&_}
 use mathlib.Core.List.{List}
 use mathlib.Core.Option.{Option, none, some}
 use lib.Dec.{eqb, leb, ltb}
-use lib.ListN.{getD}
+use lib.ListN.{getD, set}
 use Rattle.pack.specs.declared.Geometry.{Geometry}
 use Rattle.pack.specs.File.{one}
 use Rattle.pack.specs.Consistent.{total, held}
@@ -59,3 +59,8 @@ freeFrom map b (suc k) = freeAfter (isFreeOn map b) (freeFrom map (b + 1) k)
 abbrev pub startIn : Run → Option ℕ
 startIn (Start b) = some (b .0)
 startIn Nowhere = none
+
+-- the map with `count` blocks from b on marked as held once
+unfoldable pub markedFrom : List ℕ → ℕ → ℕ → List ℕ
+markedFrom map b zero = map
+markedFrom map b (suc k) = set (markedFrom map b k) (b + k) 1

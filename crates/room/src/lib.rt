@@ -1,10 +1,12 @@
-// What is free in a pack, on the map that the check of an image fills: the free run with the highest start, how many blocks are free, taking one.
+// What is free in a pack, on the map that the check of an image fills: the free run with the highest start, how many blocks are free; and the
+// taking of blocks.
 ghost use mathlib.Core.Path.{_≡_};
-ghost use Prim.Native.Nat.{_-_, _≤_, _<_};
+ghost use Prim.Native.Nat.{ℕ, _+_, _-_, _≤_, _<_};
 ghost use lib.Dec.{eqb, leb};
 ghost use lib.ListN.{length, set};
-ghost use Rattle.pack.specs.GeometrySized.{mostBlocks};
-ghost use Rattle.room.specs.RoomMap.{runOn, freeAfter, startIn, freeOn, FreeOn};
+ghost use Rattle.pack.specs.GeometrySized.{mostBlocks, Sized};
+ghost use Rattle.room.specs.RoomMap.{runOn, freeAfter, startIn, freeOn, FreeOn, markedFrom};
+ghost use Rattle.room.specs.Cleared.{cleared};
 use pack::BlockNo;
 use pack::Geometry;
 
@@ -99,13 +101,35 @@ pub fn has_room(map: &[u8], g: Geometry, needed: Blocks) -> bool
     left == 0
 }
 
-// A block taken for any use. The image is lent too, for what taking a block does to it: nothing so far.
+// A block taken for any use is cleared first, whatever was in it: document 02 §2. Who takes a block takes it here.
 pub fn take_block(img: &mut [u8], map: &mut [u8], g: Geometry, b: BlockNo)
-    requires { ⌜ g .blocks ≤ length (now map) ⌝ }
-    requires { ⌜ FreeOn (now map) g (b .0) ⌝ }
-    ensures { λ r. ⌜ now (img .exit) ≡ now (img .entry) ⌝ }
+    requires { ⌜ Sized (now img) g ⌝ }
+    requires { ⌜ (g .blocks ≤ length (now map)) × FreeOn (now map) g (b .0) ⌝ }
+    ensures { λ r. ⌜ now (img .exit) ≡ cleared (now (img .entry)) g (b .0) 1 ⌝ }
     ensures { λ r. ⌜ now (map .exit) ≡ set (now (map .entry)) (b .0) 1 ⌝ }
 {
+    let segments = g.segments;
+    let bytes = segments.bytes();
     let at = b.0;
+    let start = at * bytes;
+    let end = start + bytes;
+    words::clear(&mut img[start..end]);
     map[at] = 1;
+}
+
+// A run of free blocks, each taken by itself.
+pub fn take_run(img: &mut [u8], map: &mut [u8], g: Geometry, start: BlockNo, count: Blocks)
+    requires { ⌜ Sized (now img) g ⌝ }
+    requires { ⌜ (g .blocks ≤ length (now map)) × (start .0 + count .0 ≤ g .blocks) ⌝ }
+    requires { ⌜ ((k : ℕ) → k < count .0 → FreeOn (now map) g (start .0 + k)) ⌝ }
+    ensures { λ r. ⌜ now (img .exit) ≡ cleared (now (img .entry)) g (start .0) (count .0) ⌝ }
+    ensures { λ r. ⌜ now (map .exit) ≡ markedFrom (now (map .entry)) (start .0) (count .0) ⌝ }
+{
+    let first = start.0;
+    let end = count.0;
+    let mut taken = 0;
+    while taken < end {
+        take_block(img, map, g, BlockNo(first + taken));
+        taken += 1;
+    }
 }
