@@ -3,6 +3,7 @@ pub mod LinkedAddStage
 pub mod LinkedAddWrites
 pub mod LinkedAddEnlarged
 pub mod LinkedAddMap
+pub mod LinkedAddTaken
 pub mod LinkedAddAnswers
 pub mod LinkedAddEffect
 pub mod LinkedAddAgain

@@ -30,6 +30,7 @@ use Rattle.asking.proofs.AskedStage.{Given, stage-is-refused, stage-is-file}
 use Rattle.room.specs.declared.Run.{Run}
 use Rattle.room.specs.declared.Run.the-variants.{Start, Nowhere}
 use Rattle.room.specs.RoomMap.{Says, FreeOn, NoneFrom, runOn, startIn}
+use Rattle.room.specs.Cleared.{cleared}
 use Rattle.room.proofs.RoomMapRun.{one-from, run-is}
 use Rattle.room.proofs.RoomMapTaken.{free-on}
 use Rattle.bodies.specs.BufferSizes.{wrongPayload}
@@ -40,6 +41,7 @@ use Rattle.adding.specs.LinkedAdd.{addedBlock, added, linkedAdd}
 use Rattle.adding.specs.LinkedAddStage.{Addable, Ready}
 use Rattle.adding.proofs.LinkedAddStage.{Admitted, admitted, free-block, block-free}
 use Rattle.adding.proofs.LinkedAddMap.{map-enlarged, none-enlarged}
+use Rattle.adding.proofs.LinkedAddTaken.{taken-added, taken-addable}
 
 -- a file has no more blocks than the pack: a word can count one more
 pub length-few : {img : List ℕ} (e : ℕ) → Consistent img → e < slots (geometryOf img) → entryOf img (geometryOf img) e .length + 1 < 65536
@@ -93,23 +95,27 @@ module _ {img map : List ℕ} {g : Geometry} {e : ℕ} {payload : List ℕ} (rea
       block-own : FreeBlock img (b .0)
       block-own = subst (FreeBlock img) (sym start-is) (block-free (ready .right) (ready .free))
 
-      pub take-ready : (g .blocks ≤ length map) × FreeOn map g (b .0)
-      take-ready = (map-whole, free-on (ready .says) (ready .measures) block-own)
-
-      -- taking a block changes nothing of the image
-      pub block-addable : (img′ : List ℕ) → img′ ≡ img → Addable img′ g e (b .0) payload
-      block-addable img′ same =
-          rw (same, ← ready .measures)
+      before : Addable img g e (b .0) payload
+      before =
+          rw (← ready .measures)
           (addable e (b .0) payload (ready .right) (subst (λ (h : Geometry). e < slots h) (sym (ready .measures)) (ready .entry))
           (subst (λ (h : Geometry). entryOf img h e .kind ≡ 2) (sym (ready .measures)) (ready .linked)) block-own
           (ready .whole ∙ ap payloadBytes (sym (ready .measures))))
 
-      pub block-done : (img′ : List ℕ) → img′ ≡ img → (img″ : List ℕ) → img″ ≡ added img′ g e (entryOf img′ g e) (b .0) payload
+      pub take-ready : Sized img g × ((g .blocks ≤ length map) × FreeOn map g (b .0))
+      take-ready = (before .sized, (map-whole, free-on (ready .says) (ready .measures) block-own))
+
+      -- the block was taken: it is cleared, and what is added is the same
+      pub block-addable : (img′ : List ℕ) → img′ ≡ cleared img g (b .0) 1 → Addable img′ g e (b .0) payload
+      block-addable img′ taken = taken-addable (before .sized) (before .body) (before .below) taken before
+
+      pub block-done : (img′ : List ℕ) → img′ ≡ cleared img g (b .0) 1 → (img″ : List ℕ) → img″ ≡ added img′ g e (entryOf img′ g e) (b .0) payload
           → (map′ : List ℕ) → map′ ≡ set map (b .0) 1
           → (b .0 ≡ addedBlock img) × ((img″ ≡ added img g e (entryOf img g e) (addedBlock img) payload) × (Says map′ img″ × NoneFrom map′ g (b .0)))
-      block-done img′ same img″ written map′ marked =
+      block-done img′ taken img″ written map′ marked =
           let image : img″ ≡ added img g e (entryOf img g e) (addedBlock img) payload =
-          written ∙ ap (λ (i : List ℕ). added i g e (entryOf i g e) (b .0) payload) same ∙ ap (λ (z : ℕ). added img g e (entryOf img g e) z payload) start-is in
+          written ∙ taken-added (before .sized) (before .body) (before .below) taken payload (before .whole) e (before .entry)
+          ∙ ap (λ (z : ℕ). added img g e (entryOf img g e) z payload) start-is in
           let says : Says map′ (added img g e (entryOf img g e) (addedBlock img) payload) =
           rw (marked, start-is) (map-enlarged ready (addedBlock img) (block-free (ready .right) (ready .free))) in
           (start-is, (image, (rw image says, rw start-is (none-enlarged ready map′ says))))

@@ -6,3 +6,4 @@ pub mod RoomMapTaken
 pub mod RoomNeeds
 pub mod Cleared
 pub mod ClearedRun
+pub mod ClearedKept

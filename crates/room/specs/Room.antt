@@ -11,3 +11,7 @@ pub record FreeRun (img : List ℕ) (length s : ℕ) : Type 0 where
 pub record HighestRun (img : List ℕ) (length s : ℕ) : Type 0 where
   pub run : FreeRun img length s
   pub highest : (t : ℕ) → s < t → FreeRun img length t → ⊥
+
+-- b is one of the `length` blocks from s on
+abbrev pub InRun : ℕ → ℕ → ℕ → Type 0
+InRun s length b = (s ≤ b) × (b < s + length)

@@ -1,4 +1,4 @@
--- Rests on `LinkedAddAnswers`: a block is free, so `highest_below` finds the highest; taking it changes no byte, and once added it is held once.
+-- Rests on `LinkedAddAnswers`: a block is free, so `highest_below` finds the highest; taken it is cleared, all of it is then written, and once added it is held once.
 use borrow.Author.Needs.{needs}
 use Rattle.adding.proofs.linked_add.add_below.Statement.{statement}
 use Rattle.adding.proofs.linked_add.add_below.Tie as tie
