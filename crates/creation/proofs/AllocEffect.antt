@@ -1,5 +1,5 @@
--- ALLOC, for all images and arguments: what a refusal keeps, when it is refused with 42, what a success makes, and what stays as it was.
-use Prim.Native.Nat.{ℕ, _+_, _-_, _≤_, _<_}
+-- ALLOC, for all images and arguments: what a refusal keeps, when it is refused with 42, what a success makes and clears, and what stays as it was.
+use Prim.Native.Nat.{ℕ, _+_, _*_, _-_, _≤_, _<_}
 use mathlib.Core.Path.{_≡_, refl, sym, ap, _∙_}
 use mathlib.Core.Logic.{_⊎_, inl, inr, _↔_}
 use mathlib.Core.List.{List, [], _∷_}
@@ -13,7 +13,11 @@ use Rattle.pack.specs.declared.Key.{Key}
 use Rattle.pack.specs.declared.Geometry.{Geometry}
 use Rattle.pack.specs.declared.Entry.{Entry}
 use Rattle.pack.specs.declared.Owner.the-variants.{Held}
-use Rattle.pack.specs.Geometry.{geometryOf}
+use Rattle.words.proofs.Word.{byte-set-other}
+use Rattle.pack.specs.Geometry.{geometryOf, blockBytes, entryAt}
+use Rattle.pack.specs.GeometrySized.{Sized}
+use Rattle.pack.specs.EntryWords.{setEntryWord, setEntryWords, wordsOf}
+use Rattle.pack.proofs.GeometryRoom.{sized-same}
 use Rattle.pack.specs.File.{nextOf, chain, blocksOf, count}
 use Rattle.pack.specs.Entry.{entryOf, Contiguous}
 use Rattle.pack.specs.Consistent.{Consistent}
@@ -22,21 +26,45 @@ use Rattle.pack.specs.Untouched.{Untouched}
 use Rattle.pack.proofs.FileChain.{chain-length, next-contiguous}
 use Rattle.frame.proofs.FileChainWays.{extent-place, extent-below, extent-above, extent-most}
 use Rattle.frame.specs.Framed.{Only, Never, Kept}
-use Rattle.frame.proofs.FramedCompose.{kept-same}
+use Rattle.frame.proofs.FramedCompose.{kept-same, kept-compose, entry-kept}
+use Rattle.frame.proofs.FramedHeld.{framed-one}
+use Rattle.frame.proofs.FramedWritten.{Outside}
 use Rattle.frame.proofs.UntouchedFramed.{untouched-refl}
 use Rattle.asking.proofs.Outcome.{code-is, success-image, success-numbers, refusal-keeps, image-by}
 use Rattle.asking.specs.Outcome.{Unchanged}
 use Rattle.creation.specs.CreatingRows.{creatingRows}
+use Rattle.creation.specs.declared.creating.Shape.{Shape}
 use Rattle.creation.specs.Creating.{created, LowestEmpty, newFile, entryFor}
 use Rattle.creation.specs.AllocRows.{allocRows}
 use Rattle.creation.specs.Rounding.{lengthFor}
 use Rattle.creation.specs.Alloc.{startFor, alloc, extentFrom}
 use Rattle.room.specs.RoomTest.{highestRun}
-use Rattle.room.specs.Room.{FreeRun, HighestRun}
+use Rattle.bodies.specs.BlockBytes.{blockStart}
+use Rattle.room.specs.Room.{FreeRun, HighestRun, InRun}
+use Rattle.room.specs.Cleared.{cleared, ClearedBlocks}
+use Rattle.room.proofs.Cleared.{blocks-room, cleared-blocks}
+use Rattle.room.proofs.ClearedKept.{cleared-kept}
 use Rattle.room.proofs.RoomHighest.{run-none}
 use Rattle.creation.proofs.CreatingStage.{creatable}
 use Rattle.creation.proofs.AllocStage.{rows-42, rows-clear, Allocatable, segments-some, allocatable}
-use Rattle.creation.proofs.CreatingEffect.{entered, entered-kept, entered-entry, entered-untouched, entered-consistent, entered-owner, entered-others}
+use Rattle.creation.proofs.CreatingEffect.{Entered, entered, entered-kept, entry-entered, entered-untouched, entered-consistent, entered-owner, entered-others}
+
+-- a byte that is none of the entry's
+words-outside : (words img : List ℕ) (g : Geometry) (e i : ℕ) → i + length words ≤ 16 → (k : ℕ) → Outside (2 * entryAt g e) 32 k
+    → getD (setEntryWords img g e i words) k 0 ≡ getD img k 0
+unfolding setEntryWords
+words-outside [] img g e i fits k outside = refl
+words-outside (word ∷ more) img g e i fits k outside =
+    words-outside more (setEntryWord img g e i word) g e (i + 1) (omega arith) k outside
+    ∙ byte-set-other img (entryAt g e + i) word k (low outside) (high outside)
+  where
+    low : Outside (2 * entryAt g e) 32 k → k ≡ 2 * (entryAt g e + i) → ⊥
+    low (inl less) is = omega (arith, is, less)
+    low (inr more) is = omega (arith, is, more, fits)
+
+    high : Outside (2 * entryAt g e) 32 k → k ≡ 2 * (entryAt g e + i) + 1 → ⊥
+    high (inl less) is = omega (arith, is, less)
+    high (inr more) is = omega (arith, is, more, fits)
 
 -- the blocks of the new file: `size` of them from `first` on
 module _ (img : List ℕ) (g : Geometry) (key : Key) (protect first size : ℕ) where
@@ -81,11 +109,15 @@ contiguous : (key : Key) (protect first size : ℕ) → 0 < size → Contiguous 
 contiguous key protect first size positive = record { kind = refl; length = positive; last = omega arith; writer = inl refl }
 
 module _ (img : List ℕ) (key : Key) (caller protect segments : ℕ) where
+  abbrev shape : Shape
+  shape = extentFrom (startFor img segments) (lengthFor img segments)
+
+  -- the entry written, and the blocks of the run taken
   abbrev made : Allocatable img key caller protect segments → List ℕ
-  made a = entered (a .ready) (extentFrom (startFor img segments) (lengthFor img segments))
+  made a = cleared (entered (a .ready) shape) (geometryOf img) (startFor img segments) (lengthFor img segments)
 
   abbrev file : Entry
-  file = newFile key protect (extentFrom (startFor img segments) (lengthFor img segments))
+  file = newFile key protect shape
 
   -- "A refusal returns its code, any other number in the answer 0 .., and nothing in the image .. changes."
   pub alloc-refused : (alloc img key caller protect segments .code ≡ 0 → ⊥)
@@ -134,6 +166,33 @@ module _ (img : List ℕ) (key : Key) (caller protect segments : ℕ) where
         by (inr success) = success .0
 
   module _ (a : Allocatable img key caller protect segments) where
+    made-cleared : ClearedBlocks (entered (a .ready) shape) (made a) (geometryOf img) (startFor img segments) (lengthFor img segments)
+    made-cleared =
+        let sized : Sized (entered (a .ready) shape) (geometryOf img) = sized-same (a .ready .sized) (entered-kept (a .ready) shape {Written = Never} .long) in
+        cleared-blocks (blocks-room sized (startFor img segments) (lengthFor img segments) (a .inside))
+
+    -- the first block of the run is a body
+    above : geometryOf img .contents < startFor img segments
+    above =
+        let first = a .extent .run .free (startFor img segments) (omega arith) (omega (arith, a .positive)) in
+        omega (arith, first .body, a .ready .sized .contents)
+
+    taken-kept : {Named : ℕ → Type 0} → Kept Named (InRun (startFor img segments) (lengthFor img segments)) (entered (a .ready) shape) (made a) (geometryOf img)
+    taken-kept = cleared-kept made-cleared above
+
+    made-kept : Kept (Only (entryFor img)) (InRun (startFor img segments) (lengthFor img segments)) img (made a) (geometryOf img)
+    made-kept = kept-compose (entered-kept (a .ready) shape) taken-kept
+
+    -- written are the entry, which was empty, and blocks that nobody held
+    made-entered : Entered (InRun (startFor img segments) (lengthFor img segments)) img (made a) file
+    made-entered =
+        let inside = a .ready .entry .inside in
+        record {
+          framed = framed-one refl (a .ready .right) made-kept inside (λ b run. inr (a .extent .run .free b (run .0) (run .1) .nobody));
+          words = λ i small. taken-kept {Named = Never} .entries (entryFor img) inside (λ never. never) i small ∙ entry-entered (a .ready) shape .words i small;
+          entry = entry-kept (taken-kept {Named = Never}) (entryFor img) inside (λ never. never) ∙ entry-entered (a .ready) shape .entry;
+        }
+
     free-block : (b : ℕ) → 0 < count b (blocksOf (made a) (geometryOf img) file) → FreeBlock img b
     free-block b some-count =
         let inside = extent-inside (made a) (geometryOf img) key protect (startFor img segments) (lengthFor img segments) b some-count in
@@ -147,7 +206,7 @@ module _ (img : List ℕ) (key : Key) (caller protect segments : ℕ) where
 
     made-consistent : Consistent (made a)
     made-consistent =
-        entered-consistent (a .ready) (extentFrom (startFor img segments) (lengthFor img segments))
+        entered-consistent (a .ready) shape made-entered
         (inl right-kind) (omega arith) once free-block
 
     made-owner : (b : ℕ) → startFor img segments ≤ b → b < startFor img segments + lengthFor img segments
@@ -155,12 +214,12 @@ module _ (img : List ℕ) (key : Key) (caller protect segments : ℕ) where
     made-owner b low high =
         let at = extent-at (made a) (geometryOf img) key protect (startFor img segments) (lengthFor img segments) (b - startFor img segments) (omega arith) in
         let back : startFor img segments + (b - startFor img segments) ≡ b = omega arith in
-        entered-owner (a .ready) (extentFrom (startFor img segments) (lengthFor img segments))
+        entered-owner (a .ready) shape made-entered
         (inl right-kind) (omega arith) once free-block (b - startFor img segments) b (at .0) (at .1 ∙ back)
 
     made-others : (b : ℕ) → (startFor img segments ≤ b → b < startFor img segments + lengthFor img segments → ⊥) → ownerOf (made a) b ≡ ownerOf img b
     made-others b outside =
-        entered-others (a .ready) (extentFrom (startFor img segments) (lengthFor img segments)) b
+        entered-others (a .ready) shape made-entered b
         (extent-outside (made a) (geometryOf img) key protect (startFor img segments) (lengthFor img segments) b outside)
 
   -- what was written, where nothing speaks against it
@@ -176,17 +235,17 @@ module _ (img : List ℕ) (key : Key) (caller protect segments : ℕ) where
   pub alloc-consistent : Consistent img → Consistent (alloc img key caller protect segments .image)
   alloc-consistent right = image-is Consistent right made-consistent
 
-  -- "Bodies are not written.": nothing but the words of the lowest empty entry is
-  pub alloc-kept : Kept (Only (entryFor img)) Never img (alloc img key caller protect segments .image) (geometryOf img)
+  -- nothing is written but the words of the lowest empty entry and the blocks of the run
+  pub alloc-kept : Kept (Only (entryFor img)) (InRun (startFor img segments) (lengthFor img segments)) img (alloc img key caller protect segments .image) (geometryOf img)
   alloc-kept =
-      image-is (λ img′. Kept (Only (entryFor img)) Never img img′ (geometryOf img)) (kept-same img (geometryOf img))
-      (λ a. entered-kept (a .ready) (extentFrom (startFor img segments) (lengthFor img segments)))
+      image-is (λ img′. Kept (Only (entryFor img)) (InRun (startFor img segments) (lengthFor img segments)) img img′ (geometryOf img))
+      (kept-same img (geometryOf img)) made-kept
 
   -- every file is untouched: the request's own key has none
   pub alloc-untouched : (key′ : Key) → Untouched key′ img (alloc img key caller protect segments .image)
   alloc-untouched key′ =
       image-is (Untouched key′ img) (untouched-refl key′ img)
-      (λ a. entered-untouched (a .ready) (extentFrom (startFor img segments) (lengthFor img segments)) key′)
+      (λ a. entered-untouched (a .ready) shape (made-entered a) key′)
 
   -- each block of the run is the new file's at its place, and every other block is whose it was
   pub alloc-owner : alloc img key caller protect segments .code ≡ 0 → (b : ℕ) → startFor img segments ≤ b → b < startFor img segments + lengthFor img segments
@@ -214,5 +273,22 @@ module _ (img : List ℕ) (key : Key) (caller protect segments : ℕ) where
         number = success-numbers (allocRows img key caller protect segments) img [] _ (sym code-rows ∙ success);
         file =
             ap (λ (img′ : List ℕ). entryOf img′ (geometryOf img) (entryFor img)) (image-made success)
-            ∙ entered-entry (a .ready) (extentFrom (startFor img segments) (lengthFor img segments));
+            ∙ made-entered a .entry;
+      }
+
+  -- document 02 §2: "ALLOC shall leave every block it takes all zero", and every other byte is what it was but those of the entry
+  pub record Cleared : Type 0 where
+    pub zero : (k : ℕ) → k < lengthFor img segments * blockBytes (geometryOf img)
+        → getD (alloc img key caller protect segments .image) (blockStart (geometryOf img) (startFor img segments) + k) 0 ≡ 0
+    pub others : (k : ℕ) → Outside (blockStart (geometryOf img) (startFor img segments)) (lengthFor img segments * blockBytes (geometryOf img)) k
+        → Outside (2 * entryAt (geometryOf img) (entryFor img)) 32 k → getD (alloc img key caller protect segments .image) k 0 ≡ getD img k 0
+
+  pub alloc-cleared : alloc img key caller protect segments .code ≡ 0 → Cleared
+  alloc-cleared success =
+      let a = alloc-allocatable success in
+      let clear = made-cleared a in
+      record {
+        zero = λ k inside. rw (image-made success) (clear .zero k inside);
+        others = λ k body entry.
+            rw (image-made success) (clear .others k body ∙ words-outside (wordsOf file) img (geometryOf img) (entryFor img) 0 (omega arith) k entry);
       }

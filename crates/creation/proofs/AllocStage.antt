@@ -21,11 +21,17 @@ use Rattle.asking.proofs.Outcome.{done-answer, refused-answer}
 use Rattle.room.specs.declared.Blocks.{Blocks}
 use Rattle.room.specs.RoomTest.{highestRun}
 use Rattle.room.specs.Room.{HighestRun}
+use Rattle.room.specs.RoomMap.{Says, FreeOn}
+use Rattle.room.specs.Cleared.{cleared}
 use Rattle.room.proofs.RoomHighest.{run-highest, run-inside}
+use Rattle.room.proofs.RoomMapTaken.{free-on}
+use Rattle.pack.proofs.GeometryRoom.{sized-same}
+use Rattle.consistency.specs.ConsistentTest.{consistent}
+use Rattle.consistency.proofs.ConsistentTestIff.{consistent-iff}
 use Rattle.pack.specs.EntryWords.{wordsOf, setEntryWords}
 use Rattle.pack.specs.EntryFields.{WordFields}
 use Rattle.creation.specs.CreatingRows.{creatingRows}
-use Rattle.creation.specs.Creating.{newFile, entryFor}
+use Rattle.creation.specs.Creating.{newFile, entryFor, created}
 use Rattle.creation.specs.AllocRows.{allocRows}
 use Rattle.creation.specs.Rounding.{blocksFor, lengthFor}
 use Rattle.creation.specs.Alloc.{startFor, alloc, extentFrom}
@@ -189,17 +195,36 @@ module _ (img : List ℕ) (key : Key) (caller protect segments : ℕ) where
             ),
           )
 
+      -- the blocks of the run are still free on the map when the entry is written
+      pub alloc-run : (map : List ℕ) → length map ≡ mostBlocks → (consistent img ≡ true → Says map img) → (img′ : List ℕ) → length img′ ≡ length img
+          → Sized img′ g × (((g .blocks ≤ length map) × (s .0 + k .0 ≤ g .blocks)) × ((i : ℕ) → i < k .0 → FreeOn map g (s .0 + i)))
+      alloc-run map long says img′ same =
+          let c = chosen g e s k told in
+          let a = allocatable (c .clear) in
+          let sized : Sized img g = sized-at (a .ready) (c .measures) (c .number) in (
+            sized-same sized same,
+            (
+              (omega (arith, long, sized .most), omega (arith, a .inside, c .start, c .length, ap (λ (h : Geometry). h .blocks) (c .measures))),
+              λ i few.
+                  free-on (says (consistent-iff img .1 (a .ready .right))) (c .measures)
+                  (a .extent .run .free (s .0 + i) (omega (arith, c .start)) (omega (arith, few, c .start, c .length))),
+            ),
+          )
+
       pub alloc-done : (img′ : List ℕ) → img′ ≡ setEntryWords img g e 0 (wordsOf (newFile key protect (extentFrom (s .0) (k .0))))
+          → (img″ : List ℕ) → img″ ≡ cleared img′ g (s .0) (k .0)
           → (0 ≡ alloc img key caller protect segments .code)
           × (((s .0 ∷ []) ≡ alloc img key caller protect segments .numbers)
-          × (img′ ≡ alloc img key caller protect segments .image))
+          × (img″ ≡ alloc img key caller protect segments .image))
       unfolding alloc
-      alloc-done img′ written =
+      alloc-done img′ written img″ taken =
           let c = chosen g e s k told in
           let extent : (s .0 ≡ startFor img segments) × (k .0 ≡ lengthFor img segments) = (sym (c .start), sym (c .length)) in
-          let d =
-          done-answer (allocRows img key caller protect segments) img [] _ (c .clear) (s .0 ∷ []) img′ (ap (λ (x : ℕ). x ∷ []) (sym (c .start)))
-          (written
-          ∙ (λ i. setEntryWords img g e 0 (wordsOf (newFile key protect (extentFrom (extent .0 i) (extent .1 i)))))
+          let entered : img′ ≡ created img (newFile key protect (extentFrom (startFor img segments) (lengthFor img segments))) =
+          written
+          ∙ ((λ i. setEntryWords img g e 0 (wordsOf (newFile key protect (extentFrom (extent .0 i) (extent .1 i)))))
           ∙ created-at img _ g e (c .measures) (c .number)) in
+          let d =
+          done-answer (allocRows img key caller protect segments) img [] _ (c .clear) (s .0 ∷ []) img″ (ap (λ (x : ℕ). x ∷ []) (sym (c .start)))
+          (taken ∙ (λ i. cleared (entered i) (sym (c .measures) i) (extent .0 i) (extent .1 i))) in
           (d .0, (d .1, d .2))

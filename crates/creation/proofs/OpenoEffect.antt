@@ -21,7 +21,7 @@ use Rattle.creation.specs.Creating.{created, LowestEmpty, newFile, entry
 use Rattle.creation.specs.OpenoRows.{openoRows}
 use Rattle.creation.specs.Openo.{openo, emptyOutput}
 use Rattle.creation.proofs.CreatingStage.{Creatable, creatable}
-use Rattle.creation.proofs.CreatingEffect.{entered, entered-entry, entered-untouched, entered-consistent, entered-others}
+use Rattle.creation.proofs.CreatingEffect.{entered, entry-entered, entered-untouched, entered-consistent, entered-others}
 
 -- the new file has no block
 no-blocks : (img : List ℕ) (g : Geometry) (key : Key) (protect : ℕ) → blocksOf img g (newFile key protect emptyOutput) ≡ []
@@ -44,7 +44,7 @@ module _ (img : List ℕ) (key : Key) (caller protect : ℕ) where
 
     written-consistent : Consistent (entered ready emptyOutput)
     written-consistent =
-        entered-consistent ready emptyOutput (inr (linked (entered ready emptyOutput) (geometryOf img) key protect)) (omega arith)
+        entered-consistent ready emptyOutput (entry-entered ready emptyOutput) (inr (linked (entered ready emptyOutput) (geometryOf img) key protect)) (omega arith)
         (λ b. omega (arith, none-counted b)) (λ b some. absurd (omega (arith, some, none-counted b)))
 
   -- what was written, where nothing speaks against it
@@ -58,11 +58,11 @@ module _ (img : List ℕ) (key : Key) (caller protect : ℕ) where
 
   -- every file is untouched: the request's own key has none
   pub openo-untouched : (key′ : Key) → Untouched key′ img (openo img key caller protect .image)
-  openo-untouched key′ = image-is (Untouched key′ img) (untouched-refl key′ img) (λ ready. entered-untouched ready emptyOutput key′)
+  openo-untouched key′ = image-is (Untouched key′ img) (untouched-refl key′ img) (λ ready. entered-untouched ready emptyOutput (entry-entered ready emptyOutput) key′)
 
   -- every block is whose it was
   pub openo-owner : (b : ℕ) → ownerOf (openo img key caller protect .image) b ≡ ownerOf img b
-  openo-owner b = image-is (λ img′. ownerOf img′ b ≡ ownerOf img b) refl (λ ready. entered-others ready emptyOutput b (none-counted ready b))
+  openo-owner b = image-is (λ img′. ownerOf img′ b ≡ ownerOf img b) refl (λ ready. entered-others ready emptyOutput (entry-entered ready emptyOutput) b (none-counted ready b))
 
   -- "OPENO: a new linked file of length 0, writer 2, readers 0. Lowest empty entry."
   pub openo-entry : openo img key caller protect .code ≡ 0
@@ -73,5 +73,5 @@ module _ (img : List ℕ) (key : Key) (caller protect : ℕ) where
       let ready = creatable img key caller protect false clear in (
         ready .entry,
         ap (λ (img′ : List ℕ). entryOf img′ (geometryOf img) (entryFor img)) (success-image (openoRows img key caller protect) img [] _ clear)
-            ∙ entered-entry ready emptyOutput,
+            ∙ entry-entered ready emptyOutput .entry,
       )

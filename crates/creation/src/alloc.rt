@@ -1,7 +1,12 @@
-// ALLOC: a new contiguous file in the free run with the highest start.
+// ALLOC: a new contiguous file, all zero, in the free run with the highest start.
 ghost use mathlib.Core.Path.{_≡_};
+ghost use mathlib.Core.Bool.{true};
 ghost use mathlib.Core.List.{[], _∷_};
 ghost use Prim.Native.Nat.{_<_};
+ghost use lib.ListN.{replicate};
+ghost use Rattle.pack.specs.GeometrySized.{mostBlocks};
+ghost use Rattle.consistency.specs.ConsistentTest.{consistent};
+ghost use Rattle.room.specs.RoomMap.{Says};
 ghost use Rattle.creation.specs.Rounding.{blocksFor};
 ghost use Rattle.creation.specs.Alloc.{alloc};
 ghost use Rattle.creation.specs.AllocStage.{allocatingOf};
@@ -26,7 +31,8 @@ pub fn alloc(img: &mut [u8], key: Key, caller: usize, protect: usize, segments: 
     ensures { λ r. ⌜ (r .number ∷ []) ≡ alloc (now (img .entry)) key caller protect (segments .0) .numbers ⌝ }
     ensures { λ r. ⌜ now (img .exit) ≡ alloc (now (img .entry)) key caller protect (segments .0) .image ⌝ }
 {
-    match decide_alloc(img, key, caller, protect, segments) {
+    let mut map = [0u8; pack::MOST_BLOCKS];
+    match decide_alloc(img, &mut map, key, caller, protect, segments) {
         Allocating::Refused(code) => Answer { code, number: 0 },
         Allocating::Extent(g, e, start, count) => {
             let last = BlockNo(start.0 + count.0 - 1);
@@ -38,6 +44,7 @@ pub fn alloc(img: &mut [u8], key: Key, caller: usize, protect: usize, segments: 
                 writer: 0,
             };
             crate::creating::enter(img, g, e, key, protect, shape);
+            room::take_run(img, &mut map, g, start, count);
             Answer {
                 code: 0,
                 number: start.0,
@@ -46,21 +53,24 @@ pub fn alloc(img: &mut [u8], key: Key, caller: usize, protect: usize, segments: 
     }
 }
 
+// The map is lent all zero, and where the image is consistent it then says how often each block is held.
 fn decide_alloc(
     img: &[u8],
+    map: &mut [u8],
     key: Key,
     caller: usize,
     protect: usize,
     segments: Segments,
 ) -> Allocating
+    requires { ⌜ now map ≡ replicate mostBlocks 0 ⌝ }
     ensures { λ r. ⌜ r ≡ allocatingOf (now (img .entry)) key caller protect (segments .0) ⌝ }
+    ensures { λ r. ⌜ (consistent (now (img .entry)) ≡ true → Says (now (map .exit)) (now (img .entry))) ⌝ }
 {
-    let mut map = [0u8; pack::MOST_BLOCKS];
-    match crate::creating::decide_creating(img, &mut map, key, caller, protect, segments.0 == 0) {
+    match crate::creating::decide_creating(img, map, key, caller, protect, segments.0 == 0) {
         Creating::Refused(code) => Allocating::Refused(code),
         Creating::At(g, e) => {
             let count = blocks_for(segments, g);
-            let Run::Start(start) = room::highest_run(&map, g, count) else {
+            let Run::Start(start) = room::highest_run(map, g, count) else {
                 return Allocating::Refused(0o42);
             };
             Allocating::Extent(g, e, start, count)

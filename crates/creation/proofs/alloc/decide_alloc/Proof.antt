@@ -1,7 +1,7 @@
 -- Rests on `AllocStage` for each answer, and on `run-is`: `decide_creating` left a map that says what the image says, so the run found on it is `highestRun`.
 use borrow.Author.Needs.{needs}
 use mathlib.Core.Path.{sym, ap, _∙_}
-use lib.ListN.{length-replicate}
+use lib.ListN.{length, length-replicate}
 use Prim.Native.Nat.{ℕ}
 use Rattle.pack.specs.GeometrySized.{mostBlocks}
 use Rattle.consistency.proofs.ConsistentTestIff.{consistent-iff}
@@ -13,9 +13,6 @@ use Rattle.creation.proofs.AllocStage.{allocating-forbidden, allocating
 use Rattle.creation.proofs.alloc.decide_alloc.Statement.{statement}
 use Rattle.creation.proofs.alloc.decide_alloc.Tie as tie
 
-slice-aggregate-decide-creating : tie.Need-slice-aggregate-decide-creating
-slice-aggregate-decide-creating c = search needs
-
 decide-creating-requires : tie.Need-decide-creating-requires
 decide-creating-requires c κs = search needs
 
@@ -26,21 +23,19 @@ enum-known-g : tie.Need-enum-known-g
 enum-known-g c = search needs
 
 blocks-for-requires : tie.Need-blocks-for-requires
-blocks-for-requires c κs = let a = (allowed _ _ _ _ _ _ (c .before .before .before .before .decide-creating .ensures .0) _ _ (c .before .g .given .1)) in
-    let ready = (creatable _ _ _ _ _ (a .clear)) in
-    (sized-at ready (a .measures) (a .number)) .some
-
-slice-aggregate-highest-run : tie.Need-slice-aggregate-highest-run
-slice-aggregate-highest-run c = search needs
+blocks-for-requires c κs =
+    let a = allowed _ _ _ _ _ _ (c .before .before .before .before .before .decide-creating .ensures .0) _ _ (c .before .g .given .1) in
+    let ready = creatable _ _ _ _ _ (a .clear) in
+    sized-at ready (a .measures) (a .number) .some
 
 highest-run-requires : tie.Need-highest-run-requires
 highest-run-requires c κs =
-    let at-g = c .before .before .before in
-    let at-decide-creating = at-g .before .before .before in
-    let a = (allowed _ _ _ _ _ _ (at-decide-creating .decide-creating .ensures .0) _ _ (at-g .g .given .1)) in
-    let ready = (creatable _ _ _ _ _ (a .clear)) in (
-      at-decide-creating .decide-creating .kept .1 .0 ∙ length-replicate {A = ℕ} mostBlocks 0,
-      (sized-at ready (a .measures) (a .number)) .most,
+    let s = c .before .before .before .before .before .before .before .before .before .before .before .before in
+    let decided = c .before .before .before .before .before .before .before .decide-creating in
+    let a = allowed _ _ _ _ _ _ (decided .ensures .0) _ _ (c .before .before .before .g .given .1) in
+    let ready = creatable _ _ _ _ _ (a .clear) in (
+      decided .kept .1 .0 ∙ (ap length (s .pre) ∙ length-replicate {A = ℕ} mostBlocks 0),
+      sized-at ready (a .measures) (a .number) .most,
       count-some _ _ _ _ _ a _ (c .before .blocks-for .ensures),
     )
 
@@ -50,45 +45,56 @@ enum-known-start c = search needs
 enum-told : tie.Need-enum-told
 enum-told c = search needs
 
+same-length : tie.Need-same-length
+same-length c = search needs
+
 returns : tie.Need-returns
 returns c =
-    let at-blocks-for = c .before .before .before .before in
-    let at-g = at-blocks-for .before .before in
-    let at-decide-creating = at-g .before .before .before in
-    let a = (allowed _ _ _ _ _ _ (at-decide-creating .decide-creating .ensures .0) _ _ (at-g .g .given .1)) in
-    let ready = (creatable _ _ _ _ _ (a .clear)) in
-    allocating-42 _ _ _ _ _ a _ (at-blocks-for .blocks-for .ensures)
-    ((sym (run-is _ _ (at-decide-creating .decide-creating .ensures .1 (consistent-iff _ .1 (ready .right))) _ (a .measures) _))
-    ∙ (sym (c .before .before .highest-run .ensures) ∙ ap startIn (c .enum-told .given .1)))
+    let decided = c .before .before .before .before .before .before .before .before .before .before .decide-creating in
+    let a = allowed _ _ _ _ _ _ (decided .ensures .0) _ _ (c .before .before .before .before .before .before .g .given .1) in
+    let ready = creatable _ _ _ _ _ (a .clear) in (
+      allocating-42 _ _ _ _ _ a _ (c .before .before .before .before .blocks-for .ensures)
+          ((sym (run-is _ _ (decided .ensures .1 (consistent-iff _ .1 (ready .right))) _ (a .measures) _))
+          ∙ (sym (c .before .before .highest-run .ensures) ∙ ap startIn (c .enum-told .given .1))),
+      decided .ensures .1,
+    )
+
+same-length-2 : tie.Need-same-length-2
+same-length-2 c = search needs
 
 returns-2 : tie.Need-returns-2
-returns-2 c = allocating-forbidden _ _ _ _ _ _ (forbidden _ _ _ _ _ _ (c .before .before .before .before .decide-creating .ensures .0) _ (c .before .code .given .1))
+returns-2 c =
+    let decided = c .before .before .before .before .before .decide-creating in
+    (allocating-forbidden _ _ _ _ _ _ (forbidden _ _ _ _ _ _ (decided .ensures .0) _ (c .before .code .given .1)), decided .ensures .1)
+
+same-length-3 : tie.Need-same-length-3
+same-length-3 c = search needs
 
 returns-3 : tie.Need-returns-3
 returns-3 c =
-    let at-highest-run = c .before .before .before in
-    let at-blocks-for = at-highest-run .before .before in
-    let at-g = at-blocks-for .before .before in
-    let at-decide-creating = at-g .before .before .before in
-    let a = (allowed _ _ _ _ _ _ (at-decide-creating .decide-creating .ensures .0) _ _ (at-g .g .given .1)) in
-    let ready = (creatable _ _ _ _ _ (a .clear)) in
-    allocating-extent _ _ _ _ _ a _ (at-blocks-for .blocks-for .ensures) _
-    ((sym (run-is _ _ (at-decide-creating .decide-creating .ensures .1 (consistent-iff _ .1 (ready .right))) _ (a .measures) _))
-    ∙ (sym (at-highest-run .highest-run .ensures) ∙ ap startIn (c .before .start .given .1)))
+    let decided = c .before .before .before .before .before .before .before .before .before .before .before .decide-creating in
+    let a = allowed _ _ _ _ _ _ (decided .ensures .0) _ _ (c .before .before .before .before .before .before .before .g .given .1) in
+    let ready = creatable _ _ _ _ _ (a .clear) in (
+      allocating-extent _ _ _ _ _ a _ (c .before .before .before .before .before .blocks-for .ensures) _
+          ((sym (run-is _ _ (decided .ensures .1 (consistent-iff _ .1 (ready .right))) _ (a .measures) _))
+          ∙ (sym (c .before .before .before .highest-run .ensures) ∙ ap startIn (c .before .start .given .1))),
+      decided .ensures .1,
+    )
 
 pub decide-alloc-spec : {M : Type 1} → statement M
 decide-alloc-spec =
     tie.close
     (tie.spec
-    slice-aggregate-decide-creating
     decide-creating-requires
     enum-known-code
     enum-known-g
     blocks-for-requires
-    slice-aggregate-highest-run
     highest-run-requires
     enum-known-start
     enum-told
+    same-length
     returns
+    same-length-2
     returns-2
+    same-length-3
     returns-3)
