@@ -12,8 +12,8 @@ use Rattle.requests.specs.Request.{LINE-READ, LINE-WRITE, LINE-END, OWNE
 use Rattle.requests.specs.Changes.{MayChange}
 use Rattle.requests.proofs.RequestAsking.{look-image, owner-image, block-input-image, linked-read-image}
 use Rattle.requests.proofs.ChangesWritten.{ChangesOnly, changes-nothing}
-use Rattle.requests.proofs.ChangesEntries.{alloc-changes, openo-changes, open-changes, close-changes, delet-changes, keep-changes, renam-changes}
-use Rattle.requests.proofs.ChangesBodies.{format-changes, appnd-changes, block-output-changes, linked-add-changes}
+use Rattle.requests.proofs.ChangesEntries.{openo-changes, open-changes, close-changes, delet-changes, keep-changes, renam-changes}
+use Rattle.requests.proofs.ChangesBodies.{format-changes, alloc-changes, appnd-changes, block-output-changes, linked-add-changes}
 use Rattle.requests.proofs.ChangesLines.{line-write-changes, line-end-changes}
 
 -- the image is as it was

@@ -15,12 +15,9 @@ use Rattle.pack.proofs.GeometryRoom.{block-room}
 use Rattle.asking.specs.Asked.{entryNo}
 use Rattle.asking.proofs.Outcome.{image-by}
 use Rattle.creation.specs.Creating.{LowestEmpty, entryFor, created}
-use Rattle.creation.specs.AllocRows.{allocRows}
-use Rattle.creation.specs.Alloc.{alloc}
 use Rattle.creation.specs.OpenoRows.{openoRows}
 use Rattle.creation.specs.Openo.{openo}
 use Rattle.creation.proofs.CreatingStage.{creatable}
-use Rattle.creation.proofs.AllocStage.{allocatable}
 use Rattle.opening.specs.declared.Opening.{Opening}
 use Rattle.opening.specs.declared.Opening.the-variants.{Input, Update, Extension}
 use Rattle.opening.specs.OpenRows.{openRows, openWord}
@@ -34,22 +31,15 @@ use Rattle.directory.specs.Keep.{keep}
 use Rattle.directory.specs.RenamRows.{renamRows}
 use Rattle.directory.specs.Renam.{newKey, renam}
 use Rattle.directory.proofs.DeletStage.{delet-cleared}
-use Rattle.requests.specs.Request.{ALLOC, OPENO, OPEN, CLOSE, DELET, RENAM, KEEP}
+use Rattle.requests.specs.Request.{OPENO, OPEN, CLOSE, DELET, RENAM, KEEP}
 use Rattle.requests.specs.Changes.{InEntry, InLowestEmpty, MayChange}
 use Rattle.requests.proofs.ChangesWritten.{ChangesOnly, changes-then, changes-settled, changes-word, changes-words, changes-cleared}
 
 -- a new file
-created-changes : (img : List ℕ) (x : Entry) → LowestEmpty img (entryFor img) → ChangesOnly (InLowestEmpty img) img (created img x)
+pub created-changes : (img : List ℕ) (x : Entry) → LowestEmpty img (entryFor img) → ChangesOnly (InLowestEmpty img) img (created img x)
 unfolding created
 created-changes img x lowest =
     changes-words (wordsOf x) img (geometryOf img) (entryFor img) 0 (λ j low high. (entryFor img, (lowest, (omega arith, omega arith))))
-
-pub alloc-changes : (img : List ℕ) (key : Key) (caller protect segments : ℕ)
-    → ChangesOnly (MayChange (ALLOC key caller protect segments) img) img (alloc img key caller protect segments .image)
-unfolding alloc
-alloc-changes img key caller protect segments =
-    changes-settled (allocRows img key caller protect segments) img [] _
-    (λ clear. created-changes img _ (allocatable img key caller protect segments clear .ready .entry))
 
 pub openo-changes : (img : List ℕ) (key : Key) (caller protect : ℕ) → ChangesOnly (MayChange (OPENO key caller protect) img) img (openo img key caller protect .image)
 unfolding openo

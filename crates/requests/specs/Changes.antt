@@ -1,4 +1,4 @@
--- Which words of the image each request may change, as document 01 has it under 'What each request does', and 02 in §1. That no other word changes is proofs/Changes.antt.
+-- Which words of the image each request may change, as document 01 has it under 'What each request does', and 02 in §1 and §2. That no other word changes is proofs/Changes.antt.
 use Prim.Native.Nat.{ℕ, _+_, _*_, _≤_, _<_}
 use mathlib.Core.Path.{_≡_}
 use mathlib.Core.Logic.{_⊎_}
@@ -9,7 +9,9 @@ use Rattle.pack.specs.Form.{segmentsOf, bodiesOf}
 use Rattle.pack.specs.Geometry.{geometryOf, segmentWords, blockWords, blockAt, entryAt}
 use Rattle.pack.specs.File.{count}
 use Rattle.asking.specs.Asked.{entryNo, fileOf}
+use Rattle.room.specs.Room.{HighestRun, InRun}
 use Rattle.creation.specs.Creating.{LowestEmpty}
+use Rattle.creation.specs.Rounding.{lengthFor}
 use Rattle.opening.specs.declared.Opening.the-variants.{Input, Update, Extension}
 use Rattle.adding.specs.LinkedAdd.{addedBlock}
 use Rattle.stream.specs.AddedAll.{takenBlocks}
@@ -38,6 +40,10 @@ InLowestEmpty img w = (e : ℕ) × (LowestEmpty img e × InEntry img e w)
 abbrev pub InBlock : List ℕ → ℕ → ℕ → Type 0
 InBlock img b w = (blockAt (geometryOf img) b ≤ w) × (w < blockAt (geometryOf img) b + blockWords (geometryOf img))
 
+-- w is a word of a block of the free run with the highest start
+abbrev pub InHighestRun : List ℕ → ℕ → ℕ → Type 0
+InHighestRun img length w = (s : ℕ) × (HighestRun img length s × ((b : ℕ) × (InRun s length b × InBlock img b w)))
+
 -- w is the link of the last block of a file, which has one: "In a linked file word 0 of a block is the next block"
 abbrev pub IsLastLink : List ℕ → Entry → ℕ → Type 0
 IsLastLink img x w = (0 < x .length) × (w ≡ blockAt (geometryOf img) (x .last .0))
@@ -52,8 +58,8 @@ MayAdd img key caller payloads w =
 abbrev pub MayChange : Request → List ℕ → ℕ → Type 0
 -- "Format: writes blocks 0 to c, bodies untouched"
 MayChange (FORMAT form blocks contents uics) img w = w < bodiesOf form contents * segmentWords (segmentsOf form)
--- "ALLOC: .. the lowest empty entry filled. .. Bodies are not written."
-MayChange (ALLOC key caller protect segments) img w = InLowestEmpty img w
+-- "ALLOC: .. The free run with the highest start is taken, the lowest empty entry filled."; 02 §2: "ALLOC shall leave every block it takes all zero"
+MayChange (ALLOC key caller protect segments) img w = InLowestEmpty img w ⊎ InHighestRun img (lengthFor img segments) w
 -- "OPENO: .. Lowest empty entry."
 MayChange (OPENO key caller protect) img w = InLowestEmpty img w
 -- "OPENI .. adds a reader. OPENU .. writer 1. OPENE .. writer 3."
