@@ -26,8 +26,10 @@ use Rattle.asking.specs.Access.{accessRows}
 use Rattle.asking.specs.Asked.{entryNo, fileOf}
 use Rattle.asking.specs.Outcome.{settled}
 use Rattle.asking.specs.Rights.{May}
+use Rattle.asking.proofs.Keys.{keyed-used}
 use Rattle.asking.proofs.Rights.{may-iff, may-reads}
-use Rattle.frame.proofs.FramedStays.{stated-framed}
+use Rattle.frame.proofs.FramedStays.{stated-framed, entries-at}
+use Rattle.owners.proofs.OwnerSearch.{measured-sized}
 use Rattle.frame.proofs.GrowthResized.{resized-alike}
 use Rattle.frame.proofs.GrowthConsistent.{grown-framed, grown-blocks, grown-consistent}
 use Rattle.owners.proofs.EntryBlocks.{blocks-length}
@@ -92,12 +94,20 @@ module _
   stored-enlarged : Stored img′ key g x caller (entryOf img g x .length) payload
   stored-enlarged =
       let alike = resized-alike (larger .grown .resized) in
+      let measures = stated-framed stated right (grown-framed stated right within linked free (larger .grown)) in
+      let consistent = grown-consistent stated right within linked free (larger .grown) in
+      let own = same-through alike keyed in
       record {
-        stated = stated-framed stated right (grown-framed stated right within linked free (larger .grown));
-        right = grown-consistent stated right within linked free (larger .grown);
-        legal = legal;
-        within = within;
-        keyed = same-through alike keyed;
+        file =
+            record {
+              right = consistent;
+              measures = measures;
+              sized = measured-sized consistent (sym measures);
+              inside = within;
+              legal = legal;
+              keyed = own;
+              used = keyed-used img′ g key x legal own (entries-at img′ g measures consistent x within);
+            };
         readable = subst₂ (λ (uic protect : ℕ). May caller uic protect Read) (sym (alike .uic)) (sym (protect-kept larger)) readable;
         linked = kind-kept larger ∙ linked;
         inside = omega (arith, larger .grown .size);

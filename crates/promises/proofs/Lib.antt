@@ -13,6 +13,7 @@ pub mod CodesBlocks
 pub mod CodesLines
 pub mod Codes
 pub mod CodesRoom
+pub mod FileOpened
 pub mod AddedAgainStored
 pub mod AddedAgain
 pub mod LinesAgainLaid
