@@ -1,8 +1,8 @@
 -- 2.1: what each request changes on success, said of entries, blocks and bytes; of all else `nothing-else` (Main.antt) says that it stays. In the order of the paper.
 -- Format: an empty pack
 pub use Rattle.creation.proofs.FormatRows.{format-done}
--- ALLOC: the free run with the highest start, the lowest empty entry and every field of it; OPENO
-pub use Rattle.creation.proofs.AllocEffect.{alloc-made}
+-- ALLOC: the free run with the highest start, the lowest empty entry and every field of it; document 02 §2: every byte of the run is 0; OPENO
+pub use Rattle.creation.proofs.AllocEffect.{alloc-made, alloc-cleared}
 pub use Rattle.room.proofs.RoomHighest.{run-highest}
 pub use Rattle.creation.proofs.CreatingLowest.{empty-lowest}
 pub use Rattle.creation.proofs.OpenoEffect.{openo-entry}
@@ -19,6 +19,8 @@ pub use Rattle.directory.proofs.KeepEffect.{keep-entry}
 -- BLOCK output: the bytes of the buffer, which BLOCK input gives back
 pub use Rattle.transfer.proofs.BlockWritten.{block-out-inside}
 pub use Rattle.transfer.proofs.BlockAgain.{block-again}
+-- taking a block, for any use: every byte of it is 0 and every other byte is what it was; ALLOC takes its run so, linked add and lines each block
+pub use Rattle.room.proofs.Cleared.{taken-cleared}
 -- linked add: the highest free block, joined at the end, its payload behind the others
 pub use Rattle.adding.proofs.LinkedAddEffect.{add-highest, add-blocks, add-payloads}
 -- lines, document 02 §1. Reading: from the position on, one of three results; what is laid, counted and passed; to the end of the file, call after call

@@ -16,6 +16,7 @@ pub mod CodesRoom
 pub mod FileOpened
 pub mod AddedAgainStored
 pub mod AddedAgain
+pub mod AllocZeros
 pub mod LinesAgainLaid
 pub mod LinesAgainCalls
 pub mod LinesAgainHeld

@@ -21,7 +21,7 @@ use Rattle.numerals.specs.Octal.{o2bin, bin2o}
 use Rattle.pack.specs.declared.Key.{Key}
 use Rattle.pack.specs.declared.Owner.the-variants.{Free}
 use Rattle.pack.specs.Form.{bodiesOf}
-use Rattle.pack.specs.Geometry.{geometryOf, slots, payloadBytes}
+use Rattle.pack.specs.Geometry.{geometryOf, slots, blockBytes, payloadBytes}
 use Rattle.pack.specs.Header.{Measured}
 use Rattle.pack.specs.Entry.{entryOf}
 use Rattle.pack.specs.Consistent.{Consistent}
@@ -31,6 +31,7 @@ use Rattle.pack.specs.Untouched.{Untouched}
 use Rattle.consistency.specs.ConsistentTest.{consistent}
 use Rattle.consistency.proofs.ConsistentTestIff.{consistent-iff}
 use Rattle.asking.specs.declared.Right.{Right}
+use Rattle.asking.specs.declared.Right.the-variants.{Read}
 use Rattle.asking.specs.Outcome.{Unchanged}
 use Rattle.asking.specs.KeysTest.{legalKey, found}
 use Rattle.asking.specs.Asked.{fileOf}
@@ -50,6 +51,7 @@ use Rattle.creation.specs.Alloc.{alloc}
 use Rattle.room.specs.Room.{FreeRun}
 use Rattle.creation.proofs.FormatRows.{format-iff}
 use Rattle.creation.proofs.FormatEffect.{format-consistent, format-free}
+use Rattle.transfer.specs.Block.{blockIn}
 use Rattle.transfer.specs.LinkedRead.{linkedRead}
 use Rattle.adding.specs.LinkedAdd.{linkedAdd}
 use Rattle.lines.specs.LineWriting.{lineWrite, lineEnd}
@@ -78,6 +80,7 @@ use Rattle.promises.specs.GivenWhen.{GivesCode, InTableOrder}
 use Rattle.promises.specs.Codes.{CreatingCases, AddingCases, OtherPayload, OtherGather, NoLineMode, fullBlocks, casesOf}
 use Rattle.promises.specs.CommandCodes.{Csi1Cases, Csi2Cases}
 use Rattle.promises.specs.AddedAgain.{openedImage}
+use Rattle.promises.specs.AllocZeros.{allocatedImage, readableImage, zeroBlock}
 use Rattle.promises.specs.Refused.{NotRadix, NotWord, TooLarge, NotNumeral}
 use Rattle.promises.specs.Conversions.{NumberDemands, CharactersDemands, InverseDemands}
 use Rattle.promises.specs.Examples.{Examples}
@@ -93,6 +96,7 @@ use Rattle.promises.proofs.Measures
 use Rattle.promises.proofs.Codes
 use Rattle.promises.proofs.CodesRoom
 use Rattle.promises.proofs.AddedAgain
+use Rattle.promises.proofs.AllocZeros
 use Rattle.promises.proofs.ConversionsDemands
 use Rattle.promises.proofs.Commands
 use Rattle.promises.proofs.CommandCodes
@@ -213,6 +217,17 @@ module _ (img : List ℕ) (key : Key) (caller : ℕ) (gather : List ℕ) (clear 
       × ReadAgain (reopened (lineEnd img′ key caller gather′ filled′ .image) key (fileOf img key .writer) caller) key caller
       (fileOf img key .length * payloadBytes (geometryOf img)) lines
   lines-round-trip = LinesAgain.lines-round-trip img key caller gather clear all room written
+
+-- 02 §2: a new file reads as zeros: with room, and nothing else against ALLOC, it is made, OPENI of who may read opens it, and BLOCK input of every place
+-- below its length gives a block all zero; each code is 0
+module _ (img : List ℕ) (key : Key) (caller protect segments : ℕ) (clear : GivesCode (CreatingCases img key caller protect (segments ≡ 0)) 0)
+    (s : ℕ) (room : FreeRun img (lengthFor img segments) s) (reader : ℕ) (readable : May reader (key .uic) protect Read) where
+  pub alloc-zeros : (alloc img key caller protect segments .code ≡ 0)
+      × (opened Input (allocatedImage img key caller protect segments) key reader .code ≡ 0)
+      × ((place : ℕ) → place < lengthFor img segments → (lent : List ℕ) → length lent ≡ blockBytes (geometryOf img)
+      → blockIn (readableImage img key caller protect segments reader) key reader place lent
+      ≡ record { code = 0; numbers = []; image = readableImage img key caller protect segments reader; buffer = zeroBlock img })
+  alloc-zeros = AllocZeros.alloc-zeros img key caller protect segments clear s room reader readable
 
 -- Format makes a consistent pack of any image, whose bodies are all free
 module _ (image : List ℕ) (form blocks contents : ℕ) (uics : List ℕ) (right : Formattable (length image) form blocks contents uics) where

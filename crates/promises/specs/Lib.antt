@@ -7,4 +7,5 @@ pub mod GivenWhen
 pub mod Codes
 pub mod CommandCodes
 pub mod AddedAgain
+pub mod AllocZeros
 pub mod LinesAgain
