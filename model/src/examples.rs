@@ -150,6 +150,24 @@ fn highest_run_of_rounded_length() {
 }
 
 #[test]
+fn new_file_is_all_zero() {
+    let mut image = smallest();
+    image[2 * BLOCK_BYTES..].fill(0xA5);
+    let before = image.clone();
+    assert_eq!(requests::alloc(&mut image, OWNER, file("A", ""), 0, 57), Err(Refusal::NoRoom));
+    assert_eq!(image, before);
+    assert_eq!(requests::alloc(&mut image, OWNER, file("A", ""), 0, 4), Ok(15));
+    assert_eq!(requests::alloc(&mut image, OWNER, file("B", ""), 0, 9), Ok(12));
+    let kept = [0xA5; BLOCK_BYTES];
+    assert_eq!(image[11 * BLOCK_BYTES..12 * BLOCK_BYTES], kept);
+    assert!(image[12 * BLOCK_BYTES..].iter().all(|&byte| byte == 0));
+    image[15 * BLOCK_BYTES..].copy_from_slice(&kept);
+    assert_eq!(requests::delet(&mut image, OWNER, file("B", "")), Ok(()));
+    assert_eq!(requests::alloc(&mut image, OWNER, file("C", ""), 0, 8), Ok(13));
+    assert_eq!(image[15 * BLOCK_BYTES..], kept);
+}
+
+#[test]
 fn append_to_itself() {
     let mut image = smallest();
     let bad = File { name1: 64000, ..file("A", "") };

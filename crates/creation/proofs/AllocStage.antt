@@ -20,7 +20,7 @@ use Rattle.pack.specs.Geometry.{geometryOf, slots}
 use Rattle.asking.proofs.Outcome.{done-answer, refused-answer}
 use Rattle.room.specs.declared.Blocks.{Blocks}
 use Rattle.room.specs.RoomTest.{highestRun}
-use Rattle.room.specs.Room.{HighestRun}
+use Rattle.room.specs.Room.{HighestRun, InRun}
 use Rattle.room.specs.RoomMap.{Says, FreeOn}
 use Rattle.room.specs.Cleared.{cleared}
 use Rattle.room.proofs.RoomHighest.{run-highest, run-inside}
@@ -197,7 +197,7 @@ module _ (img : List ℕ) (key : Key) (caller protect segments : ℕ) where
 
       -- the blocks of the run are still free on the map when the entry is written
       pub alloc-run : (map : List ℕ) → length map ≡ mostBlocks → (consistent img ≡ true → Says map img) → (img′ : List ℕ) → length img′ ≡ length img
-          → Sized img′ g × (((g .blocks ≤ length map) × (s .0 + k .0 ≤ g .blocks)) × ((i : ℕ) → i < k .0 → FreeOn map g (s .0 + i)))
+          → Sized img′ g × (((g .blocks ≤ length map) × (s .0 + k .0 ≤ g .blocks)) × ((b : ℕ) → InRun (s .0) (k .0) b → FreeOn map g b))
       alloc-run map long says img′ same =
           let c = chosen g e s k told in
           let a = allocatable (c .clear) in
@@ -205,9 +205,9 @@ module _ (img : List ℕ) (key : Key) (caller protect segments : ℕ) where
             sized-same sized same,
             (
               (omega (arith, long, sized .most), omega (arith, a .inside, c .start, c .length, ap (λ (h : Geometry). h .blocks) (c .measures))),
-              λ i few.
+              λ b run.
                   free-on (says (consistent-iff img .1 (a .ready .right))) (c .measures)
-                  (a .extent .run .free (s .0 + i) (omega (arith, c .start)) (omega (arith, few, c .start, c .length))),
+                  (a .extent .run .free b (omega (arith, run .0, c .start)) (omega (arith, run .1, c .start, c .length))),
             ),
           )
 

@@ -5,6 +5,7 @@ ghost use Prim.Native.Nat.{ℕ, _+_, _-_, _≤_, _<_};
 ghost use lib.Dec.{eqb, leb};
 ghost use lib.ListN.{length, set};
 ghost use Rattle.pack.specs.GeometrySized.{mostBlocks, Sized};
+ghost use Rattle.room.specs.Room.{InRun};
 ghost use Rattle.room.specs.RoomMap.{runOn, freeAfter, startIn, freeOn, FreeOn, markedFrom};
 ghost use Rattle.room.specs.Cleared.{cleared};
 use pack::BlockNo;
@@ -121,15 +122,14 @@ pub fn take_block(img: &mut [u8], map: &mut [u8], g: Geometry, b: BlockNo)
 pub fn take_run(img: &mut [u8], map: &mut [u8], g: Geometry, start: BlockNo, count: Blocks)
     requires { ⌜ Sized (now img) g ⌝ }
     requires { ⌜ (g .blocks ≤ length (now map)) × (start .0 + count .0 ≤ g .blocks) ⌝ }
-    requires { ⌜ ((k : ℕ) → k < count .0 → FreeOn (now map) g (start .0 + k)) ⌝ }
+    requires { ⌜ ((b : ℕ) → InRun (start .0) (count .0) b → FreeOn (now map) g b) ⌝ }
     ensures { λ r. ⌜ now (img .exit) ≡ cleared (now (img .entry)) g (start .0) (count .0) ⌝ }
     ensures { λ r. ⌜ now (map .exit) ≡ markedFrom (now (map .entry)) (start .0) (count .0) ⌝ }
 {
-    let first = start.0;
-    let end = count.0;
-    let mut taken = 0;
-    while taken < end {
-        take_block(img, map, g, BlockNo(first + taken));
-        taken += 1;
+    let end = start.0 + count.0;
+    let mut left = count.0;
+    while 0 < left {
+        take_block(img, map, g, BlockNo(end - left));
+        left -= 1;
     }
 }

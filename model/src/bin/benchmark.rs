@@ -7,7 +7,9 @@ use model::boundary;
 use model::conversions;
 use model::pack::block_mut;
 use model::pack::entry::{self, Entry, LINKED};
-use model::pack::form::{BLOCK_BYTES, FORM, LEAST_BLOCKS, MOST_BLOCKS, MOST_CONTENTS, MOST_ENTRIES, PAYLOAD_BYTES};
+use model::pack::form::{
+    BLOCK_BYTES, FORM, LEAST_BLOCKS, MOST_BLOCKS, MOST_CONTENTS, MOST_ENTRIES, PAYLOAD_BYTES, SEGMENTS_PER_BLOCK,
+};
 use model::requests::{self, File};
 use model::words::set_word;
 use std::hint::black_box;
@@ -28,6 +30,7 @@ const ROWS: &[(&str, Run)] = &[
     ("look-fullest", look_fullest),
     ("alloc-delet-smallest", alloc_delet_smallest),
     ("alloc-delet-largest", alloc_delet_largest),
+    ("alloc-delet-500", alloc_delet_500),
     ("linked-add-until-full", linked_add_until_full),
     ("linked-read-last", linked_read_last),
     ("line-read-start", line_read_start),
@@ -203,25 +206,26 @@ fn look_fullest(way: Way, times: usize) -> Duration {
     look(way, times, &fullest(), file(MOST_ENTRIES - 1))
 }
 
-/// A turn is an ALLOC and a DELET of what it made.
-fn alloc_delet(way: Way, times: usize, image: &mut [u8]) -> Duration {
+/// A turn is an ALLOC of so many segments and a DELET of what it made.
+fn alloc_delet(way: Way, times: usize, image: &mut [u8], segments: usize) -> Duration {
     let file = file(1000);
     timed!(
         way,
         times,
         {
-            let answer = boundary::alloc(black_box(image), OWNER, black_box(file), 0, 9);
+            let answer = boundary::alloc(black_box(image), OWNER, black_box(file), 0, black_box(segments));
             (answer, boundary::delet(black_box(image), OWNER, black_box(file)))
         },
         {
-            let answer = Answer::from(requests::alloc(black_box(image), OWNER, black_box(file), 0, 9));
+            let answer =
+                Answer::from(requests::alloc(black_box(image), OWNER, black_box(file), 0, black_box(segments)));
             (answer, code(requests::delet(black_box(image), OWNER, black_box(file))))
         }
     )
 }
 
 fn alloc_delet_smallest(way: Way, times: usize) -> Duration {
-    alloc_delet(way, times, &mut smallest())
+    alloc_delet(way, times, &mut smallest(), 9)
 }
 
 /// All entries but one are of contiguous files, which leave half of the blocks free.
@@ -230,7 +234,12 @@ fn alloc_delet_largest(way: Way, times: usize) -> Duration {
     for number in 0..MOST_ENTRIES - 1 {
         requests::alloc(&mut image, OWNER, file(number), 0, 16).expect("there is room");
     }
-    alloc_delet(way, times, &mut image)
+    alloc_delet(way, times, &mut image, 9)
+}
+
+/// A run of 500 blocks on a pack that has no other file: nearly all of the time is that of clearing its bytes.
+fn alloc_delet_500(way: Way, times: usize) -> Duration {
+    alloc_delet(way, times, &mut formatted(MOST_BLOCKS, 1), 500 * SEGMENTS_PER_BLOCK)
 }
 
 /// Makes the only file of a pack, which is linked, empty again.

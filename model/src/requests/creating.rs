@@ -3,10 +3,10 @@
 use super::{require_protect, File};
 use crate::pack::consistency::{examine, Pack};
 use crate::pack::entry::{self, Entry, CONTIGUOUS, LINKED, OUTPUT};
-use crate::pack::form::SEGMENTS_PER_BLOCK;
+use crate::pack::form::{BLOCK_BYTES, SEGMENTS_PER_BLOCK};
 use crate::refusal::{require, Refusal};
 
-/// ALLOC: a closed contiguous file large enough for so many segments; answers its first block.
+/// ALLOC: a closed contiguous file large enough for so many segments, "every block it takes all zero" (02 §2); answers its first block.
 pub fn alloc(image: &mut [u8], caller: usize, file: File, protect: usize, segments: usize) -> Result<usize, Refusal> {
     let pack = examine(image)?;
     file.require_legal()?;
@@ -24,6 +24,7 @@ pub fn alloc(image: &mut [u8], caller: usize, file: File, protect: usize, segmen
         ..new_entry(&file, caller, protect)
     }
     .write(entry::bytes_mut(image, index));
+    image[BLOCK_BYTES * first..BLOCK_BYTES * (last + 1)].fill(0);
     Ok(first)
 }
 
