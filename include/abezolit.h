@@ -367,7 +367,7 @@ size_t abz_appnd(uint8_t *image, size_t image_len, size_t caller,
  *
  * ALLOC makes a contiguous file that is closed and large enough for so many segments of 64 words, 4 to a block: it has
  * segments / 4 blocks, rounded up; any number may be asked for. Of all places where so many blocks are free in a row, it gets the one
- * that starts highest; number is its first block. The blocks are not written and hold what they held.
+ * that starts highest; number is its first block. Every byte of the blocks is then 0, whatever they held.
  *
  * OPENO makes a linked file that has no block and is open for output: its writer is ABZ_OUTPUT. It needs no free block.
  */

@@ -36,7 +36,7 @@ static const command commands[] = {
       "all that the pack says of a file" },
     { "alloc", "PACK CALLER FILE SEGMENTS [PROTECT]", 4, 5, command_alloc,
       "make a contiguous file, of a block for every 4 SEGMENTS; prints its\n"
-      "first block. Its bytes are what was there before." },
+      "first block. Its bytes are all 0." },
     { "delete", "PACK CALLER FILE", 3, 3, command_delete,
       "delete a file" },
     { "rename", "PACK CALLER OLD NEW [PROTECT]", 4, 5, command_rename,

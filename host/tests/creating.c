@@ -56,7 +56,9 @@ static void examples(void)
     /* The listing's. */
     expect_alloc(length, 9, 0, 13);
     CHECK_BYTES(image + BLOCK, entry, sizeof entry, "example: ALLOC of 9, entry");
-    CHECK_NUMBER(image[BLOCK * 13], 0xA5, "example: ALLOC of 9, body");
+    CHECK_NUMBER(image[BLOCK * 13 - 1], 0xA5, "example: ALLOC of 9, the byte before its body");
+    CHECK_NUMBER(image[BLOCK * 13], 0, "example: ALLOC of 9, body");
+    CHECK_NUMBER(image[BLOCK * 16 - 1], 0, "example: ALLOC of 9, the last byte of its body");
 
     /* The directory is full and there is no room; the same with room. */
     length = make_empty(image, 16, 1);
@@ -83,6 +85,44 @@ static void examples(void)
     CHECK_NUMBER(abz_openo(image, length, 7, 1600, 0, 0, 7, 0), 013, "example: OPENO for one not listed");
     CHECK_NUMBER(abz_openo(image, length, 0, 1600, 0, 0, 0, 0), 013, "example: OPENO for nobody");
     CHECK_NUMBER(abz_openo(image, length, ME + 65536, 1600, 0, 0, 0, 0), 013, "example: OPENO for one beyond 16 bits");
+}
+
+/*
+ * Document 02 §2, on packs full of rubbish, with no model between: every run that lies between two files. All of it is
+ * zero then, and reads so; the blocks on both sides are what they were; and a refused ALLOC clears nothing.
+ */
+static void cleared_runs(void)
+{
+    static uint8_t before[BLOCK * 16];
+    static const uint8_t zeros[BLOCK];
+    uint8_t buffer[BLOCK];
+
+    for (size_t first = 3; first < 15; first++)
+        for (size_t count = 1; first + count < 16; count++) {
+            const size_t length = make_empty(image, 16, 1), end = first + count;
+            for (size_t i = BLOCK * 2; i < length; i++)
+                image[i] = (uint8_t)(1 + chance(255));
+            put_contiguous(image, 3, numbered(1, OTHER), 2, first - 2);
+            put_contiguous(image, 4, numbered(2, OTHER), end, 16 - end);
+            memcpy(before, image, length);
+
+            expect_alloc(length, 4 * count + 1, 042, 0);
+            expect_alloc(length, 0, 041, 0);
+            CHECK_BYTES(image, before, length, "refused, run of %zu from %zu", count, first);
+
+            expect_alloc(length, 4 * count - first % 4, 0, first);
+            CHECK_BYTES(image, before, BLOCK, "run of %zu from %zu, block 0", count, first);
+            CHECK_BYTES(image + BLOCK + 32, before + BLOCK + 32, BLOCK - 32, "run of %zu from %zu, contents", count, first);
+            CHECK_BYTES(image + BLOCK * 2, before + BLOCK * 2, BLOCK * (first - 2), "run of %zu from %zu, below", count, first);
+            CHECK_BYTES(image + BLOCK * end, before + BLOCK * end, BLOCK * (16 - end), "run of %zu from %zu, above", count, first);
+            CHECK_NUMBER(abz_openi(image, length, ME, 10325, 27200, 6460, 0), 0, "run of %zu from %zu, OPENI", count, first);
+            for (size_t place = 0; place < count; place++) {
+                memset(buffer, 0xA5, sizeof buffer);
+                CHECK_NUMBER(abz_block_in(image, length, ME, 10325, 27200, 6460, 0, place, buffer, BLOCK), 0, "place %zu of %zu", place, count);
+                CHECK_BYTES(buffer, zeros, BLOCK, "run of %zu from %zu, place %zu", count, first, place);
+                CHECK_BYTES(image + BLOCK * (first + place), zeros, BLOCK, "run of %zu from %zu, block at %zu", count, first, place);
+            }
+        }
 }
 
 /* Every pattern of held and free blocks in 9 of them, with every number of segments that could fit, and some more. */
@@ -203,6 +243,7 @@ static void large_packs(void)
 int main(void)
 {
     examples();
+    cleared_runs();
     free_runs();
     causes();
     filling();

@@ -324,6 +324,7 @@ static inline abz_answer model(uint8_t *image, size_t length, uint8_t *buffer, c
     case ALLOC:
         put_contiguous(image, empty, key, start, needed);
         set_field(image, empty, PROTECT, it->protect);
+        memset(image + BLOCK * start, 0, BLOCK * needed);
         answer.number = start;
         break;
     case OPENO:
