@@ -112,15 +112,22 @@ static void cleared_runs(void)
 
             expect_alloc(length, 4 * count - first % 4, 0, first);
             CHECK_BYTES(image, before, BLOCK, "run of %zu from %zu, block 0", count, first);
-            CHECK_BYTES(image + BLOCK + 32, before + BLOCK + 32, BLOCK - 32, "run of %zu from %zu, contents", count, first);
-            CHECK_BYTES(image + BLOCK * 2, before + BLOCK * 2, BLOCK * (first - 2), "run of %zu from %zu, below", count, first);
-            CHECK_BYTES(image + BLOCK * end, before + BLOCK * end, BLOCK * (16 - end), "run of %zu from %zu, above", count, first);
-            CHECK_NUMBER(abz_openi(image, length, ME, 10325, 27200, 6460, 0), 0, "run of %zu from %zu, OPENI", count, first);
+            CHECK_BYTES(image + BLOCK + 32, before + BLOCK + 32, BLOCK - 32, "run of %zu from %zu, contents", count,
+                        first);
+            CHECK_BYTES(image + BLOCK * 2, before + BLOCK * 2, BLOCK * (first - 2), "run of %zu from %zu, below", count,
+                        first);
+            CHECK_BYTES(image + BLOCK * end, before + BLOCK * end, BLOCK * (16 - end), "run of %zu from %zu, above",
+                        count, first);
+
+            CHECK_NUMBER(abz_openi(image, length, ME, 10325, 27200, 6460, 0), 0, "run of %zu from %zu, OPENI", count,
+                         first);
             for (size_t place = 0; place < count; place++) {
                 memset(buffer, 0xA5, sizeof buffer);
-                CHECK_NUMBER(abz_block_in(image, length, ME, 10325, 27200, 6460, 0, place, buffer, BLOCK), 0, "place %zu of %zu", place, count);
+                CHECK_NUMBER(abz_block_in(image, length, ME, 10325, 27200, 6460, 0, place, buffer, BLOCK), 0,
+                             "run of %zu from %zu, place %zu, code", count, first, place);
                 CHECK_BYTES(buffer, zeros, BLOCK, "run of %zu from %zu, place %zu", count, first, place);
-                CHECK_BYTES(image + BLOCK * (first + place), zeros, BLOCK, "run of %zu from %zu, block at %zu", count, first, place);
+                CHECK_BYTES(image + BLOCK * (first + place), zeros, BLOCK, "run of %zu from %zu, block at %zu", count,
+                            first, place);
             }
         }
 }

@@ -43,7 +43,8 @@ use Rattle.requests.specs.Request.{FORMAT, ALLOC, APPND, BLOCK-OUTPUT, L
 use Rattle.requests.specs.Changes.{MayChange}
 use Rattle.requests.proofs.RequestFormat.{format-by}
 use Rattle.requests.proofs.ChangesEntries.{created-changes}
-use Rattle.requests.proofs.ChangesWritten.{ChangesOnly, changes-nothing, changes-then, changes-wider, changes-settled, changes-either, changes-word, changes-cleared, changes-chain, changes-part}
+use Rattle.requests.proofs.ChangesWritten.{ChangesOnly, changes-nothing, changes-then, changes-wider, changes-settled, changes-either}
+use Rattle.requests.proofs.ChangesWritten.{changes-word, changes-cleared, changes-chain, changes-part}
 
 pub format-changes : (img : List ℕ) (form blocks contents : ℕ) (uics : List ℕ)
     → ChangesOnly (MayChange (FORMAT form blocks contents uics) img) img (format img form blocks contents uics .image)

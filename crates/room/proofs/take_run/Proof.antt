@@ -33,7 +33,9 @@ sub-t14 c = let inv = c .before .before .before .loop .inv in omega (arith, inv 
 take-block-requires : tie.Need-take-block-requires Inv-loop μ-loop
 take-block-requires c κs =
     let s = c .before .before .before .before .before .before .before .before in
-    taking-ready _ _ (s .pre .0) (s .pre .1 .0 .1) (c .before .before .before .loop .inv .1 _ refl (s .pre .1 .0 .1)) (omega (arith, c .before .before .loop-test .taken)) refl refl (s .pre .1 .1) (s .pre .1 .0 .0)
+    let inv = c .before .before .before .loop .inv in
+    taking-ready _ _ (s .pre .0) (s .pre .1 .0 .1) (inv .1 _ refl (s .pre .1 .0 .1)) (omega (arith, c .before .before .loop-test .taken)) refl refl
+    (s .pre .1 .1) (s .pre .1 .0 .0)
 
 sub-left : tie.Need-sub-left Inv-loop μ-loop
 sub-left c = search needs

@@ -30,17 +30,21 @@ sub-t21 c = alloc-last _ _ _ _ _ _ (c .before .before .before .before .before .b
 
 enter-requires : tie.Need-enter-requires
 enter-requires c κs =
-    let known = c .before .before .before .before .before .before .before .before .before .before .slice-known in
-    alloc-ready _ _ _ _ _ _ (c .before .before .before .before .before .before .before .decide-alloc .ensures .0) _ _ _ _ (c .before .before .before .before .g .given .1) (λ i. omega (arith, known .given i))
+    let at-g = c .before .before .before .before in
+    let at-decide-alloc = at-g .before .before .before in
+    let at-slice-known = at-decide-alloc .before .before .before in
+    alloc-ready _ _ _ _ _ _ (at-decide-alloc .decide-alloc .ensures .0) _ _ _ _ (at-g .g .given .1) (λ i. omega (arith, at-slice-known .slice-known .given i))
 
 slice-aggregate-take-run : tie.Need-slice-aggregate-take-run
 slice-aggregate-take-run c = search needs
 
 take-run-requires : tie.Need-take-run-requires
 take-run-requires c κs =
-    let decided = c .before .before .before .before .before .before .before .before .before .before .before .before .decide-alloc in
-    alloc-run _ _ _ _ _ _ (decided .ensures .0) _ _ _ _ (c .before .before .before .before .before .before .before .before .before .g .given .1) _ (decided .kept .1 .0 ∙ length-replicate {A = ℕ} mostBlocks 0) (decided .ensures .1) _
-    (c .before .before .before .before .enter .kept .0)
+    let at-enter = c .before .before .before .before in
+    let at-g = at-enter .before .before .before .before .before in
+    let decided = at-g .before .before .before .decide-alloc in
+    alloc-run _ _ _ _ _ _ (decided .ensures .0) _ _ _ _ (at-g .g .given .1) _
+    (decided .kept .1 .0 ∙ length-replicate {A = ℕ} mostBlocks 0) (decided .ensures .1) _ (at-enter .enter .kept .0)
 
 same-length : tie.Need-same-length
 same-length c = search needs
@@ -53,8 +57,10 @@ same-length-2 c = search needs
 
 returns-2 : tie.Need-returns-2
 returns-2 c =
-    alloc-done _ _ _ _ _ _ (c .before .before .before .before .before .before .before .before .before .before .before .before .before .before .before .before .decide-alloc .ensures .0) _ _ _ _ (c .before .before .before .before .before .before .before .before .before .before .before .before .before .g .given .1)
-    _ (c .before .before .before .before .before .before .before .before .enter .ensures) _ (c .before .before .before .take-run .ensures .0)
+    let at-enter = c .before .before .before .before .before .before .before .before in
+    let at-g = at-enter .before .before .before .before .before in
+    let decided = at-g .before .before .before .decide-alloc in
+    alloc-done _ _ _ _ _ _ (decided .ensures .0) _ _ _ _ (at-g .g .given .1) _ (at-enter .enter .ensures) _ (c .before .before .before .take-run .ensures .0)
 
 pub alloc-spec : {M : Type 1} → statement M
 alloc-spec =
