@@ -8,7 +8,6 @@ pub mod ReaderLines
 pub mod ReaderSides
 pub mod ReaderPlaces
 pub mod LinePlace
+pub mod Keeps
 pub mod GrammarOne
-pub mod ReadingOctal
-pub mod ReadingKept
 pub mod ReadingSides

@@ -55,7 +55,7 @@ end-iff line p P = (
 -- a line that has a reading is not wrong, and so has no place
 pub read-right : (line : List ℕ) (reading : Reading) → Reads line reading → Wrong line → ⊥
 unfolding Wrong
-read-right line reading (reads {said} says) wrong = wrong said says
+read-right line reading (reads {said} says bounded) wrong = wrong said says
 
 pub not-read : (line : List ℕ) (place : ℕ) (reading : Reading) → LinePlace line place → Reads line reading → ⊥
 not-read line place reading placed read = read-right line reading read (placed .wrong)

@@ -1,4 +1,4 @@
--- What a line says: names are the characters that stand there, numbers are not yet cut to their low 8 bits.
+-- What a line says: names are the characters that stand there, numbers are whole.
 use Prim.Native.Nat.{ℕ}
 use mathlib.Core.List.{List}
 use mathlib.Core.Option.{Option}

@@ -1,45 +1,24 @@
--- The paper's reading of a line: what it says, of unit, group and user the low 8 bits.
-use Prim.Native.Nat.{ℕ, zero, suc, _%_}
+-- The paper's reading of a line: what it says, where its numbers keep their bounds.
+use Prim.Native.Nat.{ℕ, zero, suc}
 use mathlib.Core.List.{List, [], _∷_}
 use mathlib.Core.Option.{Option, none, some}
 use mathlib.Core.Bool.{cond}
 use lib.Dec.{eqb}
-use Rattle.command_grammar.specs.Parsed.{Device, Uic, Specification, Parsed}
+use Rattle.command_grammar.specs.Parsed.{Specification, Parsed}
 use Rattle.command_grammar.specs.Grammar.{Command}
+use Rattle.command_grammar.specs.Bounded.{Bounded}
 
-abbrev pub low8 : ℕ → ℕ
-low8 number = number % 256
-
--- "of unit, group and user the low 8 bits are kept, and a reading holds these"
-abbrev pub keptDevice : Option Device → Option Device
-keptDevice none = none
-keptDevice (some d) = some (record { letters = d .letters; unit = low8 (d .unit) })
-
-abbrev pub keptUic : Option Uic → Option Uic
-keptUic none = none
-keptUic (some u) = some (record { group = low8 (u .group); user = low8 (u .user) })
-
-abbrev pub keptSpecification : Specification → Specification
-keptSpecification v = record { device = keptDevice (v .device); file = v .file; uic = keptUic (v .uic); switches = v .switches }
-
-abbrev pub keptSide : List Specification → List Specification
-keptSide [] = []
-keptSide (v ∷ vs) = keptSpecification v ∷ keptSide vs
-
-abbrev pub keptInput : Option (List Specification) → Option (List Specification)
-keptInput none = none
-keptInput (some vs) = some (keptSide vs)
-
-unfoldable pub kept : Parsed → Parsed
-kept said = record { output = keptSide (said .output); input = keptInput (said .input) }
-
--- A reading has the form of what a line says, with these numbers: only `Reads` says of which line it is one.
+-- A reading is what a line says, with its numbers whole: only `Reads` says of which line it is one.
 abbrev pub Reading : Type 0
 Reading = Parsed
 
--- the line is of the grammar, and this is its reading
+-- "Demand 3 accepts exactly the lines of the grammar whose numbers keep these bounds": this is the line's reading
 pub data Reads : List ℕ → Reading → Type 0 where
-  reads : {line : List ℕ} {said : Parsed} → Command line said → Reads line (kept said)
+  reads : {line : List ℕ} {said : Parsed} → Command line said → Bounded said → Reads line said
+
+-- "54, a number over its bound": the grammar writes the line, and its numbers do not keep the bounds
+pub data OverBound : List ℕ → Type 0 where
+  over : {line : List ℕ} {said : Parsed} → Command line said → (Bounded said → ⊥) → OverBound line
 
 -- "a line with no `<` has no input side"
 abbrev pub inputOf : Option (List Specification) → List Specification
