@@ -9,8 +9,8 @@ ghost use Rattle.radix.specs.Characters.{codeOf};
 ghost use Rattle.radix.specs.Names.{isLetter, isLetterOrDigit};
 ghost use Rattle.numerals.specs.Digits.{valueOf};
 ghost use Rattle.command_grammar.specs.Grammar.{All};
-ghost use Rattle.command_grammar.specs.Reading.{low8};
 ghost use Rattle.command_grammar.specs.Reader.{is, span, oneCharacter};
+ghost use Rattle.command_cursor.specs.Capped.{capped};
 ghost use Rattle.command_cursor.specs.Classes.{classOf};
 ghost use Rattle.command_cursor.specs.CursorAt.{partAt, standsAt, characterAt};
 ghost use Rattle.command_cursor.specs.FilledWord.{filledWord, firstWord, secondWord};
@@ -114,15 +114,21 @@ fn digit(character: u8) -> usize
     }
 }
 
-// "of unit, group and user the low 8 bits are kept": those of the octal number that stands from one place to another, of any length.
-pub fn low_octal(line: &[u8], first: usize, end: usize) -> usize
+fn capped(number: usize) -> usize
+    ensures { λ r. ⌜ r ≡ capped number ⌝ }
+{
+    if number < 256 { number } else { 256 }
+}
+
+// The octal number that stands from one place to another, as far as 256: digits of any length are read, and a number that keeps its bound is whole.
+pub fn octal(line: &[u8], first: usize, end: usize) -> usize
     requires { ⌜ (first ≤ end) × (end ≤ length (now line)) ⌝ }
-    ensures { λ r. ⌜ r ≡ low8 (valueOf 8 (take (end - first) (drop first (now (line .entry))))) ⌝ }
+    ensures { λ r. ⌜ r ≡ capped (valueOf 8 (take (end - first) (drop first (now (line .entry))))) ⌝ }
 {
     let mut number = 0;
     let mut i = first;
     while i < end {
-        number = (number * 8 + digit(line[i])) % 256;
+        number = capped(number * 8 + digit(line[i]));
         i += 1;
     }
     number

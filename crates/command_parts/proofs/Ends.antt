@@ -1,17 +1,18 @@
 -- A specification whose parts were passed over one after the other.
 use Prim.Native.Nat.{ℕ, _+_}
-use mathlib.Core.Path.{_≡_, ap, _∙_, subst₂}
+use mathlib.Core.Path.{_≡_, sym, ap, _∙_, subst₂}
+use mathlib.Core.Bool.{Bool, _&&_}
 use mathlib.Core.List.{List}
 use mathlib.Core.Option.{Option}
 use native.Mathlib.Omega.{arith}
 use lib.ListN.{length}
 use Rattle.command_grammar.specs.Parsed.{Uic, Switch}
+use Rattle.command_grammar.specs.Keeps.{deviceKeeps, uicKeeps, specificationKeeps}
 use Rattle.command_grammar.specs.Reader.{Res, ok, no, mapped, from, Head, device, head, mkTail, mkSpecification, specification, valuesIn}
 use Rattle.command_grammar.proofs.ReaderPlaces.{from-seq, from-seq-no}
 use Rattle.command_cursor.specs.declared.Cursor.{Cursor}
-use Rattle.command_cursor.specs.declared.Part.{Part}
 use Rattle.command_cursor.specs.declared.Part.the-variants as P
-use Rattle.command_parts.specs.Passed.{passed, brackets, switches, tail, Stands}
+use Rattle.command_parts.specs.Passed.{passed, passing, unitOfDevice, keepsOf, brackets, switches, tail, Stands}
 use Rattle.command_parts.specs.Made.{headNumbers, uicNumbers, made}
 use Rattle.command_parts.specs.Counted.{switchesImage}
 use Rattle.command_parts.specs.Ends.{AllStand, EndsAt, refused, read, NumbersAt}
@@ -24,7 +25,10 @@ use Rattle.command_parts.specs.declared.EndsRead.the-variants as E
 use Rattle.command_parts.specs.declared.PartsRead.the-variants as R
 use Rattle.command_parts.specs.declared.switch.Counts.{Counts}
 use Rattle.command_parts.specs.declared.switch.SwitchesRead.the-variants as S
-use Rattle.command_parts.proofs.Passed.{passed-ok, passed-no}
+use Rattle.command_parts.specs.declared.passing.Passing.{Passing}
+use Rattle.command_parts.specs.declared.passing.Passing.the-variants as W
+use Rattle.command_parts.proofs.Passed.{passed-ok, passed-no, passing-ok, passing-no}
+use Rattle.command_parts.proofs.MadeFront.{unit-kept}
 use Rattle.command_parts.proofs.MadeUic.{made-numbers}
 
 -- what was counted
@@ -44,6 +48,9 @@ unfolding switchesImage
 switches-no p (ok ws j) e = let z : _≡_ {A = ℕ} 0 1 = cc in absurd (omega arith)
 switches-no p (no j) e = cc
 
+all-kept : {a b c d : Bool} → a ≡ c → b ≡ d → (a && b) ≡ (c && d)
+all-kept p q = rw (p, q)
+
 -- the parts are read one after the other
 module _ (s : List ℕ) (i : ℕ) {h : Head} {a : ℕ} (front : from head s i ≡ ok h a) where
   behind-head : from specification s i ≡ mapped (mkSpecification h) (from tail s a)
@@ -59,27 +66,29 @@ module _ (s : List ℕ) (i : ℕ) where
   no-head p h = refused (from-seq-no mkSpecification head tail s i p (passed-no p (from head s i) h))
 
   module _ (a : Cursor) (h : passed (from head s i) ≡ P.Read a) where
-    pub no-uic : (p : ℕ) → passed (from brackets s (a .at)) ≡ P.Refused p → EndsAt s i (E.Refused p)
+    pub no-uic : (p : ℕ) → passing uicKeeps (from brackets s (a .at)) ≡ W.Refused p → EndsAt s i (E.Refused p)
     no-uic p d =
         let x = passed-ok a (from head s i) h in
-        let no-tail = from-seq-no mkTail brackets switches s (a .at) p (passed-no p (from brackets s (a .at)) d) in
+        let no-tail = from-seq-no mkTail brackets switches s (a .at) p (passing-no uicKeeps p (from brackets s (a .at)) d) in
         refused (behind-head s i (x .1) ∙ ap (mapped (mkSpecification (x .0))) no-tail)
 
-    module _ (b : Cursor) (d : passed (from brackets s (a .at)) ≡ P.Read b) where
+    module _ (b : Cursor) (keeps : Bool) (d : passing uicKeeps (from brackets s (a .at)) ≡ W.Read b keeps) where
       pub no-switch : (p : ℕ) → switchesImage 0 0 (from switches s (b .at)) ≡ S.Refused p → EndsAt s i (E.Refused p)
       no-switch p c =
           let x = passed-ok a (from head s i) h in
-          let y = passed-ok b (from brackets s (a .at)) d in
+          let y = passing-ok uicKeeps b keeps (from brackets s (a .at)) d in
           refused
           (behind-uic s i (x .1) (y .1)
           ∙ ap (λ (r : Res (List Switch)). mapped (mkSpecification (x .0)) (mapped (mkTail (y .0)) r)) (switches-no p (from switches s (b .at)) c))
 
-      pub all-parts : {found : Part} → found ≡ passed (from device s i) → (n : Counts) (next : Cursor) → switchesImage 0 0 (from switches s (b .at)) ≡ S.Read n next
-          → EndsAt s i (E.Read (record { device = found; head = a; brackets = b; switches = n .switches; values = n .values }) next)
-      all-parts is n next c =
+      pub all-parts : {found : Passing} → found ≡ passing unitOfDevice (from device s i) → (n : Counts) (next : Cursor)
+          → switchesImage 0 0 (from switches s (b .at)) ≡ S.Read n next → {unit : Bool} → unit ≡ keepsOf found
+          → EndsAt s i (E.Read (record { device = found; head = a; brackets = b; switches = n .switches; values = n .values; keeps = unit && keeps }) next)
+      all-parts is n next c {unit} kept =
           let w = switches-ok n next (from switches s (b .at)) c in
           let x = passed-ok a (from head s i) h in
-          let y = passed-ok b (from brackets s (a .at)) d in
+          let y = passing-ok uicKeeps b keeps (from brackets s (a .at)) d in
+          let both : unit && keeps ≡ deviceKeeps (x .0 .device) && uicKeeps (y .0) = all-kept (kept ∙ unit-kept s i (a .at) is (x .1)) (y .2) in
           read
           (record {
             front = x .0;
@@ -91,12 +100,13 @@ module _ (s : List ℕ) (i : ℕ) where
             list-stands = w .1;
             count = w .2;
             total = w .3;
+            kept = both;
           })
 
 -- what was found of a specification, for one who asks where it ends, and for one who asks for its numbers
 module _ {s : List ℕ} {i : ℕ} where
-  pub pass-refused : {p : ℕ} (r : EndsRead) → EndsAt s i r → r ≡ E.Refused p → P.Refused p ≡ passed (from specification s i)
-  unfolding passed
+  pub pass-refused : {p : ℕ} (r : EndsRead) → EndsAt s i r → r ≡ E.Refused p → W.Refused p ≡ passing specificationKeeps (from specification s i)
+  unfolding passing
   pass-refused {p} r (refused {place} e) is = let q : place ≡ p = cc in rw (e, q)
   pass-refused r (read w) is = let z : _≡_ {A = ℕ} 0 1 = cc in absurd (omega arith)
 
@@ -116,11 +126,11 @@ module _ {s : List ℕ} {i : ℕ} where
   all-read w = rw (behind-uic s i (w .front-stands) (w .bracket-stands), w .list-stands)
 
   module _ {x : PartEnds} {next : Cursor} (r : EndsRead) (ends : EndsAt s i r) (is : r ≡ E.Read x next) where
-    pub pass-found : P.Read next ≡ passed (from specification s i)
-    unfolding passed
-    pass-found = rw (all-read (stand r ends is))
+    pub pass-found : W.Read next (x .keeps) ≡ passing specificationKeeps (from specification s i)
+    unfolding passing
+    pass-found = let w = stand r ends is in ap (W.Read next) (w .kept) ∙ sym (ap (passing specificationKeeps) (all-read w))
 
-    pub parts-stand : (x .device ≡ passed (from device s i)) × (Stands head s i (x .head .at) × Stands brackets s (x .head .at) (x .brackets .at))
+    pub parts-stand : (x .device ≡ passing unitOfDevice (from device s i)) × (Stands head s i (x .head .at) × Stands brackets s (x .head .at) (x .brackets .at))
     parts-stand =
         let w = stand r ends is in
         (w .device-passed, (record { what = w .front; stands = w .front-stands }, record { what = w .bracket; stands = w .bracket-stands }))

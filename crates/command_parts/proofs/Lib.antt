@@ -1,4 +1,5 @@
 -- The laws of the parts: what each reader finds, as the code comes upon it.
+pub mod CappedParts
 pub mod Passed
 pub mod PassedDevice
 pub mod PassedFile

@@ -15,21 +15,23 @@ use Rattle.numerals.specs.Digits.{valueOf}
 use Rattle.command_grammar.specs.LineCharacters.{isOctal, colon, period}
 use Rattle.command_grammar.specs.Grammar.{All}
 use Rattle.command_grammar.specs.Parsed.{Device, FileName}
-use Rattle.command_grammar.specs.Reading.{low8}
+use Rattle.command_grammar.specs.Keeps.{deviceKeeps}
 use Rattle.command_grammar.specs.Reader.{is, Res, ok, no, mapped, moved, from, first, second, mkDevice, mkFile, mkHead, word, span, spanAll, oneCharacter, Head, device, file, head, headFrom}
 use Rattle.command_grammar.proofs.ReaderPlaces.{mapped-ok, seq-both, opt-either, word-taken, one-place}
+use Rattle.command_cursor.specs.Capped.{capped}
 use Rattle.command_cursor.specs.FilledWord.{filledWord, firstWord, secondWord}
 use Rattle.command_cursor.specs.declared.Cursor.{Cursor}
 use Rattle.command_cursor.specs.declared.NameWords.{NameWords}
-use Rattle.command_cursor.specs.declared.Part.the-variants as P
 use Rattle.command_cursor.proofs.CursorAtRuns.{run-up, run-within, run-found, run-most, letters-run, named-run}
 use Rattle.command_parts.specs.Numbers.{isPresent, extensionIn}
-use Rattle.command_parts.specs.Passed.{extension, passed, Stands}
+use Rattle.command_parts.specs.Passed.{extension, passing, unitOfDevice, keepsOf, Stands}
 use Rattle.command_parts.specs.Made.{deviceNumbers, fileNumbers, headNumbers}
 use Rattle.command_parts.specs.declared.front.DeviceNumbers.{DeviceNumbers}
 use Rattle.command_parts.specs.declared.front.FileNumbers.{FileNumbers}
 use Rattle.command_parts.specs.declared.front.HeadNumbers.{HeadNumbers}
-use Rattle.command_parts.proofs.Passed.{passed-ok, passed-no}
+use Rattle.command_parts.specs.declared.passing.Passing.{Passing}
+use Rattle.command_parts.specs.declared.passing.Passing.the-variants as W
+use Rattle.command_parts.proofs.Passed.{passing-ok, passing-no}
 use Rattle.command_parts.proofs.PassedDevice.{unitAndColon}
 use Rattle.command_parts.proofs.PassedFile.{extended, named, file-absent, file-present}
 use Rattle.command_parts.proofs.PassedHead.{head-with, moved-mapped}
@@ -87,7 +89,7 @@ module _ (s : List ℕ) (i j middle : ℕ) (m : middle ≡ i + 2 + span isLetter
     pub unit-inside : (middle ≤ j - 1) × (j - 1 ≤ length s)
     unit-inside = let x = device-parts (h .stands) in (omega (arith, x .1), omega (arith, x .2))
 
-  pub device-made : {w n : ℕ} → w ≡ filledWord (take (middle - i) (drop i s)) → n ≡ low8 (valueOf 8 (take (j - 1 - middle) (drop middle s)))
+  pub device-made : {w n : ℕ} → w ≡ filledWord (take (middle - i) (drop i s)) → n ≡ capped (valueOf 8 (take (j - 1 - middle) (drop middle s)))
       → (d : Device) → from device s i ≡ ok d j → _≡_ {A = DeviceNumbers} (record { word = w; unit = n }) (deviceNumbers d)
   unfolding deviceNumbers
   device-made p q d h = rw (device-parts h .3, p, q)
@@ -187,8 +189,8 @@ module _ (s : List ℕ) (i j e : ℕ) (q : e ≡ i + span isLetterOrDigit 6 (dro
 
 -- a device and a file
 
-pub device-stands : (s : List ℕ) (i : ℕ) (b : Cursor) → passed (from device s i) ≡ P.Read b → Stands device s i (b .at)
-device-stands s i b here = let d = passed-ok b (from device s i) here in record { what = d .0; stands = d .1 }
+pub device-stands : (s : List ℕ) (i : ℕ) (b : Cursor) (keeps : Bool) → passing unitOfDevice (from device s i) ≡ W.Read b keeps → Stands device s i (b .at)
+device-stands s i b keeps here = let d = passing-ok unitOfDevice b keeps (from device s i) here in record { what = d .0; stands = d .1 }
 
 module _ (s : List ℕ) (i j : ℕ) where
   with-parts : {b : ℕ} {d : Device} {h : Head} → from device s i ≡ ok d b → from head s i ≡ ok h j → (f : Option FileName) × (from file s b ≡ ok f j) × (h ≡ mkHead (some d) f)
@@ -208,26 +210,36 @@ module _ (s : List ℕ) (i j : ℕ) where
   unfolding from
   without-parts none-here all = without-from (device (drop i s)) refl none-here all
 
-  module _ (b : Cursor) (here : passed (from device s i) ≡ P.Read b) where
+  -- what `pass_device` says of the unit is so of the head's device
+  pub unit-kept : {d : Passing} {h : Head} → d ≡ passing unitOfDevice (from device s i) → from head s i ≡ ok h j → keepsOf d ≡ deviceKeeps (h .device)
+  unit-kept {d} {h} found all = by d (sym found)
+    where
+      by : (d : Passing) → passing unitOfDevice (from device s i) ≡ d → keepsOf d ≡ deviceKeeps (h .device)
+      by (W.Read b keeps) is =
+          let d = passing-ok unitOfDevice b keeps (from device s i) is in
+          rw (d .2, with-parts (d .1) all .2)
+      by (W.Refused p) is = rw (without-parts (passing-no unitOfDevice p (from device s i) is) all .2)
+
+  module _ (b : Cursor) (keeps : Bool) (here : passing unitOfDevice (from device s i) ≡ W.Read b keeps) where
     pub file-behind : Stands head s i j → Stands file s (b .at) j
-    file-behind h = let f = with-parts (device-stands s i b here .stands) (h .stands) in record { what = f .0; stands = f .1 }
+    file-behind h = let f = with-parts (device-stands s i b keeps here .stands) (h .stands) in record { what = f .0; stands = f .1 }
 
     pub head-with-device : (x : DeviceNumbers) → ((d : Device) → from device s i ≡ ok d (b .at) → x ≡ deviceNumbers d)
         → (y : FileNumbers) → ((f : Option FileName) → from file s (b .at) ≡ ok f j → y ≡ fileNumbers f)
         → (h : Head) → from head s i ≡ ok h j → _≡_ {A = HeadNumbers} (record { present = true; word = x .word; unit = x .unit; file = y }) (headNumbers h)
     unfolding headNumbers deviceNumbers
     head-with-device x device-is y file-is h all =
-        let d = device-stands s i b here in
+        let d = device-stands s i b keeps here in
         let f = with-parts (d .stands) all in
         rw (f .2, device-is (d .what) (d .stands), file-is (f .0) (f .1))
 
-  module _ {p : ℕ} (none-here : passed (from device s i) ≡ P.Refused p) where
+  module _ {p : ℕ} (none-here : passing unitOfDevice (from device s i) ≡ W.Refused p) where
     pub file-alone : Stands head s i j → Stands file s i j
-    file-alone h = let f = without-parts (passed-no p (from device s i) none-here) (h .stands) in record { what = f .0; stands = f .1 }
+    file-alone h = let f = without-parts (passing-no unitOfDevice p (from device s i) none-here) (h .stands) in record { what = f .0; stands = f .1 }
 
     pub head-without-device : (y : FileNumbers) → ((f : Option FileName) → from file s i ≡ ok f j → y ≡ fileNumbers f)
         → (h : Head) → from head s i ≡ ok h j → _≡_ {A = HeadNumbers} (record { present = false; word = 0; unit = 0; file = y }) (headNumbers h)
     unfolding headNumbers
     head-without-device y file-is h all =
-        let f = without-parts (passed-no p (from device s i) none-here) all in
+        let f = without-parts (passing-no unitOfDevice p (from device s i) none-here) all in
         rw (f .2, file-is (f .0) (f .1))

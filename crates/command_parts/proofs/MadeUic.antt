@@ -10,9 +10,10 @@ use lib.ListN.{length, take, drop, length-drop}
 use Rattle.numerals.specs.Digits.{valueOf}
 use Rattle.command_grammar.specs.LineCharacters.{isOctal, comma, opening, closing}
 use Rattle.command_grammar.specs.Parsed.{Uic, Switch}
-use Rattle.command_grammar.specs.Reading.{low8, keptSpecification}
 use Rattle.command_grammar.specs.Reader.{is, ok, from, first, second, mkUic, mkTail, mkSpecification, span, spanAll, oneCharacter, Head, head, uic}
 use Rattle.command_grammar.proofs.ReaderPlaces.{seq-both, opt-either, word-taken, one-place, span-long}
+use Rattle.command_cursor.specs.Capped.{capped}
+use Rattle.command_parts.specs.CappedParts.{cappedSpecification}
 use Rattle.command_parts.specs.Numbers.{presentBits, numbersOf}
 use Rattle.command_parts.specs.Passed.{user, brackets, Stands}
 use Rattle.command_parts.specs.Made.{headNumbers, uicNumbers, fileNumbers, made}
@@ -88,7 +89,7 @@ module _ (s : List ℕ) (i j : ℕ) where
         (omega (arith, y .1, y .2, is), omega (arith, y .1, y .3, is), y .4)
 
     pub uic-made : {c : ℕ} → c ≡ i + 1 + span isOctal (length s) (drop (i + 1) s)
-        → {g v : ℕ} → g ≡ low8 (valueOf 8 (take (c - (i + 1)) (drop (i + 1) s))) → v ≡ low8 (valueOf 8 (take (j - 1 - (c + 1)) (drop (c + 1) s)))
+        → {g v : ℕ} → g ≡ capped (valueOf 8 (take (c - (i + 1)) (drop (i + 1) s))) → v ≡ capped (valueOf 8 (take (j - 1 - (c + 1)) (drop (c + 1) s)))
         → (u : Option Uic) → from brackets s i ≡ ok u j → _≡_ {A = UicNumbers} (record { present = true; group = g; user = v }) (uicNumbers u)
     unfolding uicNumbers
     uic-made {c} is p q u h =
@@ -120,6 +121,6 @@ pub numbers-made : {s : List ℕ} {i : ℕ} {x : PartEnds} (a : HeadNumbers) (b 
 numbers-made a b p q is = record { are = λ h u e f. rw (is, p h e, q u f) }
 
 pub made-numbers : (h : Head) (u : Option Uic) (ws : List Switch)
-    → made (headNumbers h) (uicNumbers u) (length ws) ≡ numbersOf (keptSpecification (mkSpecification h (mkTail u ws)))
+    → made (headNumbers h) (uicNumbers u) (length ws) ≡ numbersOf (cappedSpecification (mkSpecification h (mkTail u ws)))
 unfolding numbersOf headNumbers uicNumbers fileNumbers
 made-numbers h u ws = refl

@@ -1,6 +1,7 @@
 -- A device and a file, as the code passes over them.
 use Prim.Native.Nat.{ℕ, _+_, _≤_, _<_}
 use mathlib.Core.Path.{_≡_, refl, sym, ap, _∙_}
+use mathlib.Core.Bool.{Bool}
 use mathlib.Core.List.{List}
 use mathlib.Core.Option.{Option, none, some}
 use native.Mathlib.Omega.{arith}
@@ -12,8 +13,9 @@ use Rattle.command_grammar.specs.Parsed.{Device, FileName}
 use Rattle.command_grammar.specs.Reader.{Res, ok, no, mapped, later, moved, from, mkHead, span, device, file, head, headFrom}
 use Rattle.command_cursor.specs.declared.Cursor.{Cursor}
 use Rattle.command_cursor.specs.declared.Part.the-variants as P
-use Rattle.command_parts.specs.Passed.{passed}
-use Rattle.command_parts.proofs.Passed.{passed-mapped, passed-ok, passed-no}
+use Rattle.command_parts.specs.Passed.{passed, passing, unitOfDevice}
+use Rattle.command_parts.specs.declared.passing.Passing.the-variants as W
+use Rattle.command_parts.proofs.Passed.{passed-mapped, passing-ok, passing-no}
 
 moved-later : (i n : ℕ) (d : Option Device) (r : Res (Option FileName)) → moved i (later n (mkHead d) r) ≡ mapped (mkHead d) (moved (i + n) r)
 moved-later i n d (ok f m) = ap (ok (mkHead d f)) (omega arith)
@@ -60,15 +62,18 @@ module _ (s : List ℕ) (i : ℕ) where
     head-neither h l = neither-from (device (drop i s)) refl h l
 
 module _ (s : List ℕ) (i : ℕ) where
-  pub pass-with : (next : Cursor) → passed (from device s i) ≡ P.Read next → passed (from file s (next .at)) ≡ passed (from head s i)
-  pass-with next h =
-      let d = passed-ok next (from device s i) h in
+  pub pass-with : (next : Cursor) (keeps : Bool) → passing unitOfDevice (from device s i) ≡ W.Read next keeps → passed (from file s (next .at)) ≡ passed (from head s i)
+  pass-with next keeps h =
+      let d = passing-ok unitOfDevice next keeps (from device s i) h in
       passed-mapped (mkHead (some (d .0))) (from file s (next .at)) ∙ ap passed (sym (head-with s i (d .0) (next .at) (d .1)))
 
-  module _ (place e : ℕ) (q : e ≡ i + span isLetterOrDigit 6 (drop i s)) (h : passed (from device s i) ≡ P.Refused place) where
+  module _ (place e : ℕ) (q : e ≡ i + span isLetterOrDigit 6 (drop i s)) (h : passing unitOfDevice (from device s i) ≡ W.Refused place) where
+    no-device : from device s i ≡ no place
+    no-device = passing-no unitOfDevice place (from device s i) h
+
     pub pass-without : place ≤ e → passed (from file s i) ≡ passed (from head s i)
-    pass-without l = passed-mapped (mkHead none) (from file s i) ∙ ap passed (sym (head-without s i place e q (passed-no place (from device s i) h) l))
+    pass-without l = passed-mapped (mkHead none) (from file s i) ∙ ap passed (sym (head-without s i place e q no-device l))
 
     pub pass-neither : e < place → P.Refused place ≡ passed (from head s i)
     unfolding passed
-    pass-neither l = rw (head-neither s i place e q (passed-no place (from device s i) h) l)
+    pass-neither l = rw (head-neither s i place e q no-device l)

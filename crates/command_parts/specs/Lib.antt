@@ -2,6 +2,7 @@
 pub mod Numbers
 pub mod Specified
 pub mod Passed
+pub mod CappedParts
 pub mod Made
 pub mod Counted
 pub mod Ends

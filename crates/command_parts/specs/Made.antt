@@ -2,9 +2,10 @@
 use Prim.Native.Nat.{ℕ}
 use mathlib.Core.Option.{Option}
 use Rattle.command_grammar.specs.Parsed.{Device, FileName, Uic}
-use Rattle.command_grammar.specs.Reading.{low8, keptDevice, keptUic}
 use Rattle.command_grammar.specs.Reader.{Head}
+use Rattle.command_cursor.specs.Capped.{capped}
 use Rattle.command_cursor.specs.FilledWord.{filledWord}
+use Rattle.command_parts.specs.CappedParts.{cappedDevice, cappedUic}
 use Rattle.command_parts.specs.Numbers.{deviceWord, unitOf, nameFirst, nameSecond, extensionWord, groupOf, userOf, isPresent, isExtended, presentBits}
 use Rattle.command_parts.specs.declared.Numbers.{Numbers}
 use Rattle.command_parts.specs.declared.front.DeviceNumbers.{DeviceNumbers}
@@ -13,7 +14,7 @@ use Rattle.command_parts.specs.declared.front.HeadNumbers.{HeadNumbers}
 use Rattle.command_parts.specs.declared.bracket.UicNumbers.{UicNumbers}
 
 unfoldable pub deviceNumbers : Device → DeviceNumbers
-deviceNumbers d = record { word = filledWord (d .letters); unit = low8 (d .unit) }
+deviceNumbers d = record { word = filledWord (d .letters); unit = capped (d .unit) }
 
 unfoldable pub fileNumbers : Option FileName → FileNumbers
 fileNumbers f = record { present = isPresent f; extended = isExtended f; name1 = nameFirst f; name2 = nameSecond f; extension = extensionWord f }
@@ -22,14 +23,14 @@ unfoldable pub headNumbers : Head → HeadNumbers
 unfolding fileNumbers
 headNumbers h =
     record {
-      present = isPresent (keptDevice (h .device));
-      word = deviceWord (keptDevice (h .device));
-      unit = unitOf (keptDevice (h .device));
+      present = isPresent (cappedDevice (h .device));
+      word = deviceWord (cappedDevice (h .device));
+      unit = unitOf (cappedDevice (h .device));
       file = fileNumbers (h .file);
     }
 
 unfoldable pub uicNumbers : Option Uic → UicNumbers
-uicNumbers u = record { present = isPresent (keptUic u); group = groupOf (keptUic u); user = userOf (keptUic u) }
+uicNumbers u = record { present = isPresent (cappedUic u); group = groupOf (cappedUic u); user = userOf (cappedUic u) }
 
 abbrev pub made : HeadNumbers → UicNumbers → ℕ → Numbers
 made h u n =

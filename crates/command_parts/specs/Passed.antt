@@ -1,18 +1,42 @@
--- Means: where a reader of a line ends, whatever it read there; or the place of the refusal.
+-- Means: where a reader of a line ends, and whether what it read there passes a test; or the place of the refusal.
 use Prim.Native.Nat.{ℕ}
 use mathlib.Core.Path.{_≡_}
+use mathlib.Core.Bool.{Bool, true, _&&_}
 use mathlib.Core.List.{List}
-use mathlib.Core.Option.{Option}
+use mathlib.Core.Option.{Option, some}
 use Rattle.radix.specs.Names.{isLetterOrDigit}
+use Rattle.numerals.specs.Digits.{valueOf}
 use Rattle.command_grammar.specs.LineCharacters.{isOctal, comma, period, slash, opening, closing}
-use Rattle.command_grammar.specs.Parsed.{Uic, Switch}
+use Rattle.command_grammar.specs.Parsed.{Device, Uic, Switch}
+use Rattle.command_grammar.specs.Keeps.{octetKeeps, deviceKeeps}
 use Rattle.command_grammar.specs.Reader.{is, Res, ok, no, from, seq, opt, many, oneCharacter, word, span, spanAll, first, second, uic, switch, mkTail, Tail}
 use Rattle.command_cursor.specs.declared.Part.{Part}
 use Rattle.command_cursor.specs.declared.Part.the-variants.{Read, Refused}
+use Rattle.command_parts.specs.declared.passing.Passing.{Passing}
+use Rattle.command_parts.specs.declared.passing.Passing.the-variants as W
 
 unfoldable pub passed : {A : Type 0} → Res A → Part
 passed (ok a end) = Read (record { at = end })
 passed (no place) = Refused place
+
+unfoldable pub passing : {A : Type 0} → (A → Bool) → Res A → Passing
+passing test (ok a end) = W.Read (record { at = end }) (test a)
+passing test (no place) = W.Refused place
+
+-- tests: one whose answer is known; that of a device's unit; and that of a user behind a group of which it is known
+abbrev pub always : {A : Type 0} → Bool → A → Bool
+always keeps a = keeps
+
+abbrev pub unitOfDevice : Device → Bool
+unitOfDevice d = deviceKeeps (some d)
+
+unfoldable pub userBehind : Bool → List ℕ → Bool
+userBehind group digits = group && octetKeeps (valueOf 8 digits)
+
+-- what a device that was passed over says of its unit; where there is none, nothing is over its bound
+abbrev pub keepsOf : Passing → Bool
+keepsOf (W.Read next keeps) = keeps
+keepsOf (W.Refused place) = true
 
 -- what the reader reads stands from one place of the line to another
 pub record Stands {A : Type 0} (reader : List ℕ → Res A) (line : List ℕ) (at end : ℕ) : Type 0 where

@@ -2,50 +2,56 @@
 ghost use mathlib.Core.Path.{_≡_};
 ghost use mathlib.Core.Option.{Option};
 ghost use Rattle.command_grammar.specs.Parsed.{Uic};
+ghost use Rattle.command_grammar.specs.Keeps.{uicKeeps};
 ghost use Rattle.command_grammar.specs.Reader.{ok, from};
 ghost use Rattle.command_parts.specs.Made.{uicNumbers};
-ghost use Rattle.command_parts.specs.Passed.{user, brackets, passed, Stands};
+ghost use Rattle.command_parts.specs.Passed.{user, userBehind, brackets, passing, Stands};
+use crate::passing::Passing;
+use crate::passing::pass_one;
 use command_cursor::Class;
 use command_cursor::Cursor;
 use command_cursor::Part;
 use command_cursor::characters::CLOSING;
 use command_cursor::characters::COMMA;
 use command_cursor::characters::OPENING;
-use command_cursor::low_octal;
+use command_cursor::octal;
 
 // What stands behind the group: the comma, the user's digits and the closing bracket.
-fn pass_user(line: &[u8], c: Cursor) -> Part
-    ensures { λ r. ⌜ r ≡ passed (from user (now (line .entry)) (c .at)) ⌝ }
+fn pass_user(line: &[u8], c: Cursor, group: bool) -> Passing
+    ensures { λ r. ⌜ r ≡ passing (userBehind group) (from user (now (line .entry)) (c .at)) ⌝ }
 {
     let p = c.one(line, COMMA);
     match p {
-        Part::Refused(place) => Part::Refused(place),
+        Part::Refused(place) => Passing::Refused(place),
         Part::Read(a) => {
             let start = a.at;
             let digits = a.run(line, Class::Octal, line.len());
             let end = digits.at;
             if end == start {
-                return Part::Refused(end);
+                return Passing::Refused(end);
             }
-            digits.one(line, CLOSING)
+            let keeps = octal(line, start, end) <= 0o377;
+            pass_one(line, digits, CLOSING, group & keeps)
         }
     }
 }
 
-pub fn pass_uic(line: &[u8], c: Cursor) -> Part
-    ensures { λ r. ⌜ r ≡ passed (from brackets (now (line .entry)) (c .at)) ⌝ }
+// "a group and a user at most 377 octal, leading zeros allowed"
+pub fn pass_uic(line: &[u8], c: Cursor) -> Passing
+    ensures { λ r. ⌜ r ≡ passing uicKeeps (from brackets (now (line .entry)) (c .at)) ⌝ }
 {
     let p = c.one(line, OPENING);
     match p {
-        Part::Refused(_) => Part::Read(c),
+        Part::Refused(_) => Passing::Read(c, true),
         Part::Read(a) => {
             let start = a.at;
             let digits = a.run(line, Class::Octal, line.len());
             let end = digits.at;
             if end == start {
-                return Part::Refused(end);
+                return Passing::Refused(end);
             }
-            pass_user(line, digits)
+            let keeps = octal(line, start, end) <= 0o377;
+            pass_user(line, digits, keeps)
         }
     }
 }
@@ -73,8 +79,8 @@ pub fn read_uic(line: &[u8], c: Cursor, next: Cursor) -> UicNumbers
     let first = Cursor { at: start + 1 };
     let digits = first.run(line, Class::Octal, line.len());
     let comma = digits.at;
-    let group = low_octal(line, start + 1, comma);
-    let user = low_octal(line, comma + 1, end - 1);
+    let group = octal(line, start + 1, comma);
+    let user = octal(line, comma + 1, end - 1);
     UicNumbers {
         present: true,
         group,

@@ -10,27 +10,32 @@ ghost use Rattle.command_grammar.specs.Parsed.{Device, FileName};
 ghost use Rattle.command_grammar.specs.Reader.{ok, span, device, file, head, from, Head};
 ghost use Rattle.command_parts.specs.Numbers.{extensionIn};
 ghost use Rattle.command_parts.specs.Made.{deviceNumbers, fileNumbers, headNumbers};
-ghost use Rattle.command_parts.specs.Passed.{extension, passed, Stands};
+ghost use Rattle.command_parts.specs.Passed.{extension, passed, passing, unitOfDevice, Stands};
+use crate::passing::Passing;
+use crate::passing::pass_one;
 use command_cursor::Class;
 use command_cursor::Cursor;
 use command_cursor::Part;
 use command_cursor::characters::COLON;
 use command_cursor::characters::PERIOD;
-use command_cursor::low_octal;
 use command_cursor::name_words;
+use command_cursor::octal;
 use command_cursor::word_of;
 
-pub fn pass_device(line: &[u8], c: Cursor) -> Part
-    ensures { λ r. ⌜ r ≡ passed (from device (now (line .entry)) (c .at)) ⌝ }
+// "A unit must be at most 7, .. leading zeros allowed"
+pub fn pass_device(line: &[u8], c: Cursor) -> Passing
+    ensures { λ r. ⌜ r ≡ passing unitOfDevice (from device (now (line .entry)) (c .at)) ⌝ }
 {
     let start = c.at;
     let letters = c.run(line, Class::Letter, 3);
     let middle = letters.at;
     if middle - start < 2 {
-        return Part::Refused(middle);
+        return Passing::Refused(middle);
     }
     let digits = letters.run(line, Class::Octal, line.len());
-    digits.one(line, COLON)
+    let end = digits.at;
+    let keeps = octal(line, middle, end) <= 7;
+    pass_one(line, digits, COLON, keeps)
 }
 
 // What stands behind a name: a period and an extension, or neither.
@@ -65,16 +70,16 @@ fn pass_named(line: &[u8], c: Cursor, name: Cursor) -> Part
 
 // Behind what `pass_device` found, a file. Where no device stands, but one could go on longer than a name can, the refusal is the device's:
 // `ABC1234567`.
-pub fn pass_head(line: &[u8], c: Cursor, d: Part) -> Part
-    requires { ⌜ d ≡ passed (from device (now line) (c .at)) ⌝ }
+pub fn pass_head(line: &[u8], c: Cursor, d: Passing) -> Part
+    requires { ⌜ d ≡ passing unitOfDevice (from device (now line) (c .at)) ⌝ }
     ensures { λ r. ⌜ r ≡ passed (from head (now (line .entry)) (c .at)) ⌝ }
 {
     match d {
-        Part::Read(next) => {
+        Passing::Read(next, _) => {
             let name = next.run(line, Class::LetterOrDigit, 6);
             pass_named(line, next, name)
         }
-        Part::Refused(place) => {
+        Passing::Refused(place) => {
             let name = c.run(line, Class::LetterOrDigit, 6);
             let end = name.at;
             if end < place {
@@ -101,7 +106,7 @@ fn read_device(line: &[u8], c: Cursor, next: Cursor) -> DeviceNumbers
     let middle = letters.at;
     let end = next.at - 1;
     let word = word_of(line, start, middle);
-    let unit = low_octal(line, middle, end);
+    let unit = octal(line, middle, end);
     DeviceNumbers { word, unit }
 }
 
@@ -161,13 +166,13 @@ pub struct HeadNumbers {
     pub file: FileNumbers,
 }
 
-pub fn read_head(line: &[u8], c: Cursor, d: Part, next: Cursor) -> HeadNumbers
-    requires { ⌜ d ≡ passed (from device (now line) (c .at)) ⌝ }
+pub fn read_head(line: &[u8], c: Cursor, d: Passing, next: Cursor) -> HeadNumbers
+    requires { ⌜ d ≡ passing unitOfDevice (from device (now line) (c .at)) ⌝ }
     requires { ⌜ Stands head (now line) (c .at) (next .at) ⌝ }
     ensures { λ r. ⌜ ((h : Head) → from head (now (line .entry)) (c .at) ≡ ok h (next .at) → r ≡ headNumbers h) ⌝ }
 {
     match d {
-        Part::Read(behind) => {
+        Passing::Read(behind, _) => {
             let device = read_device(line, c, behind);
             let file = read_file(line, behind, next);
             HeadNumbers {
@@ -177,7 +182,7 @@ pub fn read_head(line: &[u8], c: Cursor, d: Part, next: Cursor) -> HeadNumbers
                 file,
             }
         }
-        Part::Refused(_) => {
+        Passing::Refused(_) => {
             let file = read_file(line, c, next);
             HeadNumbers {
                 present: false,

@@ -1,17 +1,20 @@
 // Readers of the parts of a specification, in the order in which they stand: device and file, group and user, switches.
 mod bracket;
 mod front;
+pub mod passing;
 mod switch;
 
 ghost use mathlib.Core.Path.{_≡_};
 ghost use Prim.Native.Nat.{_≤_};
+ghost use Rattle.command_grammar.specs.Keeps.{specificationKeeps};
 ghost use Rattle.command_grammar.specs.Reader.{device, head, specification, from};
 ghost use Rattle.command_parts.specs.Numbers.{bit, presentBits};
 ghost use Rattle.command_parts.specs.Specified.{PartsAt};
 ghost use Rattle.command_parts.specs.Ends.{EndsAt, NumbersAt};
-ghost use Rattle.command_parts.specs.Passed.{brackets, passed, Stands};
+ghost use Rattle.command_parts.specs.Passed.{brackets, passing, unitOfDevice, keepsOf, Stands};
 use command_cursor::Cursor;
 use command_cursor::Part;
+use passing::Passing;
 use switch::SwitchesRead;
 
 // A specification in the paper's numbers; those of absent parts are 0.
@@ -52,18 +55,29 @@ fn present_bits(device: bool, name: bool, extension: bool, uic: bool) -> usize
     bit(device) + (2 * bit(name) + (4 * bit(extension) + 8 * bit(uic)))
 }
 
-// Where the parts of a specification end, and how many switches there are, with how many values in all.
+// Where the parts of a specification end, and how many switches there are, with how many values in all; and whether its numbers keep their bounds.
 pub struct PartEnds {
-    pub device: Part,
+    pub device: Passing,
     pub head: Cursor,
     pub brackets: Cursor,
     pub switches: usize,
     pub values: usize,
+    pub keeps: bool,
 }
 
 pub enum EndsRead {
     Read(PartEnds, Cursor),
     Refused(usize),
+}
+
+// Whether the unit of a device that was passed over keeps its bound, if there is one.
+fn unit_keeps(device: Passing) -> bool
+    ensures { λ r. ⌜ r ≡ keepsOf device ⌝ }
+{
+    match device {
+        Passing::Read(_, keeps) => keeps,
+        Passing::Refused(_) => true,
+    }
 }
 
 fn find_parts(line: &[u8], c: Cursor) -> EndsRead
@@ -76,8 +90,8 @@ fn find_parts(line: &[u8], c: Cursor) -> EndsRead
         Part::Read(head) => {
             let u = bracket::pass_uic(line, head);
             match u {
-                Part::Refused(place) => EndsRead::Refused(place),
-                Part::Read(brackets) => {
+                Passing::Refused(place) => EndsRead::Refused(place),
+                Passing::Read(brackets, keeps) => {
                     let w = switch::read_switches(line, brackets, 0, 0);
                     match w {
                         SwitchesRead::Refused(place) => EndsRead::Refused(place),
@@ -88,6 +102,7 @@ fn find_parts(line: &[u8], c: Cursor) -> EndsRead
                                 brackets,
                                 switches: counts.switches,
                                 values: counts.values,
+                                keeps: unit_keeps(device) & keeps,
                             },
                             next,
                         ),
@@ -98,19 +113,19 @@ fn find_parts(line: &[u8], c: Cursor) -> EndsRead
     }
 }
 
-// Where the specification ends, for those who ask nothing else of it.
-pub fn pass_parts(line: &[u8], c: Cursor) -> Part
-    ensures { λ r. ⌜ r ≡ passed (from specification (now (line .entry)) (c .at)) ⌝ }
+// Where the specification ends, and whether its numbers keep their bounds, for those who ask nothing else of it.
+pub fn pass_parts(line: &[u8], c: Cursor) -> Passing
+    ensures { λ r. ⌜ r ≡ passing specificationKeeps (from specification (now (line .entry)) (c .at)) ⌝ }
 {
     let found = find_parts(line, c);
     match found {
-        EndsRead::Refused(place) => Part::Refused(place),
-        EndsRead::Read(_, next) => Part::Read(next),
+        EndsRead::Refused(place) => Passing::Refused(place),
+        EndsRead::Read(ends, next) => Passing::Read(next, ends.keeps),
     }
 }
 
 fn make_numbers(line: &[u8], c: Cursor, ends: PartEnds) -> Numbers
-    requires { ⌜ ends .device ≡ passed (from device (now line) (c .at)) ⌝ }
+    requires { ⌜ ends .device ≡ passing unitOfDevice (from device (now line) (c .at)) ⌝ }
     requires { ⌜ Stands head (now line) (c .at) (ends .head .at) × Stands brackets (now line) (ends .head .at) (ends .brackets .at) ⌝ }
     ensures { λ r. ⌜ NumbersAt (now (line .entry)) (c .at) ends r ⌝ }
 {

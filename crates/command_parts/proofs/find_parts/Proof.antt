@@ -49,16 +49,19 @@ returns-3 c =
     let p = c .before .before .before in
     let q = p .before .before .before .before in
     let r = q .before .before .before .before in
-    no-switch _ _ _ (sym (r .pass-head .ensures) ∙ q .before .before .h2 .given .1) _ (sym (q .pass-uic .ensures) ∙ p .before .before .u2 .given .1) _
+    no-switch _ _ _ (sym (r .pass-head .ensures) ∙ q .before .before .h2 .given .1) _ _ (sym (q .pass-uic .ensures) ∙ p .before .before .u2 .given .1) _
     (sym (p .read-switches .ensures) ∙ c .before .w .given .1)
 
 returns-4 : tie.Need-returns-4
 returns-4 c =
-    let p = c .before .before .before in
+    let p = c .before .before .before .before in
     let q = p .before .before .before .before in
     let r = q .before .before .before .before in
-    all-parts _ _ _ (sym (r .pass-head .ensures) ∙ q .before .before .h2 .given .1) _ (sym (q .pass-uic .ensures) ∙ p .before .before .u2 .given .1) (r .before .pass-device .ensures) _ _
-    (sym (p .read-switches .ensures) ∙ c .before .w2 .given .1)
+    all-parts _ _ _ (sym (r .pass-head .ensures) ∙ q .before .before .h2 .given .1) _ _ (sym (q .pass-uic .ensures) ∙ p .before .before .u2 .given .1) (r .before .pass-device .ensures) _ _
+    (sym (p .read-switches .ensures) ∙ c .before .before .w2 .given .1) (c .unit-keeps .ensures)
+
+unit-keeps-requires : tie.Need-unit-keeps-requires
+unit-keeps-requires c κs = search needs
 
 pub find-parts-spec : {M : Type 1} → statement M
 find-parts-spec =
@@ -74,6 +77,7 @@ find-parts-spec =
     read-switches-requires
     enum-known-w
     enum-known-w-2
+    unit-keeps-requires
     returns
     returns-2
     returns-3

@@ -1,7 +1,7 @@
--- Rests on `PassedUic`: no comma, no digit behind it, or the closing bracket behind the digits.
+-- Rests on `PassedUic`: no comma, no digit behind it, or the closing bracket behind the digits; and whether they are at most 377.
 use borrow.Author.Needs.{needs}
 use mathlib.Core.Path.{sym, _∙_}
-use Rattle.command_parts.proofs.PassedUic.{pass-no-comma, pass-no-user, pass-closing}
+use Rattle.command_parts.proofs.PassedUic.{digits-inside, pass-no-comma, pass-no-user, pass-closing}
 use Rattle.command_parts.proofs.bracket.pass_user.Statement.{statement}
 use Rattle.command_parts.proofs.bracket.pass_user.Tie as tie
 
@@ -18,18 +18,25 @@ run-requires : tie.Need-run-requires
 run-requires c κs = search needs
 
 returns : tie.Need-returns
-returns c = pass-no-user _ _ _ (sym (c .before .before .before .before .before .one .ensures) ∙ c .before .before .before .p2 .given .1) _ (c .before .run .ensures) (c .if1 .taken)
+returns c =
+    let p = c .before .before .before in
+    pass-no-user _ _ _ _ (sym (p .before .before .one .ensures) ∙ p .p2 .given .1) _ (c .before .run .ensures) (c .if1 .taken)
 
-one-requires-2 : tie.Need-one-requires-2
-one-requires-2 c κs = search needs
+octal-requires : tie.Need-octal-requires
+octal-requires c κs = digits-inside (c .before .before .before .before .before .before .before .args .line .now) _ _ (c .before .run .ensures) (c .if1 .left)
+
+pass-one-requires : tie.Need-pass-one-requires
+pass-one-requires c κs = search needs
 
 returns-2 : tie.Need-returns-2
-returns-2 c = pass-no-comma _ _ _ (sym (c .before .before .before .one .ensures) ∙ c .before .p .given .1)
+returns-2 c = pass-no-comma _ _ _ _ (sym (c .before .before .before .one .ensures) ∙ c .before .p .given .1)
 
 returns-3 : tie.Need-returns-3
 returns-3 c =
-    let p = c .before .before .before .before in
-    c .one2 .ensures ∙ pass-closing _ _ _ (sym (p .before .before .one .ensures) ∙ p .p2 .given .1) _ (c .before .before .run .ensures) (c .before .if1 .left)
+    let q = c .before .before in
+    let p = q .before .before .before in
+    c .pass-one .ensures
+    ∙ pass-closing _ _ _ _ (sym (p .before .before .one .ensures) ∙ p .p2 .given .1) _ (q .before .run .ensures) (q .if1 .left) (c .before .octal .ensures)
 
 pub pass-user-spec : {M : Type 1} → statement M
 pass-user-spec =
@@ -40,6 +47,7 @@ pass-user-spec =
     enum-known-p-2
     run-requires
     returns
-    one-requires-2
+    octal-requires
+    pass-one-requires
     returns-2
     returns-3)

@@ -15,23 +15,23 @@ add-run c = let x = uic-inside _ _ _ (c .if1 .left) (c .before .before .pre) _ r
 run-requires : tie.Need-run-requires
 run-requires c κs = search needs
 
-add-low-octal : tie.Need-add-low-octal
-add-low-octal c = search needs
+add-octal : tie.Need-add-octal
+add-octal c = search needs
 
-low-octal-requires : tie.Need-low-octal-requires
-low-octal-requires c κs = let x = uic-inside _ _ _ (c .before .if1 .left) (c .before .before .before .pre) _ (c .run .ensures) in (omega (arith, x .0), omega (arith, x .1, x .2))
+octal-requires : tie.Need-octal-requires
+octal-requires c κs = let x = uic-inside _ _ _ (c .before .if1 .left) (c .before .before .before .pre) _ (c .run .ensures) in (omega (arith, x .0), omega (arith, x .1, x .2))
 
-add-low-octal-2 : tie.Need-add-low-octal-2
-add-low-octal-2 c = let x = uic-inside _ _ _ (c .before .before .if1 .left) (c .before .before .before .before .pre) _ (c .before .run .ensures) in omega (arith, x .1, x .2)
+add-octal-2 : tie.Need-add-octal-2
+add-octal-2 c = let x = uic-inside _ _ _ (c .before .before .if1 .left) (c .before .before .before .before .pre) _ (c .before .run .ensures) in omega (arith, x .1, x .2)
 
-sub-low-octal : tie.Need-sub-low-octal
-sub-low-octal c = let x = uic-inside _ _ _ (c .before .before .if1 .left) (c .before .before .before .before .pre) _ (c .before .run .ensures) in omega (arith, x .1)
+sub-octal : tie.Need-sub-octal
+sub-octal c = let x = uic-inside _ _ _ (c .before .before .if1 .left) (c .before .before .before .before .pre) _ (c .before .run .ensures) in omega (arith, x .1)
 
-low-octal-requires-2 : tie.Need-low-octal-requires-2
-low-octal-requires-2 c κs = let x = uic-inside _ _ _ (c .before .before .if1 .left) (c .before .before .before .before .pre) _ (c .before .run .ensures) in (omega (arith, x .1), omega (arith, x .2))
+octal-requires-2 : tie.Need-octal-requires-2
+octal-requires-2 c κs = let x = uic-inside _ _ _ (c .before .before .if1 .left) (c .before .before .before .before .pre) _ (c .before .run .ensures) in (omega (arith, x .1), omega (arith, x .2))
 
 returns-2 : tie.Need-returns-2
-returns-2 c = uic-made _ _ _ (c .before .before .before .if1 .left) (c .before .before .run .ensures) (c .before .low-octal .ensures) (c .low-octal2 .ensures)
+returns-2 c = uic-made _ _ _ (c .before .before .before .if1 .left) (c .before .before .run .ensures) (c .before .octal .ensures) (c .octal2 .ensures)
 
 pub read-uic-spec : {M : Type 1} → statement M
 read-uic-spec =
@@ -40,9 +40,9 @@ read-uic-spec =
     returns
     add-run
     run-requires
-    add-low-octal
-    low-octal-requires
-    add-low-octal-2
-    sub-low-octal
-    low-octal-requires-2
+    add-octal
+    octal-requires
+    add-octal-2
+    sub-octal
+    octal-requires-2
     returns-2)

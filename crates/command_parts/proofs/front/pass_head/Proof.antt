@@ -27,7 +27,7 @@ pass-named-requires-2 : tie.Need-pass-named-requires-2
 pass-named-requires-2 c κs = search needs
 
 returns-2 : tie.Need-returns-2
-returns-2 c = c .pass-named .ensures ∙ pass-with _ _ _ (sym (c .before .before .before .before .before .before .pre) ∙ c .before .before .before .d .given .1)
+returns-2 c = c .pass-named .ensures ∙ pass-with _ _ _ _ (sym (c .before .before .before .before .before .before .pre) ∙ c .before .before .before .d .given .1)
 
 returns-3 : tie.Need-returns-3
 returns-3 c =

@@ -17,12 +17,12 @@ sub-end c = colon-behind _ _ _ _ (c .before .run .ensures) (c .before .before .b
 word-of-requires : tie.Need-word-of-requires
 word-of-requires c κs = letters-wordable _ _ _ _ (c .before .run .ensures) (c .before .before .before .pre)
 
-low-octal-requires : tie.Need-low-octal-requires
-low-octal-requires c κs = unit-inside _ _ _ _ (c .before .before .run .ensures) (c .before .before .before .before .pre)
+octal-requires : tie.Need-octal-requires
+octal-requires c κs = unit-inside _ _ _ _ (c .before .before .run .ensures) (c .before .before .before .before .pre)
 
 returns : tie.Need-returns
-returns c = device-made _ _ _ _ (c .before .before .before .run .ensures) (c .before .word-of .ensures .0) (c .low-octal .ensures)
+returns c = device-made _ _ _ _ (c .before .before .before .run .ensures) (c .before .word-of .ensures .0) (c .octal .ensures)
 
 pub read-device-spec : {M : Type 1} → statement M
 read-device-spec =
-    tie.close (tie.spec add-t11 run-requires sub-end word-of-requires low-octal-requires returns)
+    tie.close (tie.spec add-t11 run-requires sub-end word-of-requires octal-requires returns)

@@ -9,10 +9,10 @@ enum-known-d : tie.Need-enum-known-d
 enum-known-d c = search needs
 
 read-device-requires : tie.Need-read-device-requires
-read-device-requires c κs = device-stands _ _ _ (sym (c .before .before .before .before .pre .0) ∙ c .before .d .given .1)
+read-device-requires c κs = device-stands _ _ _ _ (sym (c .before .before .before .before .pre .0) ∙ c .before .d .given .1)
 
 read-file-requires : tie.Need-read-file-requires
-read-file-requires c κs = file-behind _ _ _ _ (sym (c .before .before .before .before .before .pre .0) ∙ c .before .before .d .given .1) (c .before .before .before .before .before .pre .1)
+read-file-requires c κs = file-behind _ _ _ _ _ (sym (c .before .before .before .before .before .pre .0) ∙ c .before .before .d .given .1) (c .before .before .before .before .before .pre .1)
 
 enum-told : tie.Need-enum-told
 enum-told c = search needs
@@ -23,7 +23,7 @@ read-file-requires-2 c κs = file-alone _ _ _ (sym (c .before .before .before .p
 returns : tie.Need-returns
 returns c =
     let p = c .before .before .before in
-    head-with-device _ _ _ _ (sym (p .before .before .before .pre .0) ∙ p .d .given .1) _ (c .before .read-device .ensures) _ (c .read-file .ensures)
+    head-with-device _ _ _ _ _ (sym (p .before .before .before .pre .0) ∙ p .d .given .1) _ (c .before .read-device .ensures) _ (c .read-file .ensures)
 
 returns-2 : tie.Need-returns-2
 returns-2 c = head-without-device _ _ _ (sym (c .before .before .before .before .pre .0) ∙ c .before .enum-told .given .1) _ (c .read-file2 .ensures)
