@@ -12,6 +12,7 @@ use lib.Dec.{eqb}
 use lib.ListN.{length}
 use Rattle.command_grammar.specs.Parsed.{Specification, Parsed}
 use Rattle.command_grammar.specs.Reading.{inputOf, sideOf, specificationAt}
+use Rattle.command_grammar.specs.Keeps.{sideKeeps, lineKeeps}
 use Rattle.command_grammar.specs.Reader.{ok, readLine}
 use Rattle.command_cursor.specs.declared.Cursor.{Cursor}
 use Rattle.command_sides.specs.Sought.{BeginsAt, LocatedIn}
@@ -47,7 +48,7 @@ module _ (side k : ℕ) (output input : SideFound) where
 
 -- what is known of a side that was read
 abbrev pub Known : List ℕ → ℕ → List Specification → SideFound → Type 0
-Known s k vs found = (found .count ≡ length vs) × BeginsAt s k vs (found .start .at)
+Known s k vs found = (found .count ≡ length vs) × BeginsAt s k vs (found .start .at) × (found .keeps ≡ sideKeeps vs)
 
 some-at : (k : ℕ) (vs : List Specification) → k < length vs → (v : Specification) × (specificationAt k vs ≡ some v)
 unfolding specificationAt
@@ -61,7 +62,7 @@ none-at k [] l = refl
 none-at zero (v ∷ vs) l = absurd (not-suc-le-zero l)
 none-at (suc k) (v ∷ vs) l = none-at k vs (le-of-suc-le-suc l)
 
-module _ (s : List ℕ) (which k : ℕ) (said : Parsed) (n : ℕ) (e : readLine s ≡ ok said n) where
+module _ (s : List ℕ) (which k : ℕ) (said : Parsed) (n : ℕ) (e : readLine s ≡ ok said n) (all : lineKeeps said ≡ true) where
   among-located : (vs : List Specification) (found : SideFound) → sideOf which said ≡ vs → Known s k vs found → LocatedIn s which k (amongFound found k)
   among-located vs found d known = by (decLt k (found .count))
     where
@@ -69,8 +70,8 @@ module _ (s : List ℕ) (which k : ℕ) (said : Parsed) (n : ℕ) (e : readLine 
       by (yes l) =
           let v = some-at k vs (omega (arith, known .0)) in
           let a = known .1 (v .0) (v .1) in
-          rw (← (among-here found k l)) (Q.LocatedIn.located e (ap (specificationAt k) d ∙ v .1) (a .1))
-      by (no l) = rw (← (among-none found k (omega arith))) (Q.LocatedIn.missing e (ap (specificationAt k) d ∙ none-at k vs (omega (arith, known .0))))
+          rw (← (among-here found k l)) (Q.LocatedIn.located e all (ap (specificationAt k) d ∙ v .1) (a .1))
+      by (no l) = rw (← (among-none found k (omega arith))) (Q.LocatedIn.missing e all (ap (specificationAt k) d ∙ none-at k vs (omega (arith, known .0))))
 
   pub chosen-located : (output input : SideFound) → Known s k (said .output) output → Known s k (inputOf (said .input)) input → LocatedIn s which k (chosen which k output input)
   unfolding chosen sideOf
@@ -79,4 +80,4 @@ module _ (s : List ℕ) (which k : ℕ) (said : Parsed) (n : ℕ) (e : readLine 
       by : (first second : Bool) → eqb which 0 ≡ first → eqb which 1 ≡ second → LocatedIn s which k (cond first (amongFound output k) (cond second (amongFound input k) L.Missing))
       by true second x y = among-located (said .output) output (rw x) a
       by false true x y = among-located (inputOf (said .input)) input (rw (x, y)) b
-      by false false x y = Q.LocatedIn.missing e (rw (x, y) (none-at k [] (omega arith)))
+      by false false x y = Q.LocatedIn.missing e all (rw (x, y) (none-at k [] (omega arith)))

@@ -1,12 +1,15 @@
 -- What is known of the two sides of a line says where a specification begins.
 use Prim.Native.Nat.{ℕ, _≤_, _<_}
 use mathlib.Core.Path.{_≡_, refl, sym, ap, _∙_, subst}
+use mathlib.Core.Bool.{true, false, _&&_}
 use mathlib.Core.List.{List}
 use native.Mathlib.Omega.{arith}
 use lib.ListN.{length, drop}
 use Rattle.command_grammar.specs.LineCharacters.{less}
-use Rattle.command_grammar.specs.Parsed.{Specification}
-use Rattle.command_grammar.specs.Reader.{is, Res, ok, no, from, oneCharacter, side, mkReading}
+use Rattle.command_grammar.specs.Parsed.{Specification, Parsed}
+use Rattle.command_grammar.specs.Reading.{inputOf}
+use Rattle.command_grammar.specs.Keeps.{lineKeeps}
+use Rattle.command_grammar.specs.Reader.{is, Res, ok, no, from, oneCharacter, side, mkReading, readLine}
 use Rattle.command_cursor.specs.CursorAt.{partAt}
 use Rattle.command_cursor.specs.declared.Cursor.{Cursor}
 use Rattle.command_cursor.specs.declared.Part.{Part}
@@ -21,14 +24,14 @@ use Rattle.command_sides.specs.declared.Sought.the-variants as S
 use Rattle.command_sides.specs.declared.Located.{Located}
 use Rattle.command_sides.specs.declared.Located.the-variants as L
 use Rattle.command_sides.proofs.SoughtChoices.{Known, chosen-located}
-use Rattle.command_sides.proofs.SoughtJoins.{begins-none}
+use Rattle.command_sides.proofs.SoughtJoins.{begins-none, both-keep}
 use Rattle.command_sides.proofs.SoughtLines.{inputAt, no-sign, sign-begins, output-no, input-no, both-no, both-ok}
 
 -- behind the output side: whether `<` stands there
 
 module _ (s : List ℕ) (c : Cursor) (r : Part) (h : r ≡ partAt (c .at) (oneCharacter (is less) (drop (c .at) s))) where
-  pub no-input : (k place : ℕ) → r ≡ C.Refused place → SoughtAt s k (inputAt s (c .at)) (S.Read (record { count = 0; start = c }) c)
-  no-input k p e = rw (no-sign s (c .at) p (missed less s (c .at) p (sym h ∙ e))) (Q.SoughtAt.read refl (begins-none s k (c .at)))
+  pub no-input : (k place : ℕ) → r ≡ C.Refused place → SoughtAt s k (inputAt s (c .at)) (S.Read (record { count = 0; start = c; keeps = true }) c)
+  no-input k p e = rw (no-sign s (c .at) p (missed less s (c .at) p (sym h ∙ e))) (Q.SoughtAt.read refl (begins-none s k (c .at)) refl)
 
   pub with-input : (next : Cursor) → r ≡ C.Read next → (k : ℕ) (input : Sought) → SoughtAt s k (from side s (next .at)) input → SoughtAt s k (inputAt s (c .at)) input
   with-input next e k input b = let w = found less s (c .at) next (sym h ∙ e) in rw (sign-begins s (c .at) (w .0) (next .at) (w .1)) b
@@ -41,14 +44,14 @@ Side s k x found end = (vs : List Specification) × (x ≡ ok vs end) × Known s
 sought-read : (s : List ℕ) (k : ℕ) (x : Res (List Specification)) (r : Sought) (found : SideFound) (end : Cursor) → SoughtAt s k x r → r ≡ S.Read found end
     → Side s k x found (end .at)
 sought-read s k x r found end Q.SoughtAt.refused h = let z : _≡_ {A = ℕ} 0 1 = cc in absurd (omega arith)
-sought-read s k x r found end (Q.SoughtAt.read {vs} {end = j} {found = f} e b) h =
+sought-read s k x r found end (Q.SoughtAt.read {vs} {end = j} {found = f} e b t) h =
     let p : _≡_ {A = Cursor} (record { at = j }) end = cc in
     let q : f ≡ found = cc in
-    (vs, ap (λ (c : Cursor). ok vs (c .at)) p, subst (λ (g : SideFound). Known s k vs g) q (e, b))
+    (vs, ap (λ (c : Cursor). ok vs (c .at)) p, subst (λ (g : SideFound). Known s k vs g) q (e, b, t))
 
 sought-refused : (s : List ℕ) (k : ℕ) (x : Res (List Specification)) (r : Sought) (place : ℕ) → SoughtAt s k x r → r ≡ S.Refused place → x ≡ no place
 sought-refused s k x r place (Q.SoughtAt.refused {place = p}) h = let q : p ≡ place = cc in ap no q
-sought-refused s k x r place (Q.SoughtAt.read e b) h = let z : _≡_ {A = ℕ} 0 1 = cc in absurd (omega arith)
+sought-refused s k x r place (Q.SoughtAt.read e b t) h = let z : _≡_ {A = ℕ} 0 1 = cc in absurd (omega arith)
 
 -- the line
 
@@ -70,8 +73,20 @@ module _ (s : List ℕ) (which k : ℕ) (r : Sought) (h : SoughtAt s k (from sid
       pub line-goes-on : end .at < length s → LocatedIn s which k (L.Refused (end .at))
       line-goes-on l = Q.LocatedIn.refused (both-no s (first .0) (c .at) (first .1) (second .0) (end .at) (second .1) l)
 
-      pub line-ends : length s ≤ end .at → (answer : Located) → answer ≡ chosen which k output input → LocatedIn s which k answer
-      line-ends l answer b =
+      -- the two sides are what the line says, and their numbers its numbers
+      ends : length s ≤ end .at → (said : Parsed) × (readLine s ≡ ok said (end .at)) × Known s k (said .output) output × Known s k (inputOf (said .input)) input
+      ends l =
           let w = both-ok s (first .0) (c .at) (first .1) (second .0) (end .at) (second .1) l in
-          let known = subst (λ (vs : List Specification). Known s k vs input) (sym (w .1)) (second .2) in
-          rw b (chosen-located s which k (mkReading (first .0) (w .0)) (end .at) (w .2) output input (first .2) known)
+          (mkReading (first .0) (w .0), w .2, first .2, subst (λ (vs : List Specification). Known s k vs input) (sym (w .1)) (second .2))
+
+      numbers : (l : length s ≤ end .at) → (output .keeps && input .keeps) ≡ lineKeeps (ends l .0)
+      unfolding lineKeeps
+      numbers l = let w = ends l in both-keep (w .2 .2) (w .3 .2)
+
+      pub line-large : length s ≤ end .at → (output .keeps && input .keeps) ≡ false → LocatedIn s which k L.TooLarge
+      line-large l fails = let w = ends l in Q.LocatedIn.large (w .1) (sym (numbers l) ∙ fails)
+
+      pub line-ends : length s ≤ end .at → (output .keeps && input .keeps) ≡ true → (answer : Located) → answer ≡ chosen which k output input → LocatedIn s which k answer
+      line-ends l keeps answer b =
+          let w = ends l in
+          rw b (chosen-located s which k (w .0) (end .at) (w .1) (sym (numbers l) ∙ keeps) output input (w .2) (w .3))

@@ -1,6 +1,6 @@
 -- Means: how what was read of a side, and of the two sides, goes together.
 use Prim.Native.Nat.{ℕ, zero, suc, _+_, _<_, _^_}
-use mathlib.Core.Bool.{cond}
+use mathlib.Core.Bool.{Bool, cond, _&&_}
 use mathlib.Core.List.{List}
 use mathlib.Core.Option.{Option}
 use lib.Dec.{eqb, ltb}
@@ -25,9 +25,10 @@ startOf zero here rest = here
 startOf (suc k) here rest = rest
 
 -- a specification that begins here, and what its side has behind it
-unfoldable pub soughtJoined : ℕ → Cursor → Sought → Sought
-soughtJoined k here (S.Read rest end) = S.Read (record { count = rest .count + 1; start = startOf k here (rest .start) }) end
-soughtJoined k here (S.Refused place) = S.Refused place
+unfoldable pub soughtJoined : ℕ → Cursor → Bool → Sought → Sought
+soughtJoined k here keeps (S.Read rest end) =
+    S.Read (record { count = rest .count + 1; start = startOf k here (rest .start); keeps = keeps && rest .keeps }) end
+soughtJoined k here keeps (S.Refused place) = S.Refused place
 
 -- one more can be counted
 abbrev pub Countable : Sought → Type 0

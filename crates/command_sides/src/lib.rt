@@ -10,11 +10,13 @@ use command_cursor::Part;
 use command_cursor::characters::COMMA;
 use command_cursor::characters::LESS_THAN;
 use command_parts::pass_parts;
+use command_parts::passing::Passing;
 
-// How many specifications there are, and where one of them begins.
+// How many specifications there are, where one of them begins, and whether the numbers of all keep their bounds.
 pub struct SideFound {
     pub count: usize,
     pub start: Cursor,
+    pub keeps: bool,
 }
 
 pub enum Sought {
@@ -22,10 +24,11 @@ pub enum Sought {
     Refused(usize),
 }
 
-// Where a specification of the line begins; that there is none; or the place at which the line is refused.
+// Where a specification of the line begins; that there is none; that a number of the line is over its bound; or the place at which it is refused.
 pub enum Located {
     At(Cursor),
     Missing,
+    TooLarge,
     Refused(usize),
 }
 
@@ -42,10 +45,10 @@ fn start_of(k: usize, here: Cursor, rest: Cursor) -> Cursor
     if k == 0 { here } else { rest }
 }
 
-// One specification more than those behind it.
-fn join(k: usize, here: Cursor, rest: Sought) -> Sought
+// One specification more than those behind it, of which it is known whether its numbers keep their bounds.
+fn join(k: usize, here: Cursor, keeps: bool, rest: Sought) -> Sought
     requires { ⌜ Countable rest ⌝ }
-    ensures { λ r. ⌜ r ≡ soughtJoined k here rest ⌝ }
+    ensures { λ r. ⌜ r ≡ soughtJoined k here keeps rest ⌝ }
 {
     match rest {
         Sought::Refused(place) => Sought::Refused(place),
@@ -55,6 +58,7 @@ fn join(k: usize, here: Cursor, rest: Sought) -> Sought
                 SideFound {
                     count: found.count + 1,
                     start: start_of(k, here, other),
+                    keeps: keeps & found.keeps,
                 },
                 end,
             )
@@ -68,8 +72,8 @@ fn read_side(line: &[u8], c: Cursor, k: usize) -> Sought
 {
     let specification = pass_parts(line, c);
     match specification {
-        Part::Refused(place) => Sought::Refused(place),
-        Part::Read(next) => join(k, c, read_more(line, next, before(k))),
+        Passing::Refused(place) => Sought::Refused(place),
+        Passing::Read(next, keeps) => join(k, c, keeps, read_more(line, next, before(k))),
     }
 }
 
@@ -79,7 +83,14 @@ fn read_more(line: &[u8], c: Cursor, k: usize) -> Sought
 {
     let comma = c.one(line, COMMA);
     match comma {
-        Part::Refused(_) => Sought::Read(SideFound { count: 0, start: c }, c),
+        Part::Refused(_) => Sought::Read(
+            SideFound {
+                count: 0,
+                start: c,
+                keeps: true,
+            },
+            c,
+        ),
         Part::Read(next) => read_side(line, next, k),
     }
 }
@@ -90,7 +101,14 @@ fn read_input(line: &[u8], c: Cursor, k: usize) -> Sought
 {
     let sign = c.one(line, LESS_THAN);
     match sign {
-        Part::Refused(_) => Sought::Read(SideFound { count: 0, start: c }, c),
+        Part::Refused(_) => Sought::Read(
+            SideFound {
+                count: 0,
+                start: c,
+                keeps: true,
+            },
+            c,
+        ),
         Part::Read(next) => read_side(line, next, k),
     }
 }
@@ -121,7 +139,8 @@ fn choose(side: usize, k: usize, output: SideFound, input: SideFound) -> Located
     }
 }
 
-// "Command: output side, or output side, `<`, input side." Both are read, whichever is asked for: the line is refused as a whole.
+// "Command: output side, or output side, `<`, input side." Both are read, whichever is asked for: the line is refused as a whole, and its numbers are
+// looked at behind the grammar, all of them.
 pub fn read_line(line: &[u8], side: usize, k: usize) -> Located
     ensures { λ r. ⌜ LocatedIn (now (line .entry)) side k r ⌝ }
 {
@@ -137,7 +156,11 @@ pub fn read_line(line: &[u8], side: usize, k: usize) -> Located
                     if end < line.len() {
                         return Located::Refused(end);
                     }
-                    choose(side, k, outputs, inputs)
+                    if outputs.keeps & inputs.keeps {
+                        choose(side, k, outputs, inputs)
+                    } else {
+                        Located::TooLarge
+                    }
                 }
             }
         }

@@ -162,7 +162,7 @@ read-side-read-more-requires : (t : ℕ) → read-side-lts.Need-read-more-requir
   join-reads.Learnt,
 ) (read-side-at t) read-side.Post
 read-side-read-more-requires t c κs =
-    let m = went-on _ _ _ (c .before .before .before .before .pass-parts .ensures) _ (c .before .before .specification2 .given .1) in
+    let m = went-on _ _ _ (c .before .before .before .before .pass-parts .ensures) _ _ (c .before .before .specification2 .given .1) in
     (omega (arith, m, c .before .before .before .before .before .before .pre .0), tt)
 
 read-side-join-requires : (t : ℕ) → read-side-lts.Need-join-requires (
@@ -178,7 +178,7 @@ read-side-join-requires : (t : ℕ) → read-side-lts.Need-join-requires (
 read-side-join-requires t c κs =
     let p = c .before .before .before in
     let q = p .before .before .before .before in
-    countable _ _ _ (p .before .before .pass-parts .ensures) _ (p .specification2 .given .1) _ _ _ (c .before .before2 .ensures) (c .read-more .ensures) (omega (arith, q .good .0 .1))
+    countable _ _ _ (p .before .before .pass-parts .ensures) _ _ (p .specification2 .given .1) _ _ _ (c .before .before2 .ensures) (c .read-more .ensures) (omega (arith, q .good .0 .1))
 
 read-side-returns : (t : ℕ) → read-side-lts.Need-returns (
   pass-parts-reads.Asked,
@@ -205,7 +205,7 @@ read-side-returns-2 : (t : ℕ) → read-side-lts.Need-returns-2 (
 read-side-returns-2 t c =
     let p = c .before .before .before in
     let q = p .before .before .before in
-    side-some _ _ _ (q .pass-parts .ensures) _ (p .before .specification2 .given .1) _ _ _ (c .before .before .before2 .ensures) (c .before .read-more .ensures) _ (c .join .ensures)
+    side-some _ _ _ (q .pass-parts .ensures) _ _ (p .before .specification2 .given .1) _ _ _ (c .before .before .before2 .ensures) (c .before .read-more .ensures) _ (c .join .ensures)
 
 pub +read-more+read-side-spec : {M : Type 1} → statement M
 +read-more+read-side-spec =

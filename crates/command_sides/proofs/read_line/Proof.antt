@@ -1,6 +1,7 @@
--- Rests on `SoughtWhole`: the line is refused where a side is, or where the two sides end before it; else `choose` chooses of what they have.
+-- Rests on `SoughtWhole`: the line is refused where a side is, or where the two sides end before it; else its numbers are those of the sides, and `choose`
+-- chooses of what they have.
 use borrow.Author.Needs.{needs}
-use Rattle.command_sides.proofs.SoughtWhole.{output-refused, input-refused, line-goes-on, line-ends}
+use Rattle.command_sides.proofs.SoughtWhole.{output-refused, input-refused, line-goes-on, line-large, line-ends}
 use Rattle.command_sides.proofs.read_line.Statement.{statement}
 use Rattle.command_sides.proofs.read_line.Tie as tie
 
@@ -42,10 +43,18 @@ returns-3 c =
 
 returns-4 : tie.Need-returns-4
 returns-4 c =
-    let p = c .before .before .before in
+    let r = c .before .before .before .before in
+    let p = r .before .before .before .before in
     let q = p .before .before .before .before in
-    line-ends _ _ _ _ (q .before .before .read-side .ensures) _ _ (q .output2 .given .1) _ (p .before .before .read-input .ensures) _ _ (p .input2 .given .1) (c .before .if1 .left)
-    _ (c .choose .ensures)
+    line-ends _ _ _ _ (q .read-side .ensures) _ _ (p .before .before .output2 .given .1) _ (p .read-input .ensures) _ _ (r .before .before .input2 .given .1) (r .if1 .left)
+    (c .before .if2 .taken) _ (c .choose .ensures)
+
+returns-5 : tie.Need-returns-5
+returns-5 c =
+    let r = c .before .before .before in
+    let p = r .before .before .before .before in
+    let q = p .before .before .before .before in
+    line-large _ _ _ _ (q .read-side .ensures) _ _ (p .before .before .output2 .given .1) _ (p .read-input .ensures) _ _ (r .before .before .input2 .given .1) (r .if1 .left) (c .if2 .left)
 
 pub read-line-spec : {M : Type 1} → statement M
 read-line-spec =
@@ -61,4 +70,5 @@ read-line-spec =
     choose-requires
     returns-2
     returns-3
-    returns-4)
+    returns-4
+    returns-5)
