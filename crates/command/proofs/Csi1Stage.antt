@@ -25,11 +25,19 @@ written-wrong buffer (Q.Judged.right read) same = let z : _≡_ {A = ℕ} 0 1 = 
 written-wrong {line} buffer {place} (Q.Judged.wrong {place = found} placed) same =
     let z : found ≡ place = cc in
     Q.LineWritten.wrong (rw z at placed)
+written-wrong buffer (Q.Judged.large over) same = let z : _≡_ {A = ℕ} 0 1 = cc in absurd (omega arith)
+
+pub written-large : {line : List ℕ} (buffer : List ℕ) {judgement : Judgement} → Judged line judgement → judgement ≡ J.TooLarge
+    → LineWritten line buffer C.TooLarge buffer
+written-large buffer (Q.Judged.right read) same = let z : _≡_ {A = ℕ} 0 1 = cc in absurd (omega arith)
+written-large buffer (Q.Judged.wrong placed) same = let z : _≡_ {A = ℕ} 0 1 = cc in absurd (omega arith)
+written-large buffer (Q.Judged.large over) same = Q.LineWritten.large over
 
 pub written-right : {line part : List ℕ} (buffer : List ℕ) {judgement : Judgement} → Judged line judgement → judgement ≡ J.Right → part ≡ line
     → LineWritten line buffer (C.Accepted (length line)) (part ++ drop (length line) buffer)
 written-right buffer (Q.Judged.right read) same is = rw is (Q.LineWritten.written read)
 written-right buffer (Q.Judged.wrong placed) same is = let z : _≡_ {A = ℕ} 0 1 = cc in absurd (omega arith)
+written-right buffer (Q.Judged.large over) same is = let z : _≡_ {A = ℕ} 0 1 = cc in absurd (omega arith)
 
 pub raw-long : (line buffer : List ℕ) → rawLimit < length line → Csi1 line buffer C.TooLong buffer
 raw-long line buffer over = One.Csi1.long (inl over)
@@ -55,6 +63,7 @@ module _ {line characters : List ℕ} {end : ℕ} (buffer : List ℕ) (laid : Co
     by-line : (answer : Condensing) (after : List ℕ) → length (condensed line) ≤ length buffer → LineWritten (condensed line) buffer answer after
         → Csi1 line buffer answer after
     by-line answer after room (Q.LineWritten.wrong placed) = One.Csi1.wrong not-long room placed
+    by-line answer after room (Q.LineWritten.large over) = One.Csi1.large not-long room over
     by-line answer after room (Q.LineWritten.written read) = One.Csi1.accepted not-long room read
 
     pub line-written : {answer : Condensing} {after : List ℕ} → end ≤ length buffer → LineWritten (take end characters) buffer answer after

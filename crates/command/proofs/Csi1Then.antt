@@ -17,6 +17,7 @@ use Rattle.command.specs.Csi2 as Two
 use Rattle.command.specs.Known.{Known, knownOf, AskedFrom}
 use Rattle.command.specs.declared.csi2.SpecificationAnswer.{SpecificationAnswer}
 use Rattle.command_grammar.proofs.LinePlace.{not-read}
+use Rattle.command_grammar.proofs.GrammarOne.{over-not-read}
 use Rattle.command.proofs.KnownSides.{side-asked, side-asked-one}
 
 short : (line : List ℕ) → (TooLong line → ⊥) → length (condensed line) ≤ lineLimit
@@ -43,22 +44,24 @@ pub csi1-accepted : (line buffer : List ℕ) (answer : Answer) (after : List ℕ
 csi1-accepted line buffer answer after (One.Csi1Answered.answered (One.Csi1.long over)) code = absurd (omega arith)
 csi1-accepted line buffer answer after (One.Csi1Answered.answered (One.Csi1.short fits few)) code = absurd (omega arith)
 csi1-accepted line buffer answer after (One.Csi1Answered.answered (One.Csi1.wrong fits room placed)) code = absurd (omega arith)
+csi1-accepted line buffer answer after (One.Csi1Answered.answered (One.Csi1.large fits room over)) code = absurd (omega arith)
 csi1-accepted line buffer answer after (One.Csi1Answered.answered (One.Csi1.accepted fits room {reading} read)) code =
     accepted line (drop (length (condensed line)) buffer) reading fits read
 
--- a line that is not too long and has a reading is answered neither 53 nor 50
+-- a line that is not too long and has a reading is answered neither 53, 50 nor 54
 neither : (line : List ℕ) (reading : Reading) → length line ≤ lineLimit → Reads line reading → (side k : ℕ) (buffer : List ℕ) (answer : SpecificationAnswer) (after : List ℕ)
-    → Csi2Answered line side k buffer answer after → (answer .code ≡ 0o53 → ⊥) × (answer .code ≡ 0o50 → ⊥)
+    → Csi2Answered line side k buffer answer after → (answer .code ≡ 0o53 → ⊥) × (answer .code ≡ 0o50 → ⊥) × (answer .code ≡ 0o54 → ⊥)
 neither line reading fits read side k buffer answer after (Two.Csi2Answered.answered (Two.Csi2.long over)) = absurd (omega arith)
 neither line reading fits read side k buffer answer after (Two.Csi2Answered.answered (Two.Csi2.wrong fits′ {place} placed)) = absurd (not-read line place reading placed read)
-neither line reading fits read side k buffer answer after (Two.Csi2Answered.answered (Two.Csi2.missing fits′ found)) = (λ code. omega arith, λ code. omega arith)
-neither line reading fits read side k buffer answer after (Two.Csi2Answered.answered (Two.Csi2.short fits′ found few)) = (λ code. omega arith, λ code. omega arith)
-neither line reading fits read side k buffer answer after (Two.Csi2Answered.answered (Two.Csi2.given fits′ found room)) = (λ code. omega arith, λ code. omega arith)
+neither line reading fits read side k buffer answer after (Two.Csi2Answered.answered (Two.Csi2.large fits′ over)) = absurd (over-not-read line reading over read)
+neither line reading fits read side k buffer answer after (Two.Csi2Answered.answered (Two.Csi2.missing fits′ found)) = (λ code. omega arith, λ code. omega arith, λ code. omega arith)
+neither line reading fits read side k buffer answer after (Two.Csi2Answered.answered (Two.Csi2.short fits′ found few)) = (λ code. omega arith, λ code. omega arith, λ code. omega arith)
+neither line reading fits read side k buffer answer after (Two.Csi2Answered.answered (Two.Csi2.given fits′ found room)) = (λ code. omega arith, λ code. omega arith, λ code. omega arith)
 
--- a line which CSI1 accepts with a length is answered by CSI2, on so many bytes of the buffer, neither 53 nor 50
+-- a line which CSI1 accepts with a length is answered by CSI2, on so many bytes of the buffer, neither 53, 50 nor 54
 pub csi1-then-csi2 : (line buffer : List ℕ) (answer : Answer) (after : List ℕ) → Csi1Answered line buffer answer after → answer .code ≡ 0
     → (side k : ℕ) (lent : List ℕ) (next : SpecificationAnswer) (left : List ℕ) → Csi2Answered (take (answer .number) after) side k lent next left
-    → (next .code ≡ 0o53 → ⊥) × (next .code ≡ 0o50 → ⊥)
+    → (next .code ≡ 0o53 → ⊥) × (next .code ≡ 0o50 → ⊥) × (next .code ≡ 0o54 → ⊥)
 csi1-then-csi2 line buffer answer after is code side k lent next left is′ =
     let a = csi1-accepted line buffer answer after is code in
     neither (take (answer .number) after) (a .reading) (a .fits) (a .has) side k lent next left is′

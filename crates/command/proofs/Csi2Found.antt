@@ -53,6 +53,7 @@ pub csi2-room : (line : List ℕ) (side k : ℕ) (buffer : List ℕ) (answer : S
     → Csi2Answered line side k buffer answer after → 384 ≤ length buffer → answer .code ≡ 0o52 → ⊥
 csi2-room line side k buffer answer after (Two.Csi2Answered.answered (Two.Csi2.long over)) room code = omega arith
 csi2-room line side k buffer answer after (Two.Csi2Answered.answered (Two.Csi2.wrong fits placed)) room code = omega arith
+csi2-room line side k buffer answer after (Two.Csi2Answered.answered (Two.Csi2.large fits over)) room code = omega arith
 csi2-room line side k buffer answer after (Two.Csi2Answered.answered (Two.Csi2.missing fits found)) room code = omega arith
 csi2-room line side k buffer answer after (Two.Csi2Answered.answered (Two.Csi2.short fits {v} found few)) room code =
     omega (arith, switches-within line (found .reading) (found .reads) side k v (found .there))

@@ -9,11 +9,10 @@ use native.Mathlib.Decide.{decLt}
 use native.Mathlib.Omega.{arith}
 use lib.ListN.{length, drop}
 use Rattle.answers.proofs.RefusalsLadder.{Ladder, here, behind, End, end-single, ladder-single}
-use Rattle.command_grammar.specs.Parsed.{Specification, Parsed}
-use Rattle.command_grammar.specs.Grammar.{Command}
-use Rattle.command_grammar.specs.Reading.{Reading, reads, kept, sideOf, specificationAt}
+use Rattle.command_grammar.specs.Parsed.{Specification}
+use Rattle.command_grammar.specs.Reading.{Reading, Reads, OverBound, sideOf, specificationAt}
 use Rattle.command_grammar.specs.LinePlace.{LinePlace}
-use Rattle.command_grammar.proofs.GrammarOne.{reads-one, said-or-placed}
+use Rattle.command_grammar.proofs.GrammarOne.{reads-one, over-not-read, over-right, read-large-or-placed}
 use Rattle.command_grammar.proofs.LinePlace.{place-one, not-read}
 use Rattle.command_parts.specs.Numbers.{numbersOf}
 use Rattle.command_switches.specs.Encoded.{encoded}
@@ -35,6 +34,13 @@ module _ {line : List ℕ} {side k : ℕ} where
   pub found-some : {v : Specification} → FoundAt line side k (some v) → FoundAt line side k none → ⊥
   found-some x y = let same = found-one x y in let z : _≡_ {A = ℕ} 0 1 = cc in omega arith
 
+  -- a line of which something is found has no place, and no number over its bound
+  found-right : {found : Option Specification} → FoundAt line side k found → (place : ℕ) × LinePlace line place → ⊥
+  found-right x at = not-read line (at .0) (x .reading) (at .1) (x .reads)
+
+  pub found-bounded : {found : Option Specification} → FoundAt line side k found → OverBound line → ⊥
+  found-bounded x over = over-not-read line (x .reading) over (x .reads)
+
   -- the specification that is found has room
   pub found-fits : {v w : Specification} {room : ℕ} → FoundAt line side k (some v) → length (encoded (v .switches)) ≤ room
       → FoundAt line side k (some w) → room < length (encoded (w .switches)) → ⊥
@@ -49,23 +55,26 @@ abbrev Csi2Ladder : List ℕ → ℕ → ℕ → List ℕ → SpecificationAnswe
 Csi2Ladder line side k buffer =
     Ladder {When = lineLimit < length line} (λ over. (refusal 0o53 0, buffer))
     (Ladder {When = (place : ℕ) × LinePlace line place} (λ at. (refusal 0o50 (at .0), buffer))
+    (Ladder {When = OverBound line} (λ over. (refusal 0o54 0, buffer))
     (Ladder {When = FoundAt line side k none} (λ found. (refusal 0o51 0, buffer))
     (Ladder {When = (v : Specification) × FoundAt line side k (some v) × length buffer < length (encoded (v .switches))} (λ found. (refusal 0o52 0, buffer))
     (Ladder {When = (v : Specification) × FoundAt line side k (some v)} (λ found. given buffer (found .0))
-    End))))
+    End)))))
 
 csi2-ladder : (line : List ℕ) (side k : ℕ) (buffer : List ℕ) (a : SpecificationAnswer) (after : List ℕ) → Csi2Answered line side k buffer a after
     → Csi2Ladder line side k buffer (a, after)
 csi2-ladder line side k buffer a after (Two.Csi2Answered.answered (Two.Csi2.long over)) = here over
 csi2-ladder line side k buffer a after (Two.Csi2Answered.answered (Two.Csi2.wrong fits {place} at)) = behind (λ over. not-le-of-lt over fits) (here (place, at))
+csi2-ladder line side k buffer a after (Two.Csi2Answered.answered (Two.Csi2.large fits over)) =
+    behind (λ over. not-le-of-lt over fits) (behind (λ at. over-right line over (at .1 .wrong)) (here over))
 csi2-ladder line side k buffer a after (Two.Csi2Answered.answered (Two.Csi2.missing fits found)) =
-    behind (λ over. not-le-of-lt over fits) (behind (λ at. not-read line (at .0) (found .reading) (at .1) (found .reads)) (here found))
+    behind (λ over. not-le-of-lt over fits) (behind (found-right found) (behind (found-bounded found) (here found)))
 csi2-ladder line side k buffer a after (Two.Csi2Answered.answered (Two.Csi2.short fits {v} found few)) =
-    behind (λ over. not-le-of-lt over fits) (behind (λ at. not-read line (at .0) (found .reading) (at .1) (found .reads))
-    (behind (found-some found) (here (v, found, few))))
+    behind (λ over. not-le-of-lt over fits) (behind (found-right found) (behind (found-bounded found)
+    (behind (found-some found) (here (v, found, few)))))
 csi2-ladder line side k buffer a after (Two.Csi2Answered.answered (Two.Csi2.given fits {v} found room)) =
-    behind (λ over. not-le-of-lt over fits) (behind (λ at. not-read line (at .0) (found .reading) (at .1) (found .reads))
-    (behind (found-some found) (behind (λ other. found-fits found room (other .1) (other .2)) (here (v, found)))))
+    behind (λ over. not-le-of-lt over fits) (behind (found-right found) (behind (found-bounded found)
+    (behind (found-some found) (behind (λ other. found-fits found room (other .1) (other .2)) (here (v, found))))))
 
 -- "the stated result and final buffers are the only ones possible for given inputs, refusal or not"
 pub csi2-answered-one : (line : List ℕ) (side k : ℕ) (buffer : List ℕ) (a b : SpecificationAnswer) (after after′ : List ℕ)
@@ -73,7 +82,8 @@ pub csi2-answered-one : (line : List ℕ) (side k : ℕ) (buffer : List ℕ) (a 
 csi2-answered-one line side k buffer a b after after′ x y =
     let same = ladder-single (λ p q. refl) (ladder-single
     (λ p q. ap (λ (place : ℕ). (refusal 0o50 place, buffer)) (place-one line (p .0) (q .0) (p .1) (q .1)))
-    (ladder-single (λ p q. refl) (ladder-single (λ p q. refl) (ladder-single (λ p q. ap (given buffer) (same-found (p .1) (q .1))) end-single))))
+    (ladder-single (λ p q. refl) (ladder-single (λ p q. refl) (ladder-single (λ p q. refl)
+    (ladder-single (λ p q. ap (given buffer) (same-found (p .1) (q .1))) end-single)))))
     (a, after) (b, after′) (csi2-ladder line side k buffer a after x) (csi2-ladder line side k buffer b after′ y) in
     (ap (λ r. r .0) same, ap (λ r. r .1) same)
 
@@ -89,10 +99,11 @@ module _ (line : List ℕ) (side k : ℕ) (buffer : List ℕ) where
       by (no room) = (_, _, Two.Csi2Answered.answered (Two.Csi2.given fits found (omega arith)))
 
   pub csi2-answers : (answer : SpecificationAnswer) × (after : List ℕ) × Csi2Answered line side k buffer answer after
-  csi2-answers = by (decLt lineLimit (length line)) (said-or-placed line)
+  csi2-answers = by (decLt lineLimit (length line)) (read-large-or-placed line)
     where
-      by : Dec (lineLimit < length line) → ((said : Parsed) × Command line said) ⊎ ((p : ℕ) × LinePlace line p)
+      by : Dec (lineLimit < length line) → ((reading : Reading) × Reads line reading) ⊎ (OverBound line ⊎ ((p : ℕ) × LinePlace line p))
           → (answer : SpecificationAnswer) × (after : List ℕ) × Csi2Answered line side k buffer answer after
       by (yes over) says = (_, _, Two.Csi2Answered.answered (Two.Csi2.long over))
-      by (no fits) (inl says) = of-found (omega arith) _ (record { reading = kept (says .0); reads = reads (says .1); there = refl })
-      by (no fits) (inr at) = (_, _, Two.Csi2Answered.answered (Two.Csi2.wrong (omega arith) (at .1)))
+      by (no fits) (inl says) = of-found (omega arith) _ (record { reading = says .0; reads = says .1; there = refl })
+      by (no fits) (inr (inl over)) = (_, _, Two.Csi2Answered.answered (Two.Csi2.large (omega arith) over))
+      by (no fits) (inr (inr at)) = (_, _, Two.Csi2Answered.answered (Two.Csi2.wrong (omega arith) (at .1)))

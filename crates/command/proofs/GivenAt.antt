@@ -9,10 +9,10 @@ use Rattle.command_cursor.specs.declared.Cursor.{Cursor}
 use Rattle.command_grammar.specs.LineCharacters.{slash}
 use Rattle.command_grammar.specs.Parsed.{Switch, Specification}
 use Rattle.command_grammar.specs.Grammar.{IsSpecification}
-use Rattle.command_grammar.specs.Reading.{keptSpecification}
 use Rattle.command_grammar.specs.Reader.{is, Res, ok, no, many, switch, specification, moved, from, valuesIn}
 use Rattle.command_grammar.proofs.ReaderTheory.{Sound}
 use Rattle.command_grammar.proofs.ReaderLines.{specification-reads}
+use Rattle.command_parts.specs.CappedParts.{cappedSpecification}
 use Rattle.command_parts.specs.Numbers.{numbersOf}
 use Rattle.command_parts.specs.Specified.{PartsAt}
 use Rattle.command_parts.specs.Specified as P
@@ -35,7 +35,7 @@ pub record StandingAt (line : List ℕ) (at : ℕ) (x : Specified) : Type 0 wher
   pub v : Specification
   pub end : ℕ
   pub stands : from specification line at ≡ ok v end
-  pub numbers : x .numbers ≡ numbersOf (keptSpecification v)
+  pub numbers : x .numbers ≡ numbersOf (cappedSpecification v)
   pub values : x .values ≡ valuesIn (v .switches)
   pub switches : from (many (is slash) switch) line (x .start .at) ≡ ok (v .switches) end
 

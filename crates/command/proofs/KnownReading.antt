@@ -14,7 +14,7 @@ use Rattle.command_cursor.proofs.FilledWord.{filled-word, all-take, all-drop}
 use Rattle.command_grammar.specs.Parsed.{Device, FileName, Uic, Switch, Specification, Parsed}
 use Rattle.command_grammar.specs.Grammar.{All, nil, cons, Between, IsDevice, IsFile, AreValues, IsSwitch, AreSwitches, IsSpecification, IsSide, Command}
 use Rattle.command_grammar.specs.Grammar as G
-use Rattle.command_grammar.specs.Reading.{Reading, Reads, reads, kept, keptDevice, keptUic, keptSpecification, keptSide, sideOf}
+use Rattle.command_grammar.specs.Reading.{Reading, Reads, reads, sideOf}
 use Rattle.command_grammar.proofs.ReaderHeads.{letter-alnum}
 use Rattle.command_parts.specs.Numbers.{numbersOf, deviceWord, unitOf, nameFirst, nameSecond, extensionWord, groupOf, userOf, isPresent, isExtended, bit, presentBits}
 use Rattle.command.specs.Csi2.{askingAnswer}
@@ -103,7 +103,7 @@ switches-same s t ws us (G.AreSwitches.more {s = s₁} {t = s₂} {w} {ws = ws�
 -- the other parts
 
 device-same : (a b : List ℕ) (d e : Option Device) → IsDevice a d → IsDevice b e → bit (isPresent d) ≡ bit (isPresent e) → deviceWord d ≡ deviceWord e
-    → unitOf (keptDevice d) ≡ unitOf (keptDevice e) → keptDevice d ≡ keptDevice e
+    → unitOf d ≡ unitOf e → d ≡ e
 device-same a b d e G.IsDevice.absent G.IsDevice.absent present word unit = refl
 device-same a b d e G.IsDevice.absent (G.IsDevice.device run digits) present word unit = absurd (omega arith)
 device-same a b d e (G.IsDevice.device run digits) G.IsDevice.absent present word unit = absurd (omega arith)
@@ -155,37 +155,29 @@ same-bits a b c d a′ b′ c′ d′ is =
     let hd′ = bit-most d′ in
     record { first = omega arith; second = omega arith; third = omega arith; fourth = omega arith }
 
-kept-present : (d : Option Device) → isPresent (keptDevice d) ≡ isPresent d
-kept-present none = refl
-kept-present (some d) = refl
-
-kept-word : (d : Option Device) → deviceWord (keptDevice d) ≡ deviceWord d
-kept-word none = refl
-kept-word (some d) = refl
-
--- a specification, with the low 8 bits of its numbers
+-- a specification
 
 knownAs : Specification → Known
 knownAs v = record { answer = askingAnswer (A.Given (numbersOf v)); switches = switchNumbers (v .switches) }
 
 specification-same : (s t : List ℕ) (v w : Specification) → IsSpecification s v → IsSpecification t w
-    → knownAs (keptSpecification v) ≡ knownAs (keptSpecification w) → keptSpecification v ≡ keptSpecification w
+    → knownAs v ≡ knownAs w → v ≡ w
 unfolding knownAs numbersOf
 specification-same s t v w
     (G.IsSpecification.specification {a} {b} {e} {d} {f} {u} {ws} is-device is-file is-uic are-switches)
     (G.IsSpecification.specification {a = a′} {b = b′} {e = e′} {d = d′} {f = f′} {u = u′} {ws = ws′} is-device′ is-file′ is-uic′ are-switches′) is =
     let answers = ap (λ (k : Known). k .answer) is in
-    let bits = same-bits (isPresent (keptDevice d)) (isPresent f) (isExtended f) (isPresent (keptUic u))
-    (isPresent (keptDevice d′)) (isPresent f′) (isExtended f′) (isPresent (keptUic u′)) (ap (λ (x : SpecificationAnswer). x .present) answers) in
-    let device : keptDevice d ≡ keptDevice d′ = device-same a a′ d d′ is-device is-device′
-    (ap bit (sym (kept-present d)) ∙ bits .first ∙ ap bit (kept-present d′))
-    (sym (kept-word d) ∙ ap (λ (x : SpecificationAnswer). x .device) answers ∙ kept-word d′)
+    let bits = same-bits (isPresent d) (isPresent f) (isExtended f) (isPresent u)
+    (isPresent d′) (isPresent f′) (isExtended f′) (isPresent u′) (ap (λ (x : SpecificationAnswer). x .present) answers) in
+    let device : d ≡ d′ = device-same a a′ d d′ is-device is-device′
+    (bits .first)
+    (ap (λ (x : SpecificationAnswer). x .device) answers)
     (ap (λ (x : SpecificationAnswer). x .unit) answers) in
     let file : f ≡ f′ = file-same b b′ f f′ is-file is-file′ (bits .second) (bits .third)
     (ap (λ (x : SpecificationAnswer). x .name1) answers)
     (ap (λ (x : SpecificationAnswer). x .name2) answers)
     (ap (λ (x : SpecificationAnswer). x .extension) answers) in
-    let uic : keptUic u ≡ keptUic u′ = uic-same (keptUic u) (keptUic u′) (bits .fourth)
+    let uic : u ≡ u′ = uic-same u u′ (bits .fourth)
     (ap (λ (x : SpecificationAnswer). x .group) answers)
     (ap (λ (x : SpecificationAnswer). x .user) answers) in
     let switches : ws ≡ ws′ = switches-same e e′ ws ws′ are-switches are-switches′ (ap (λ (k : Known). k .switches) is) in
@@ -193,31 +185,31 @@ specification-same s t v w
 
 -- sides, and the whole reading
 
-side-some : (s : List ℕ) (vs : List Specification) → IsSide s vs → knownOf (keptSide vs) ≡ [] → ⊥
+side-some : (s : List ℕ) (vs : List Specification) → IsSide s vs → knownOf vs ≡ [] → ⊥
 unfolding knownOf
 side-some s vs (G.IsSide.one one) is = let z : _≡_ {A = ℕ} 0 1 = cc in omega arith
 side-some s vs (G.IsSide.more one rest) is = let z : _≡_ {A = ℕ} 0 1 = cc in omega arith
 
-side-same : (s t : List ℕ) (vs ws : List Specification) → IsSide s vs → IsSide t ws → knownOf (keptSide vs) ≡ knownOf (keptSide ws)
-    → keptSide vs ≡ keptSide ws
+side-same : (s t : List ℕ) (vs ws : List Specification) → IsSide s vs → IsSide t ws → knownOf vs ≡ knownOf ws
+    → vs ≡ ws
 unfolding knownOf knownAs
 side-same s t vs ws (G.IsSide.one {v} one) (G.IsSide.one {v = w} one′) is =
-    let here : knownAs (keptSpecification v) ≡ knownAs (keptSpecification w) = cc in
+    let here : knownAs v ≡ knownAs w = cc in
     rw (specification-same s t v w one one′ here)
 side-same s t vs ws (G.IsSide.one one) (G.IsSide.more {t = t₁} {vs = ws₁} one′ rest) is =
-    let none-left : knownOf (keptSide ws₁) ≡ [] = cc in
+    let none-left : knownOf ws₁ ≡ [] = cc in
     absurd (side-some t₁ ws₁ rest none-left)
 side-same s t vs ws (G.IsSide.more {t = s₁} {vs = vs₁} one rest) (G.IsSide.one one′) is =
-    let none-left : knownOf (keptSide vs₁) ≡ [] = cc in
+    let none-left : knownOf vs₁ ≡ [] = cc in
     absurd (side-some s₁ vs₁ rest none-left)
 side-same s t vs ws (G.IsSide.more {s = s₁} {t = s₂} {v} {vs = vs₁} one rest) (G.IsSide.more {s = t₁} {t = t₂} {v = w} {vs = ws₁} one′ rest′) is =
-    let here : knownAs (keptSpecification v) ≡ knownAs (keptSpecification w) = cc in
-    let behind : knownOf (keptSide vs₁) ≡ knownOf (keptSide ws₁) = cc in
+    let here : knownAs v ≡ knownAs w = cc in
+    let behind : knownOf vs₁ ≡ knownOf ws₁ = cc in
     rw (specification-same s₁ t₁ v w one one′ here, side-same s₂ t₂ vs₁ ws₁ rest rest′ behind)
 
 command-same : (line other : List ℕ) (said told : Parsed) → Command line said → Command other told
-    → ((side : ℕ) → knownOf (sideOf side (kept said)) ≡ knownOf (sideOf side (kept told))) → kept said ≡ kept told
-unfolding kept sideOf knownOf
+    → ((side : ℕ) → knownOf (sideOf side said) ≡ knownOf (sideOf side told)) → said ≡ told
+unfolding sideOf knownOf
 command-same line other said told (G.Command.output {o} output) (G.Command.output {o = o′} output′) is =
     rw (side-same line other o o′ output output′ (is 0))
 command-same line other said told (G.Command.output output) (G.Command.both {t} {i} output′ input) is =
@@ -229,4 +221,4 @@ command-same line other said told (G.Command.both {s = s₁} {t = s₂} {o} {i} 
 
 pub known-reading : (line other : List ℕ) (r q : Reading) → Reads line r → Reads other q
     → ((side : ℕ) → knownOf (sideOf side r) ≡ knownOf (sideOf side q)) → r ≡ q
-known-reading line other r q (reads {said} says) (reads {said = told} tells) is = command-same line other said told says tells is
+known-reading line other r q (reads {said} says bounded) (reads {said = told} tells bounded′) is = command-same line other said told says tells is

@@ -1,12 +1,12 @@
--- CSI2: its answers, the paper's numbers for each, and what is answered when. "Order: 53, ..; 50; 51, ..; 52, .." is that each case has those
--- before it against it.
+-- CSI2: its answers, the paper's numbers for each, and what is answered when. "Order: 53, ..; 50; 51, ..; 52, ..", "54, .., after 50"
+-- and "51 and 52 follow it" is that each case has those before it against it.
 use Prim.Native.Nat.{ℕ, _≤_, _<_}
 use mathlib.Core.Path.{_≡_}
 use mathlib.Core.List.{List, _++_}
 use mathlib.Core.Option.{Option, none, some}
 use lib.ListN.{length, drop}
 use Rattle.command_grammar.specs.Parsed.{Specification}
-use Rattle.command_grammar.specs.Reading.{Reading, Reads, sideOf, specificationAt}
+use Rattle.command_grammar.specs.Reading.{Reading, Reads, OverBound, sideOf, specificationAt}
 use Rattle.command_grammar.specs.LinePlace.{LinePlace}
 use Rattle.command_parts.specs.Numbers.{numbersOf}
 use Rattle.command.specs.Condensed.{lineLimit}
@@ -15,7 +15,7 @@ use Rattle.command.specs.declared.csi2.SpecificationAnswer.{Specificatio
 use Rattle.command.specs.declared.csi2.Asking.{Asking}
 use Rattle.command.specs.declared.csi2.Asking.the-variants as A
 
--- a refusal: its code, the place with 50, "any other number in the answer 0"
+-- a refusal: its code, the place "with 50 only", "any other number in the answer 0"
 abbrev pub refusal : ℕ → ℕ → SpecificationAnswer
 refusal code place =
     record {
@@ -49,6 +49,7 @@ askingAnswer (A.Given numbers) =
     }
 askingAnswer A.TooLong = refusal 0o53 0
 askingAnswer (A.Wrong place) = refusal 0o50 place
+askingAnswer A.TooLarge = refusal 0o54 0
 askingAnswer A.Missing = refusal 0o51 0
 askingAnswer A.NoRoom = refusal 0o52 0
 
@@ -64,6 +65,8 @@ pub data Csi2 (line : List ℕ) (side k : ℕ) (buffer : List ℕ) : Asking → 
   long : lineLimit < length line → Csi2 line side k buffer A.TooLong buffer
   -- "50"
   wrong : length line ≤ lineLimit → {place : ℕ} → LinePlace line place → Csi2 line side k buffer (A.Wrong place) buffer
+  -- "54, a number over its bound, after 50": in the whole line, whatever side and place are asked for
+  large : length line ≤ lineLimit → OverBound line → Csi2 line side k buffer A.TooLarge buffer
   -- "51, no such side or specification"
   missing : length line ≤ lineLimit → FoundAt line side k none → Csi2 line side k buffer A.Missing buffer
   -- "52, switch buffer too short"

@@ -4,18 +4,18 @@ use mathlib.Core.Path.{_≡_}
 use mathlib.Core.List.{List, _++_}
 use lib.ListN.{length, drop}
 use Rattle.command_grammar.specs.Parsed.{Specification}
-use Rattle.command_grammar.specs.Reading.{keptSpecification}
 use Rattle.command_grammar.specs.Reader.{ok, specification, from}
+use Rattle.command_parts.specs.CappedParts.{cappedSpecification}
 use Rattle.command_parts.specs.Numbers.{numbersOf}
 use Rattle.command_switches.specs.Encoded.{encoded}
 use Rattle.command.specs.declared.csi2.Asking.{Asking}
 use Rattle.command.specs.declared.csi2.Asking.the-variants as A
 
--- "52, switch buffer too short"; else its numbers, with the low 8 bits kept, and the bytes of its switches
+-- "52, switch buffer too short"; else its numbers, as far as 256, and the bytes of its switches
 pub data SpecificationGiven (v : Specification) (buffer : List ℕ) : Asking → List ℕ → Type 0 where
   short : length buffer < length (encoded (v .switches)) → SpecificationGiven v buffer A.NoRoom buffer
   given : length (encoded (v .switches)) ≤ length buffer
-      → SpecificationGiven v buffer (A.Given (numbersOf (keptSpecification v))) (encoded (v .switches) ++ drop (length (encoded (v .switches))) buffer)
+      → SpecificationGiven v buffer (A.Given (numbersOf (cappedSpecification v))) (encoded (v .switches) ++ drop (length (encoded (v .switches))) buffer)
 
 pub record GivenAt (line : List ℕ) (at : ℕ) (buffer : List ℕ) (answer : Asking) (after : List ℕ) : Type 0 where
   pub gives : (v : Specification) (end : ℕ) → from specification line at ≡ ok v end → SpecificationGiven v buffer answer after

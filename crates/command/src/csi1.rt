@@ -1,4 +1,4 @@
-// CSI1: a line is condensed, judged by the grammar, and written into a lent buffer.
+// CSI1: a line is condensed, judged by the grammar and the bounds of its numbers, and written into a lent buffer.
 ghost use mathlib.Core.Path.{_≡_};
 ghost use Prim.Native.Nat.{_≤_};
 ghost use lib.ListN.{length};
@@ -18,12 +18,14 @@ pub enum Condensing {
     TooLong,
     NoRoom,
     Wrong(usize),
+    TooLarge,
 }
 
-// Whether the grammar writes a line; where it does not, the place.
+// Whether the grammar writes a line, and its numbers keep their bounds; where the grammar does not, the place.
 enum Judgement {
     Right,
     Wrong(usize),
+    TooLarge,
 }
 
 // The first specification is asked for; any other would do.
@@ -33,6 +35,7 @@ fn judge(line: &[u8]) -> Judgement
     let located = command_sides::read_line(line, 0, 0);
     match located {
         Located::Refused(place) => Judgement::Wrong(place),
+        Located::TooLarge => Judgement::TooLarge,
         Located::Missing => Judgement::Right,
         Located::At(_) => Judgement::Right,
     }
@@ -46,6 +49,7 @@ fn write_line(line: &[u8], buffer: &mut [u8]) -> Condensing
     let judgement = judge(line);
     match judgement {
         Judgement::Wrong(place) => Condensing::Wrong(place),
+        Judgement::TooLarge => Condensing::TooLarge,
         Judgement::Right => {
             let end = line.len();
             words::fill(&mut buffer[..end], line);
@@ -54,7 +58,8 @@ fn write_line(line: &[u8], buffer: &mut [u8]) -> Condensing
     }
 }
 
-// "Order: 53, raw line over 512 or condensed over 128; 52, buffer shorter than the condensed line; 50, not in the grammar, with the place."
+// "Order: 53, raw line over 512 or condensed over 128; 52, buffer shorter than the condensed line; 50, not in the grammar, with the place." Then
+// "54, a number over its bound".
 pub fn csi1(line: &[u8], buffer: &mut [u8]) -> Condensing
     ensures { λ r. ⌜ Csi1 (now (line .entry)) (now (buffer .entry)) r (now (buffer .exit)) ⌝ }
 {
@@ -92,6 +97,10 @@ pub fn condensing_answer(answer: Condensing) -> Answer
         Condensing::Wrong(place) => Answer {
             code: 0o50,
             number: place,
+        },
+        Condensing::TooLarge => Answer {
+            code: 0o54,
+            number: 0,
         },
     }
 }

@@ -17,6 +17,7 @@ pub enum Asking {
     Given(Numbers),
     TooLong,
     Wrong(usize),
+    TooLarge,
     Missing,
     NoRoom,
 }
@@ -53,7 +54,8 @@ fn give(line: &[u8], c: Cursor, buffer: &mut [u8]) -> Asking
     Asking::Given(numbers)
 }
 
-// "Order: 53, over 128; 50; 51, no such side or specification; 52, switch buffer too short."
+// "Order: 53, over 128; 50; 51, no such side or specification; 52, switch buffer too short.", and "54, a number over its bound, after 50", which "51 and
+// 52 follow": in the whole line, whatever side and place are asked for.
 pub fn csi2(line: &[u8], side: usize, k: usize, buffer: &mut [u8]) -> Asking
     ensures { λ r. ⌜ Csi2 (now (line .entry)) side k (now (buffer .entry)) r (now (buffer .exit)) ⌝ }
 {
@@ -63,6 +65,7 @@ pub fn csi2(line: &[u8], side: usize, k: usize, buffer: &mut [u8]) -> Asking
     let located = command_sides::read_line(line, side, k);
     match located {
         Located::Refused(place) => Asking::Wrong(place),
+        Located::TooLarge => Asking::TooLarge,
         Located::Missing => Asking::Missing,
         Located::At(start) => give(line, start, buffer),
     }
@@ -111,6 +114,7 @@ pub fn asking_answer(answer: Asking) -> SpecificationAnswer
         Asking::Given(numbers) => given(numbers),
         Asking::TooLong => refused(0o53, 0),
         Asking::Wrong(place) => refused(0o50, place),
+        Asking::TooLarge => refused(0o54, 0),
         Asking::Missing => refused(0o51, 0),
         Asking::NoRoom => refused(0o52, 0),
     }

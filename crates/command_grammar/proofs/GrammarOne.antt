@@ -7,7 +7,7 @@ use mathlib.Core.List.{List}
 use Rattle.command_grammar.specs.Parsed.{Parsed}
 use Rattle.command_grammar.specs.Grammar.{Command}
 use Rattle.command_grammar.specs.Bounded.{Bounded}
-use Rattle.command_grammar.specs.Reading.{Reading, Reads, reads, OverBound, over}
+use Rattle.command_grammar.specs.Reading.{Reading, Reads, reads, OverBound, exceeds}
 use Rattle.command_grammar.specs.LinePlace.{Wrong, LinePlace}
 use Rattle.command_grammar.proofs.ReaderLines.{one-saying, read-or-placed}
 use Rattle.command_grammar.proofs.Keeps.{bounded-or-not}
@@ -34,17 +34,17 @@ over-iff line = (one line, other)
     read line said reading x not (reads y bounded) = not (subst Bounded (one-saying line reading said y x) bounded)
 
     one : (line : List ℕ) → OverBound line → ((said : Parsed) × Command line said) × ((reading : Reading) → Reads line reading → ⊥)
-    one line (over {said} x not) = ((said, x), λ reading has. read line said reading x not has)
+    one line (exceeds {said} x not) = ((said, x), λ reading has. read line said reading x not has)
 
     other : ((said : Parsed) × Command line said) × ((reading : Reading) → Reads line reading → ⊥) → OverBound line
-    other has = over (has .0 .1) (λ bounded. has .1 (has .0 .0) (reads (has .0 .1) bounded))
+    other has = exceeds (has .0 .1) (λ bounded. has .1 (has .0 .0) (reads (has .0 .1) bounded))
 
 pub over-not-read : (line : List ℕ) (reading : Reading) → OverBound line → Reads line reading → ⊥
 over-not-read line reading large read = over-iff line .0 large .1 reading read
 
 pub over-right : (line : List ℕ) → OverBound line → Wrong line → ⊥
 unfolding Wrong
-over-right line (over {said} says not) wrong = wrong said says
+over-right line (exceeds {said} says not) wrong = wrong said says
 
 -- any line has a reading, or a number over its bound, or a place
 pub read-large-or-placed : (line : List ℕ) → ((reading : Reading) × Reads line reading) ⊎ (OverBound line ⊎ ((p : ℕ) × LinePlace line p))
@@ -52,7 +52,7 @@ read-large-or-placed line = by (read-or-placed line)
   where
     judged : (said : Parsed) → Command line said → Bounded said ⊎ (Bounded said → ⊥) → ((reading : Reading) × Reads line reading) ⊎ (OverBound line ⊎ ((p : ℕ) × LinePlace line p))
     judged said says (inl bounded) = inl (said, reads says bounded)
-    judged said says (inr not) = inr (inl (over says not))
+    judged said says (inr not) = inr (inl (exceeds says not))
 
     by : ((said : Parsed) × Command line said) ⊎ ((p : ℕ) × LinePlace line p) → ((reading : Reading) × Reads line reading) ⊎ (OverBound line ⊎ ((p : ℕ) × LinePlace line p))
     by (inl says) = judged (says .0) (says .1) (bounded-or-not (says .0))

@@ -18,7 +18,7 @@ pub data Reads : List ℕ → Reading → Type 0 where
 
 -- "54, a number over its bound": the grammar writes the line, and its numbers do not keep the bounds
 pub data OverBound : List ℕ → Type 0 where
-  over : {line : List ℕ} {said : Parsed} → Command line said → (Bounded said → ⊥) → OverBound line
+  exceeds : {line : List ℕ} {said : Parsed} → Command line said → (Bounded said → ⊥) → OverBound line
 
 -- "a line with no `<` has no input side"
 abbrev pub inputOf : Option (List Specification) → List Specification

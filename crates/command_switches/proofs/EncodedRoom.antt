@@ -14,7 +14,6 @@ use Rattle.command_grammar.specs.Grammar as G
 use Rattle.command_grammar.specs.Reading.{Reading, Reads, reads, inputOf, sideOf, specificationAt}
 use Rattle.command_switches.specs.Encoded.{encoded}
 use Rattle.command_switches.proofs.EncodedLength.{encoded-length}
-use Rattle.command_grammar.proofs.ReadingKept.{kept-from}
 
 values-short : (s : List ℕ) (vs : List (List ℕ)) → AreValues s vs → 2 * length vs ≤ length s
 values-short s vs G.AreValues.end = omega arith
@@ -86,6 +85,4 @@ said-short line said (G.Command.both {s = a} {t = b} {o} {i} output input) side 
 
 pub switches-within : (line : List ℕ) (reading : Reading) → Reads line reading → (side k : ℕ) (v : Specification)
     → specificationAt k (sideOf side reading) ≡ some v → length (encoded (v .switches)) ≤ 3 * length line
-switches-within line reading (reads {said} says) side k v is =
-    let w = kept-from side k said v is in
-    omega (arith, said-short line said says side k (w .0) (w .1), ap (λ (u : Specification). length (encoded (u .switches))) (w .2))
+switches-within line reading (reads {said} says bounded) side k v is = said-short line said says side k v is

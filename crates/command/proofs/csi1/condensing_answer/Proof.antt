@@ -17,6 +17,9 @@ enum-told-2 c = search needs
 enum-known-answer-2 : tie.Need-enum-known-answer-2
 enum-known-answer-2 c = search needs
 
+enum-told-3 : tie.Need-enum-told-3
+enum-told-3 c = search needs
+
 returns : tie.Need-returns
 returns c = sym (ap condensingAnswer (c .before .answer .given .1))
 
@@ -29,6 +32,9 @@ returns-3 c = sym (ap condensingAnswer (c .enum-told2 .given .1))
 returns-4 : tie.Need-returns-4
 returns-4 c = sym (ap condensingAnswer (c .before .answer2 .given .1))
 
+returns-5 : tie.Need-returns-5
+returns-5 c = sym (ap condensingAnswer (c .enum-told3 .given .1))
+
 pub condensing-answer-spec : {M : Type 1} → statement M
 condensing-answer-spec =
     tie.close
@@ -37,7 +43,9 @@ condensing-answer-spec =
     enum-told
     enum-told-2
     enum-known-answer-2
+    enum-told-3
     returns
     returns-2
     returns-3
-    returns-4)
+    returns-4
+    returns-5)

@@ -2,7 +2,7 @@
 use mathlib.Core.Path.{sym}
 use borrow.Author.Needs.{needs}
 use lib.Seq.{length-take-le}
-use Rattle.command.proofs.Csi1Stage.{written-wrong, written-right}
+use Rattle.command.proofs.Csi1Stage.{written-wrong, written-large, written-right}
 use Rattle.command.proofs.csi1.write_line.Statement.{statement}
 use Rattle.command.proofs.csi1.write_line.Tie as tie
 
@@ -14,6 +14,9 @@ enum-known-judgement c = search needs
 
 enum-told : tie.Need-enum-told
 enum-told c = search needs
+
+enum-told-2 : tie.Need-enum-told-2
+enum-told-2 c = search needs
 
 slice-relend-prefix-fill : tie.Need-slice-relend-prefix-fill
 slice-relend-prefix-fill c = search needs
@@ -27,11 +30,14 @@ fill-requires c κs = length-take-le _ _ (c .before .before .before .before .bef
 returns : tie.Need-returns
 returns c = written-wrong _ (c .before .before .before .judge .ensures) (c .before .judgement .given .1)
 
+returns-2 : tie.Need-returns-2
+returns-2 c = written-large _ (c .before .before .judge .ensures) (c .enum-told .given .1)
+
 same-length : tie.Need-same-length
 same-length c = search needs
 
-returns-2 : tie.Need-returns-2
-returns-2 c = written-right _ (c .before .before .before .before .before .before .judge .ensures) (c .before .before .before .before .enum-told .given .1) (c .before .before .fill .ensures)
+returns-3 : tie.Need-returns-3
+returns-3 c = written-right _ (c .before .before .before .before .before .before .judge .ensures) (c .before .before .before .before .enum-told2 .given .1) (c .before .before .fill .ensures)
 
 pub write-line-spec : {M : Type 1} → statement M
 write-line-spec =
@@ -40,9 +46,11 @@ write-line-spec =
     judge-requires
     enum-known-judgement
     enum-told
+    enum-told-2
     slice-relend-prefix-fill
     slice-aggregate-fill
     fill-requires
     returns
+    returns-2
     same-length
-    returns-2)
+    returns-3)

@@ -35,6 +35,12 @@ enum-told-3 c = search needs
 refused-requires-4 : tie.Need-refused-requires-4
 refused-requires-4 c κs = search needs
 
+enum-told-4 : tie.Need-enum-told-4
+enum-told-4 c = search needs
+
+refused-requires-5 : tie.Need-refused-requires-5
+refused-requires-5 c κs = search needs
+
 returns : tie.Need-returns
 returns c = c .given .ensures ∙ sym (ap askingAnswer (c .before .before .answer .given .1))
 
@@ -50,6 +56,9 @@ returns-4 c = c .refused3 .ensures ∙ sym (ap askingAnswer (c .before .enum-tol
 returns-5 : tie.Need-returns-5
 returns-5 c = c .refused4 .ensures ∙ sym (ap askingAnswer (c .before .enum-told3 .given .1))
 
+returns-6 : tie.Need-returns-6
+returns-6 c = c .refused5 .ensures ∙ sym (ap askingAnswer (c .before .enum-told4 .given .1))
+
 pub asking-answer-spec : {M : Type 1} → statement M
 asking-answer-spec =
     tie.close
@@ -64,8 +73,11 @@ asking-answer-spec =
     refused-requires-3
     enum-told-3
     refused-requires-4
+    enum-told-4
+    refused-requires-5
     returns
     returns-2
     returns-3
     returns-4
-    returns-5)
+    returns-5
+    returns-6)
