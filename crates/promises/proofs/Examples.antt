@@ -2,6 +2,7 @@
 use Prim.Native.Nat.{ℕ}
 use mathlib.Core.Path.{_≡_, refl, sym, _∙_}
 use mathlib.Core.Bool.{Bool, true, false}
+use mathlib.Core.List.{List}
 use native.Mathlib.Omega.{arith}
 use Rattle.answers.proofs.Conversion.{characters-60, characters-given}
 use Rattle.answers.specs.Refusals.{firstOf, onSuccess, answered}
@@ -19,11 +20,14 @@ use Rattle.asking.specs.RightsTest.{may, inField}
 use Rattle.asking.specs.Rights.{May}
 use Rattle.asking.proofs.Rights.{may-iff}
 use Rattle.command_cursor.specs.FilledWord.{filledWord}
-use Rattle.command_grammar.specs.Reading.{reads, kept, sideOf, specificationAt}
-use Rattle.command_grammar.specs.Reader.{readLine}
+use Rattle.command_grammar.specs.Parsed.{Parsed}
+use Rattle.command_grammar.specs.Reading.{Reads, reads, OverBound, exceeds, sideOf, specificationAt}
+use Rattle.command_grammar.specs.Keeps.{lineKeeps}
+use Rattle.command_grammar.specs.Reader.{ok, readLine}
+use Rattle.command_grammar.proofs.Keeps.{keeps-bounded, not-bounded}
 use Rattle.command_grammar.proofs.ReaderLines.{said-by, placed-by}
 use Rattle.command_parts.specs.Numbers.{numbersOf}
-use Rattle.promises.specs.Examples.{Examples, gives}
+use Rattle.promises.specs.Examples.{Examples, BoundExamples, gives}
 
 -- what the test denies nobody may do
 denied : (right : Right) (caller uic protect : ℕ) → may right caller uic protect ≡ false → May caller uic protect right → ⊥
@@ -32,8 +36,15 @@ denied right caller uic protect fails allowed =
     let z : _≡_ {A = ℕ} 0 1 = cc in
     omega arith
 
+-- a line is computed: what the reader gives is its reading if the numbers keep the bounds, and else a number is over its bound
+read-by : (line : List ℕ) (said : Parsed) (n : ℕ) → readLine line ≡ ok said n → lineKeeps said ≡ true → Reads line said
+read-by line said n is keeps = reads (said-by line said n is) (keeps-bounded said keeps)
+
+large-by : (line : List ℕ) (said : Parsed) (n : ℕ) → readLine line ≡ ok said n → lineKeeps said ≡ false → OverBound line
+large-by line said n is fails = exceeds (said-by line said n is) (not-bounded said fails)
+
 pub examples : Examples
-unfolding radpk radup d2bin bin2d o2bin bin2o toNumber conversionRows answered onSuccess firstOf wordOf charactersOf codeOf characterOf table numberOf valueOf digitsOf readLine
+unfolding radpk radup d2bin bin2d o2bin bin2o toNumber conversionRows answered onSuccess firstOf wordOf charactersOf codeOf characterOf table numberOf valueOf digitsOf readLine lineKeeps
 examples =
     record {
       p1 = (
@@ -53,12 +64,28 @@ examples =
         record { forth = refl; back = λ buffer same. characters-given 6 (digitsOf 8 6) 0o177777 buffer same refl },
         (refl, λ buffer same. characters-60 6 (digitsOf 8 6) 0o200000 buffer same refl),
       );
-      p6 = unfold kept in reads (said-by _ _ _ refl);
-      p7 = unfold kept in reads (said-by _ _ _ refl);
-      p8 = unfold sideOf specificationAt kept numbersOf filledWord in (gives (reads (said-by _ _ _ refl)) refl);
+      p6 = read-by _ _ _ refl refl;
+      p7 = read-by _ _ _ refl refl;
+      p8 = unfold sideOf specificationAt numbersOf filledWord in (gives (read-by _ _ _ refl refl) refl);
       p9 = placed-by _ _ refl;
       p10 = placed-by _ _ refl;
       p11 = placed-by _ _ refl;
       p12 = placed-by _ _ refl;
       p13 = (may-iff Read _ _ 3 .0 (unfold may inField in refl), denied Write _ _ 3 (unfold may inField in refl));
+    }
+
+pub bound-examples : BoundExamples
+unfolding valueOf readLine lineKeeps wordOf codeOf table
+bound-examples =
+    record {
+      unit401 = large-by _ _ _ refl refl;
+      unit7 = read-by _ _ _ refl refl;
+      unit10 = large-by _ _ _ refl refl;
+      uic377 = read-by _ _ _ refl refl;
+      group400 = large-by _ _ _ refl refl;
+      user400 = large-by _ _ _ refl refl;
+      inputSide = large-by _ _ _ refl refl;
+      faultBehind = placed-by _ _ refl;
+      many7 = large-by _ _ _ refl refl;
+      zeros7 = unfold sideOf specificationAt numbersOf filledWord in (gives (read-by _ _ _ refl refl) refl);
     }

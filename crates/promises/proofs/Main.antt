@@ -57,10 +57,11 @@ use Rattle.adding.specs.LinkedAdd.{linkedAdd}
 use Rattle.lines.specs.LineWriting.{lineWrite, lineEnd}
 use Rattle.command_grammar.specs.Parsed.{Parsed}
 use Rattle.command_grammar.specs.Grammar.{Command}
-use Rattle.command_grammar.specs.Reading.{Reading, Reads, sideOf}
+use Rattle.command_grammar.specs.Bounded.{Bounded}
+use Rattle.command_grammar.specs.Reading.{Reading, Reads, OverBound, sideOf}
 use Rattle.command_grammar.specs.LinePlace.{Viable, LinePlace}
 use Rattle.command.specs.declared.csi2.SpecificationAnswer.{SpecificationAnswer}
-use Rattle.command.specs.Condensed.{condensed, TooLong}
+use Rattle.command.specs.Condensed.{condensed, lineLimit, TooLong}
 use Rattle.command.specs.Csi1.{Csi1Answered}
 use Rattle.command.specs.Csi2.{refusal, Csi2Answered}
 use Rattle.command.specs.Known.{Known, knownOf, AskedFrom}
@@ -83,7 +84,7 @@ use Rattle.promises.specs.AddedAgain.{openedImage}
 use Rattle.promises.specs.AllocZeros.{allocatedImage, readableImage, zeroBlock}
 use Rattle.promises.specs.Refused.{NotRadix, NotWord, TooLarge, NotNumeral}
 use Rattle.promises.specs.Conversions.{NumberDemands, CharactersDemands, InverseDemands}
-use Rattle.promises.specs.Examples.{Examples}
+use Rattle.promises.specs.Examples.{Examples, BoundExamples}
 use Rattle.promises.proofs.Examples as Shown
 use Rattle.opening.specs.declared.Opening.the-variants.{Input}
 use Rattle.opening.specs.Open.{opened}
@@ -337,14 +338,32 @@ pub octal-inverse : InverseDemands 6 o2bin bin2o
 octal-inverse = ConversionsDemands.octal-inverse
 
 -- 3.1 "For any command line within the length limits, with room lent for the result, the line is accepted exactly when the grammar writes it
--- with blanks and fill characters removed."
+-- with blanks and fill characters removed", and, of document 02, "Demand 3 accepts exactly the lines of the grammar whose numbers keep these bounds"
 pub line-accepted : (line buffer : List ℕ) (answer : Answer) (after : List ℕ) → (TooLong line → ⊥) → length (condensed line) ≤ length buffer
     → Csi1Answered line buffer answer after → answer .code ≡ 0 ↔ ((reading : Reading) × Reads (condensed line) reading)
 line-accepted = Commands.line-accepted
 
--- it has a reading exactly when the grammar writes it
-pub line-written : (line : List ℕ) → ((reading : Reading) × Reads line reading) ↔ ((said : Parsed) × Command line said)
+-- it has a reading exactly when the grammar writes it and its numbers keep the bounds
+pub line-written : (line : List ℕ) → ((reading : Reading) × Reads line reading) ↔ ((said : Parsed) × Command line said × Bounded said)
 line-written = Commands.line-written
+
+-- "54, a number over its bound": by CSI1, and by CSI2 in the whole line, whatever side and place are asked for
+pub line-large : (line buffer : List ℕ) (answer : Answer) (after : List ℕ) → (TooLong line → ⊥) → length (condensed line) ≤ length buffer
+    → Csi1Answered line buffer answer after → answer .code ≡ 0o54 ↔ OverBound (condensed line)
+line-large = Commands.line-large
+
+pub csi2-large : (line : List ℕ) (side k : ℕ) (buffer : List ℕ) (answer : SpecificationAnswer) (after : List ℕ) → length line ≤ lineLimit
+    → Csi2Answered line side k buffer answer after → answer .code ≡ 0o54 ↔ OverBound line
+csi2-large = CommandCodes.csi2-large-iff
+
+-- that is a line which the grammar writes and which has no reading
+pub large-unread : (line : List ℕ) → OverBound line ↔ (((said : Parsed) × Command line said) × ((reading : Reading) → Reads line reading → ⊥))
+large-unread = Commands.large-unread
+
+-- a line is accepted, or refused with 54 or with 50: one of the three always
+pub line-judged : (line buffer : List ℕ) (answer : Answer) (after : List ℕ) → (TooLong line → ⊥) → length (condensed line) ≤ length buffer
+    → Csi1Answered line buffer answer after → (answer .code ≡ 0) ⊎ ((answer .code ≡ 0o54) ⊎ (answer .code ≡ 0o50))
+line-judged = Commands.line-judged
 
 -- 3.2 "No line has two readings."
 pub line-reading : (line : List ℕ) (a b : Reading) → Reads line a → Reads line b → a ≡ b
@@ -373,7 +392,7 @@ pub known-reading : (line other : List ℕ) (r q : Reading) → Reads line r →
 known-reading = KnownReading.known-reading
 
 -- 3.4 "A refused line is answered with the place, in what remains, of the first character with which no command could go on, or with its end if
--- it only stops too soon."
+-- it only stops too soon": with 50, for "the place is still that of document 01 and is given with 50 only"; `csi1-kept` and `csi2-kept` have the others.
 pub line-refused : (line buffer : List ℕ) (answer : Answer) (after : List ℕ) → (TooLong line → ⊥) → length (condensed line) ≤ length buffer
     → Csi1Answered line buffer answer after → answer .code ≡ 0o50 ↔ LinePlace (condensed line) (answer .number)
 line-refused = Commands.line-refused
@@ -392,3 +411,7 @@ csi2-place = CommandCodes.csi2-place
 -- P1 to P13, "a single tabulated statement"
 pub examples : Examples
 examples = Shown.examples
+
+-- and those of the bounds
+pub bound-examples : BoundExamples
+bound-examples = Shown.bound-examples

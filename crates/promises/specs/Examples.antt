@@ -3,9 +3,9 @@ use Prim.Native.Nat.{ℕ, _+_, _*_}
 use Prim.Native.String.{String}
 use mathlib.Core.Path.{_≡_}
 use mathlib.Core.Bool.{true, false}
-use mathlib.Core.List.{List, [], _∷_}
+use mathlib.Core.List.{List, [], _∷_, _++_}
 use mathlib.Core.Option.{none, some}
-use lib.ListN.{length}
+use lib.ListN.{length, replicate}
 use Rattle.answers.specs.declared.Answer.{Answer}
 use Rattle.answers.specs.Conversion.{Converted}
 use Rattle.radix.specs.Radpk.{radpk}
@@ -16,7 +16,7 @@ use Rattle.words.specs.Text.{bytes}
 use Rattle.asking.specs.declared.Right.the-variants.{Read, Write}
 use Rattle.asking.specs.Rights.{May}
 use Rattle.command_grammar.specs.Parsed.{Specification}
-use Rattle.command_grammar.specs.Reading.{Reading, Reads, sideOf, specificationAt}
+use Rattle.command_grammar.specs.Reading.{Reading, Reads, OverBound, sideOf, specificationAt}
 use Rattle.command_grammar.specs.LinePlace.{LinePlace}
 use Rattle.command_parts.specs.declared.Numbers.{Numbers}
 use Rattle.command_parts.specs.Numbers.{numbersOf}
@@ -69,3 +69,25 @@ pub record Examples : Type 0 where
   pub p12 : LinePlace (bytes "/S:") 3
   -- P13 protect 3, owner [23,10]: [12,4] may read, not write.
   pub p13 : May (uicWord 0o12 0o4) (uicWord 0o23 0o10) 3 Read × (May (uicWord 0o12 0o4) (uicWord 0o23 0o10) 3 Write → ⊥)
+
+-- a device DT with so many digits of a kind, and what follows them; a digit has the ASCII number 48 + its value
+abbrev pub deviceWith : ℕ → ℕ → String → List ℕ
+deviceWith count digit rest = bytes "DT" ++ (replicate count (48 + digit) ++ bytes rest)
+
+-- what §3 of document 02 says of them: "A unit must be at most 7, a group and a user at most 377 octal, leading zeros allowed"
+pub record BoundExamples : Type 0 where
+  -- "An operator typed unit 401"
+  pub unit401 : OverBound (bytes "DT401:")
+  -- each bound at its value, and one over
+  pub unit7 : Reads (bytes "DT7:") (record { output = record { device = some (record { letters = bytes "DT"; unit = 7 }); file = none; uic = none; switches = [] } ∷ []; input = none })
+  pub unit10 : OverBound (bytes "DT10:")
+  pub uic377 : Reads (bytes "[377,377]") (record { output = record { device = none; file = none; uic = some (record { group = 0o377; user = 0o377 }); switches = [] } ∷ []; input = none })
+  pub group400 : OverBound (bytes "[400,1]")
+  pub user400 : OverBound (bytes "[1,400]")
+  -- wherever in the line the number stands, and a grammar fault behind it comes first
+  pub inputSide : OverBound (bytes "A,B<C,DT10:")
+  pub faultBehind : LinePlace (bytes "DT10:A<B<C") 8
+  -- digits of any number: 120 times 7, and 100 zeros and a 7
+  pub many7 : OverBound (deviceWith 120 7 ":")
+  pub zeros7 : Gives (deviceWith 100 0 "7:") 0 0
+      (record { present = 1; device = 7200; unit = 7; name1 = 0; name2 = 0; extension = 0; group = 0; user = 0; switches = 0 })
