@@ -57,7 +57,8 @@ enum {
     ABZ_GRAMMAR          = 050, /* the command line is not of the grammar, as told under Command lines */
     ABZ_NO_SPECIFICATION = 051, /* the command line has no such side, or no such specification there */
     ABZ_SHORT_BUFFER     = 052, /* the buffer is too short for what is to be written */
-    ABZ_LONG_LINE        = 053  /* the command line is too long */
+    ABZ_LONG_LINE        = 053, /* the command line is too long */
+    ABZ_NUMBER           = 054  /* a unit, group or user of the command line is over its bound */
 };
 
 typedef struct {
@@ -580,8 +581,8 @@ size_t abz_line_end(uint8_t *image, size_t image_len, size_t caller,
  * Command lines
  *
  * A command line says which files are for output and, behind <, which are for input. abz_csi1 makes a condensed line of
- * what an operator typed, if it is of the grammar. abz_csi2 takes a condensed line and gives one file specification of
- * it: a host asks for those at place 0, 1, 2 and so on of a side until there is none.
+ * what an operator typed, if it is of the grammar and its numbers keep their bounds. abz_csi2 takes a condensed line and
+ * gives one file specification of it: a host asks for those at place 0, 1, 2 and so on of a side until there is none.
  *
  * The grammar, where a letter is one of A to Z, a digit one of 0 to 9, and an octal digit one of 0 to 7:
  *
@@ -606,6 +607,11 @@ size_t abz_line_end(uint8_t *image, size_t image_len, size_t caller,
  * The place of a fault is that of the first character, counted from 0, with which no line of the grammar could go on,
  * however long lines may be; or the length of the line if it only stops too soon. So it is 3 in A<B<C, 6 in ABCDEFG,
  * 3 in /S: and 0 in .DAT.
+ *
+ * The bounds: a unit is at most 7, a group and a user at most 377, in octal as they stand in the line. Digits may be any
+ * number, and leading zeros are allowed: DT007: is unit 7, and DT10: is over the bound. All numbers of a line are looked
+ * at, on both sides, but only behind its grammar: DT8: and DT10:<< are not of the grammar, and have a place. A number
+ * over its bound has none.
  */
 
 /*
@@ -615,7 +621,8 @@ size_t abz_line_end(uint8_t *image, size_t image_len, size_t caller,
  *   ABZ_LONG_LINE     line_len is above 512, or the condensed line has more than 128 bytes;
  *   ABZ_SHORT_BUFFER  condensed_len is less than the condensed line has;
  *   ABZ_GRAMMAR       the condensed line is not of the grammar; number is the place of the fault in the condensed line,
- *                     which is not written.
+ *                     which is not written;
+ *   ABZ_NUMBER        it is of the grammar, and one of its numbers is over its bound.
  * A short buffer hides a fault: a host that wants the place lends 128 bytes, which are enough for every line.
  */
 abz_answer abz_csi1(const uint8_t *line, size_t line_len, uint8_t *condensed, size_t condensed_len);
@@ -646,9 +653,9 @@ typedef struct {
 
 /*
  * CSI2: gives the specification at place k, counted from 0, of a side of a condensed line. The members of a part that
- * it does not have are 0. Unit, group and user are octal in the line, and of each the low 8 bits are given, however many
- * digits it has; so 256 * group + user is a uic for the calls on files, where 0 means the caller's: ABZ_HAS_UIC tells
- * whether one was written. line_len is the number that CSI1 gave, not the length of the buffer it was lent.
+ * it does not have are 0. Unit, group and user are octal in the line and keep their bounds; so 256 * group + user is a
+ * uic for the calls on files, where 0 means the caller's: ABZ_HAS_UIC tells whether one was written. line_len is the
+ * number that CSI1 gave, not the length of the buffer it was lent.
  *
  * The switches are written to the start of the slice of that name, in the order in which they stand in the line, and
  * the bytes behind stay. A switch is words of two bytes, low byte first:
@@ -662,6 +669,7 @@ typedef struct {
  *   ABZ_LONG_LINE         line_len is above 128;
  *   ABZ_GRAMMAR           the line is not of the grammar, whatever side and k are; place is that of the fault. Nothing
  *                         is dropped here, so that a blank, TAB, NUL or RUBOUT is a fault;
+ *   ABZ_NUMBER            it is of the grammar, and one of its numbers is over its bound, whatever side and k are;
  *   ABZ_NO_SPECIFICATION  side is neither 0 nor 1; or it is 1, and there is no < in the line; or the side has no
  *                         specification at place k;
  *   ABZ_SHORT_BUFFER      switches_len is less than the switches take.

@@ -62,8 +62,9 @@ static const command commands[] = {
       "are ASCII without NUL and RUBOUT; the last gets a LINE FEED unless it\n"
       "ends with that, a VERTICAL TAB or a FORM FEED." },
     { "read", "LINE", 1, 1, command_read,
-      "how a command line is understood, or where it goes wrong. Put LINE\n"
-      "into quotes, for the shell has a use of its own for <." },
+      "how a command line is understood, or where it goes wrong, or which of\n"
+      "its numbers are over their bounds. Put LINE into quotes, for the shell\n"
+      "has a use of its own for <." },
 };
 
 enum { COMMANDS = sizeof commands / sizeof *commands };

@@ -21,13 +21,88 @@ static bool is_dropped(char character)
     return character == ' ' || character == '\t' || character == 127;
 }
 
-/* The place counts what is left of the line, which a refusal does not write; so it is made here. */
-static void show_place(const char *line, size_t place)
+/* What is left of the line: a refusal does not write it, so it is made here. It is short, for else the line is too long. */
+static size_t condense(const char *line, char *condensed)
 {
+    size_t length = 0;
+
     for (; *line; line++)
         if (!is_dropped(*line))
-            putchar(*line >= ' ' && *line <= '~' ? *line : '?'); /* one column each, so that the mark stands right */
+            condensed[length++] = *line;
+    return length;
+}
+
+/* The place counts what is left of the line. */
+static void show_place(const char *line, size_t length, size_t place)
+{
+    for (size_t i = 0; i < length; i++)
+        putchar(line[i] >= ' ' && line[i] <= '~' ? line[i] : '?'); /* one column each, so that the mark stands right */
     printf("\n%*s^\n", (int)place, "");
+}
+
+/* ---- A command with a number over its bound ---- */
+
+enum { UNIT_MOST = 7, UIC_MOST = 0377 };
+
+/* What stands from here up to the end of the line, one of its sides, and a place there. */
+typedef struct {
+    const char *line, *end;
+    size_t side, place;
+} stretch;
+
+/* Passes over the octal digits here, and says which number they are if it is over its bound. */
+static void tell_number(stretch *at, const char *kind, size_t bound)
+{
+    const char *digits = at->line;
+    bool over = false;
+
+    for (size_t value = 0; at->line < at->end && *at->line >= '0' && *at->line <= '7'; at->line++) {
+        value = 8 * value + (size_t)(*at->line - '0');
+        over |= value > bound;
+        if (over)
+            value = 0; /* it is known, and the digits may be any number */
+    }
+    if (over)
+        printf("%s %zu: %s %.*s is over %zo\n", side_names[at->side], at->place, kind, (int)(at->line - digits), digits,
+               bound);
+}
+
+/* Two or three letters, digits and a colon are a device; any other beginning of a specification is none. */
+static void tell_unit(stretch *at)
+{
+    const char *here = at->line;
+
+    while (here < at->end && here < at->line + 3 && *here >= 'A' && *here <= 'Z')
+        here++;
+    if (here < at->line + 2)
+        return;
+    const size_t letters = (size_t)(here - at->line);
+    while (here < at->end && *here >= '0' && *here <= '7')
+        here++;
+    if (here == at->end || *here != ':')
+        return;
+    at->line += letters;
+    tell_number(at, "unit", UNIT_MOST);
+}
+
+/* The line is of the grammar: a bracket has a group, a comma and a user behind it. */
+static void tell_numbers(const char *line, size_t length)
+{
+    stretch at = { line, line + length, ABZ_OUTPUT_SIDE, 0 };
+
+    tell_unit(&at);
+    while (at.line < at.end) {
+        const char character = *at.line++;
+        if (character == '[') {
+            tell_number(&at, "group", UIC_MOST);
+            at.line++;
+            tell_number(&at, "user", UIC_MOST);
+        } else if (character == ',' || character == '<') {
+            at.side = character == '<' ? ABZ_INPUT_SIDE : at.side;
+            at.place = character == '<' ? 0 : at.place + 1;
+            tell_unit(&at);
+        }
+    }
 }
 
 /* ---- A specification ---- */
@@ -119,8 +194,13 @@ int command_read(char **arguments)
         code = show_side(condensed, answer.number, ABZ_OUTPUT_SIDE);
         if (code == ABZ_OK)
             code = show_side(condensed, answer.number, ABZ_INPUT_SIDE);
-    } else if (code == ABZ_GRAMMAR) {
-        show_place(line, answer.number);
+    } else if (code == ABZ_GRAMMAR || code == ABZ_NUMBER) {
+        char left[CONDENSED_MOST];
+        size_t length = condense(line, left);
+        if (code == ABZ_GRAMMAR)
+            show_place(left, length, answer.number);
+        else
+            tell_numbers(left, length);
     }
     if (code != ABZ_OK)
         return tell_refusal("read", code);

@@ -68,6 +68,7 @@ static const cause causes[] = {
     { ABZ_NO_SPECIFICATION, NULL, "the line has no such side or specification" },
     { ABZ_SHORT_BUFFER, NULL, "the buffer is too short" },
     { ABZ_LONG_LINE, NULL, "the line is longer than 512 characters, or than 128 without its blanks" },
+    { ABZ_NUMBER, NULL, "a number is over its bound: a unit is at most 7, a group and a user at most 377" },
     { ABZ_CONVERSION, NULL, "what is to be converted is not of its set, or too large" },
 };
 

@@ -133,7 +133,8 @@ static void try_all(const char *name, const uint8_t *line, size_t length)
 
     for (size_t side = 0; side < 3; side++)
         for (size_t k = 0, code = 0; code == 0; k++) {
-            const bool there = length <= LINE_MOST && it->judged.of_grammar && side < 2 && k < it->count[side];
+            const bool there =
+                length <= LINE_MOST && it->judged.of_grammar && !it->over && side < 2 && k < it->count[side];
             const size_t need = there ? 2 * it->at[side][k].word_count : 0;
             const size_t switch_rooms[] = { 0, need - 1, need + 1, SWITCH_BYTES, need };
             for (size_t i = 0; i < COUNT(switch_rooms); i++)
@@ -167,7 +168,7 @@ static void header_numbers(void)
     } numbers[] = {
         { ABZ_GRAMMAR, 40 },      { ABZ_NO_SPECIFICATION, 41 }, { ABZ_SHORT_BUFFER, 42 }, { ABZ_LONG_LINE, 43 },
         { ABZ_OUTPUT_SIDE, 0 },   { ABZ_INPUT_SIDE, 1 },        { ABZ_HAS_DEVICE, 1 },    { ABZ_HAS_NAME, 2 },
-        { ABZ_HAS_EXTENSION, 4 }, { ABZ_HAS_UIC, 8 },
+        { ABZ_HAS_EXTENSION, 4 }, { ABZ_HAS_UIC, 8 },           { ABZ_NUMBER, 44 },
     };
 
     for (size_t i = 0; i < COUNT(numbers); i++)
@@ -215,6 +216,19 @@ static void condensing_examples(void)
         { "A<B<C", 5, 5, 050, 3, "------" },
         { "A<B<C", 5, 4, 052, 0, "------" },
         { ".DAT", 4, 0, 052, 0, "------" },
+
+        /* Each bound at its value and one over; a number over its bound comes behind both. */
+        { "DT7:", 4, 4, 0, 4, "DT7:--" },
+        { "DT10:", 5, 5, 054, 0, "------" },
+        { "DT401:", 6, 128, 054, 0, "------" },
+        { "DT 4 01:", 8, 128, 054, 0, "--------" },
+        { "[377,377]", 9, 9, 0, 9, "[377,377]-" },
+        { "[400,377]", 9, 9, 054, 0, "----------" },
+        { "[377,400]", 9, 9, 054, 0, "----------" },
+        { "DT10:", 5, 4, 052, 0, "------" },
+        { "DT10:<A<", 8, 8, 050, 7, "------" },
+        { "<<DT10:", 7, 7, 050, 1, "------" },
+        { "DT18:", 5, 5, 050, 4, "------" },
     };
     uint8_t buffer[LINE_MOST];
 
@@ -260,12 +274,32 @@ static void asking_examples(void)
         { "[23,10],A[0,0]", 0, 1, 0, { 0, 0, 10, 0, 0, 1600, 0, 0, 0, 0, 0 }, "-" },
         { "[23,10],A[0,0]", 0, 2, 0, { .code = 051 }, "-" },
 
-        /* The low 8 bits of numbers of any length. */
-        { "DT377:", 0, 0, 0, { 0, 0, 1, 7200, 255, 0, 0, 0, 0, 0, 0 }, "-" },
-        { "DT400:", 0, 0, 0, { 0, 0, 1, 7200, 0, 0, 0, 0, 0, 0, 0 }, "-" },
-        { "DT7777777777777777777777777777401:", 0, 0, 0, { 0, 0, 1, 7200, 1, 0, 0, 0, 0, 0, 0 }, "-" },
-        { "[2000000000000000000000377,1777777777777777777776]", 0, 0, 0, { 0, 0, 8, 0, 0, 0, 0, 0, 255, 254, 0 },
+        /* Leading zeros are allowed; what is over its bound is, however many digits it has. */
+        { "DT7:", 0, 0, 0, { 0, 0, 1, 7200, 7, 0, 0, 0, 0, 0, 0 }, "-" },
+        { "DT0000000000000000000000000000007:", 0, 0, 0, { 0, 0, 1, 7200, 7, 0, 0, 0, 0, 0, 0 }, "-" },
+        { "[0000000000000000000000377,0000000000000000000376]", 0, 0, 0, { 0, 0, 8, 0, 0, 0, 0, 0, 255, 254, 0 },
           "-" },
+        { "DT10:", 0, 0, 0, { .code = 054 }, "-" },
+        { "DT400:", 0, 0, 0, { .code = 054 }, "-" },
+        { "DT401:", 0, 0, 0, { .code = 054 }, "-" },
+        { "DT2000000000000000000001:", 0, 0, 0, { .code = 054 }, "-" }, /* 1 in 64 bits */
+        { "DT4000000000000000000000000000000000000000001:", 0, 0, 0, { .code = 054 }, "-" },
+        { "[400,1]", 0, 0, 0, { .code = 054 }, "-" },
+        { "[1,400]", 0, 0, 0, { .code = 054 }, "-" },
+        { "[2000000000000000000000377,1]", 0, 0, 0, { .code = 054 }, "-" },
+        { "[1,2000000000000000000000377]", 0, 0, 0, { .code = 054 }, "-" },
+
+        /* Wherever the number stands, whatever is asked for, and before no specification and a short buffer. */
+        { "A,DT10:", 0, 0, 0, { .code = 054 }, "-" },
+        { "A<DT10:", 0, 0, 0, { .code = 054 }, "-" },
+        { "DT10:<A", 1, 0, 0, { .code = 054 }, "-" },
+        { "DT10:<A", 1, 1, 0, { .code = 054 }, "-" },
+        { "DT10:", 1, 0, 0, { .code = 054 }, "-" },
+        { "DT10:", SIZE_MAX, SIZE_MAX, 0, { .code = 054 }, "-" },
+        { "[400,1]/S", 0, 0, 5, { .code = 054 }, "------" },
+        { "/S,[1,400]", 0, 0, 5, { .code = 054 }, "------" },
+        { "DT10:<A<", 0, 0, 0, { .code = 050, .place = 7 }, "-" },
+        { "<<DT10:", 0, 0, 0, { .code = 050, .place = 1 }, "-" },
 
         /* S is 30400, 0x76C0; A is 1600, 0x0640; BCD is 3324, 0x0CFC, and 1 behind it 49600, 0xC1C0. */
         { "/S", 0, 0, 6, { .switches = 1 }, "\0\0\xC0\x76\0\0-" },
@@ -323,7 +357,7 @@ static void known_lines(void)
         "", "<", ",", ",<,", "A<B<C", "ABCDEFG", "DT8:", "/S:", "ABC1234567,", ".DAT", "DT1:FREQ.DAT<PR:", "DT1",
         "DT1:", "DT:FREQ.DAT[23,10]/S:A:B2/LONGER:VALUE1:2,LP:[0,0]<SY0:OLD.TMP,[377,377]/X,/Y:ABCDEF:G", "AB",
         "ABC", "ABC7", "ABC78", "AB12345", "AB123456", "AB12345.", "AB12345:", "ABC8:", "ABCD1", "A1:", "1AB:",
-        "[1,2]A", "A.B.C", "A.DATA", "[,]", "[1]", "[1,]", "[1,2", "[8,1]", "[1,2],[3,4]", "//", "/A/B", "/1",
+        "DT7:", "DT10:", "DT007:", "[377,377]", "[400,377]", "[377,400]", "[1,2]A", "A.B.C", "A.DATA", "[,]", "[1]", "[1,]", "[1,2", "[8,1]", "[1,2],[3,4]", "//", "/A/B", "/1",
         "/ABCDEF", "/ABCDEFG", "/A:1234567", "/A::B", "/A:B.C", "A:B", "AA:BB:CC", "<<", "*", "A*", "a", "DT1:a",
         "\r", "A\r", "A\n", "\301",
     };
@@ -397,7 +431,30 @@ static void limits(void)
         }
 }
 
-/* Numbers of every length that a line has room for. */
+/*
+ * Each bound at its value and one over, in each place of each side, alone and with a fault of the grammar before and
+ * behind, with buffers that are too short and with sides and places that there are not.
+ */
+static void bounds(void)
+{
+    static const char *const numbers[] = { "DT7:", "DT10:", "DT0007:", "DT0010:", "[377,377]", "[400,377]", "[377,400]",
+                                           "[000377,0000377]", "[000400,1]", "[1,000400]" };
+    static const char *const faults[] = { "", "*", ".A,", ",A.", "<A<", "[1,", "DT8:," };
+    char line[LINE_MOST + 1];
+
+    for (size_t number = 0; number < COUNT(numbers); number++)
+        for (size_t place = 0; place < 6; place++)
+            for (size_t before = 0; before < COUNT(faults); before++)
+                for (size_t behind = 0; behind < COUNT(faults); behind++) {
+                    const char *at[6] = { "A", "B/S:1", "/S", "KB:", "X.Y", "" };
+                    at[place] = numbers[number];
+                    const int length = snprintf(line, sizeof line, "%s%s,%s,%s<%s,%s,%s%s", faults[before], at[0], at[1],
+                                                at[2], at[3], at[4], at[5], faults[behind]);
+                    try_all("bounds", (const uint8_t *)line, (size_t)length);
+                }
+}
+
+/* Numbers of every length that a line has room for: of sevens, with a 1 before zeros, zeros alone, and by chance. */
 static void long_numbers(void)
 {
     static const char *const around[][2] = { { "DT", ":" }, { "ABC", ":F<" }, { "[", ",7]" }, { "A[7,", "]/S" } };
@@ -408,8 +465,11 @@ static void long_numbers(void)
         for (size_t digits = 0; before + digits + behind <= sizeof line; digits++)
             for (size_t times = 0; times < 6; times++) {
                 memcpy(line, around[a][0], before);
-                for (size_t i = 0; i < digits; i++)
-                    line[before + i] = (uint8_t)OCTAL_DIGITS[times == 0 ? 7 : times == 1 ? i == 0 : chance(8)];
+                for (size_t i = 0; i < digits; i++) {
+                    const bool last = i + 1 == digits;
+                    const size_t digit[] = { 7, i == 0, 0, last ? 7 : 0, i + 3 < digits ? 0 : chance(8), chance(8) };
+                    line[before + i] = (uint8_t)OCTAL_DIGITS[digit[times]];
+                }
                 memcpy(line + before + digits, around[a][1], behind);
                 try_each("long number", line, before + digits + behind);
             }
@@ -515,7 +575,7 @@ static void chance_lines(size_t times)
 /* Each code that a call can give was given, and no other. */
 static void check_given(void)
 {
-    static const size_t possible[2][5] = { { 0, 053, 052, 050 }, { 0, 053, 050, 051, 052 } };
+    static const size_t possible[2][6] = { { 0, 053, 052, 050, 054 }, { 0, 053, 050, 054, 051, 052 } };
 
     for (size_t call = 0; call < 2; call++) {
         bool can[CODES] = { false };
@@ -540,6 +600,7 @@ int main(void)
     short_lines(line, 0, 5);
     every_byte();
     limits();
+    bounds();
     long_numbers();
     switch_rooms();
     sides_and_places();

@@ -1,5 +1,5 @@
 /*
- * Command lines as document 01 describes them, with nothing taken from the library. The rules of the grammar are
+ * Command lines as documents 01 and 02 describe them, with nothing taken from the library. The rules of the grammar are
  * written down one by one as an automaton, which is in all states at once that the characters of a line can lead to.
  * As long as there is one, the line could go on; and in a whole line the rules that its characters stand for say what
  * each of them is. So no parser decides how a line is read or where it is refused.
@@ -240,6 +240,7 @@ typedef struct {
     judgement judged;
     specification at[2][LINE_MOST + 1];
     size_t count[2];
+    bool over; /* is a number over its bound? */
 } reading;
 
 static inline specification *begin_specification(reading *it, size_t side)
@@ -255,16 +256,25 @@ static inline void spell(size_t *word, size_t others, uint8_t character)
     *word += weights[others] * (size_t)(strchr(radix50, character) - radix50);
 }
 
-/* "of unit, group and user the low 8 bits are kept" */
-static inline void append_digit(size_t *number, uint8_t digit)
+/*
+ * "A unit must be at most 7, a group and a user at most 377 octal, leading zeros allowed": once a number is over its
+ * bound, no digit brings it back.
+ */
+static inline void append_digit(reading *it, size_t *number, uint8_t digit, size_t bound)
 {
-    *number = (*number * 8 + (digit - (size_t)'0')) % 256;
+    const size_t next = *number * 8 + (digit - (size_t)'0');
+
+    if (next > bound)
+        it->over = true;
+    else
+        *number = next;
 }
 
 static inline void read_line(const uint8_t *line, size_t length, reading *it)
 {
     it->judged = judge_line(line, length);
     it->count[0] = it->count[1] = 0;
+    it->over = false;
     if (!it->judged.of_grammar)
         return;
 
@@ -279,7 +289,7 @@ static inline void read_line(const uint8_t *line, size_t length, reading *it)
             spell(&now->numbers.device, others, line[i]);
             break;
         case UNIT:
-            append_digit(&now->numbers.unit, line[i]);
+            append_digit(it, &now->numbers.unit, line[i], 7);
             break;
         case NAME:
             now->numbers.present |= 2;
@@ -291,10 +301,10 @@ static inline void read_line(const uint8_t *line, size_t length, reading *it)
             break;
         case GROUP_DIGIT:
             now->numbers.present |= 8;
-            append_digit(&now->numbers.group, line[i]);
+            append_digit(it, &now->numbers.group, line[i], 0377);
             break;
         case USER_DIGIT:
-            append_digit(&now->numbers.user, line[i]);
+            append_digit(it, &now->numbers.user, line[i], 0377);
             break;
         case SWITCH:
             now->numbers.switches++;
@@ -336,7 +346,7 @@ static inline size_t condense(const uint8_t *raw, size_t raw_len, uint8_t *line)
     return length;
 }
 
-/* "Order: 53, raw line over 512 or condensed over 128; 52, buffer shorter than the condensed line; 50" */
+/* "Order: 53, raw line over 512 or condensed over 128; 52, buffer shorter than the condensed line; 50", and then 54 */
 static inline abz_answer csi1_due(const uint8_t *raw, size_t raw_len, uint8_t *buffer, size_t buffer_len)
 {
     uint8_t line[RAW_MOST];
@@ -351,15 +361,22 @@ static inline abz_answer csi1_due(const uint8_t *raw, size_t raw_len, uint8_t *b
     if (length > buffer_len)
         return due;
 
-    const judgement it = judge_line(line, length);
-    due.code = it.of_grammar ? 0 : 050;
-    due.number = it.of_grammar ? length : it.place;
-    if (it.of_grammar)
+    static reading it;
+    read_line(line, length, &it);
+    due.code = !it.judged.of_grammar ? 050 : it.over ? 054 : 0;
+    if (due.code == 050)
+        due.number = it.judged.place;
+    if (due.code == 0) {
+        due.number = length;
         memcpy(buffer, line, length);
+    }
     return due;
 }
 
-/* "Order: 53, over 128; 50; 51, no such side or specification; 52, switch buffer too short." Takes the line's reading. */
+/*
+ * "Order: 53, over 128; 50; 51, no such side or specification; 52, switch buffer too short.", and 54 behind 50. Takes the
+ * line's reading.
+ */
 static inline abz_specification csi2_due(const reading *it, size_t length, size_t side, size_t k, uint8_t *buffer,
                                   size_t buffer_len)
 {
@@ -370,6 +387,8 @@ static inline abz_specification csi2_due(const reading *it, size_t length, size_
     } else if (!it->judged.of_grammar) {
         due.code = 050;
         due.place = it->judged.place;
+    } else if (it->over) {
+        due.code = 054;
     } else if (side > 1 || k >= it->count[side]) {
         due.code = 051;
     } else if (buffer_len < 2 * it->at[side][k].word_count) {
