@@ -130,6 +130,30 @@ fn p9_to_p12_places() {
     assert_eq!(specification("A<B<C", 0, 0), SpecificationAnswer { code: 0o50, place: 3, ..Default::default() });
 }
 
+/// The refusal of a line with a number over its bound, by both; the place of no other refusal than 50 is given.
+fn is_over(line: &str) {
+    assert_eq!(csi1(line.as_bytes(), &mut [0; 128]), Err(Refusal::Number.into()), "{line}");
+    for (side, k) in [(0, 0), (1, 0), (0, 9), (2, 0)] {
+        assert_eq!(specification(line, side, k), SpecificationAnswer { code: 0o54, ..Default::default() }, "{line}");
+    }
+}
+
+#[test]
+fn bounds_of_numbers() {
+    for line in ["DT10:", "DT401:", "A,B<C,DT10:", "[400,1]", "[1,400]", "[377,1],[1,0400]", "DT0007:,DT00010:"] {
+        is_over(line);
+    }
+    is_over(&format!("DT{}:", "7".repeat(120)));
+    assert_eq!(specification(&format!("DT{}7:", "0".repeat(100)), 0, 0).unit, 7);
+    assert_eq!(specification("DT7:", 0, 0).unit, 7);
+    let bounds = specification("[377,00377]", 0, 0);
+    assert_eq!((bounds.group, bounds.user), (0o377, 0o377));
+    assert_eq!(place("DT10:<A<"), 7);
+    assert_eq!(place("<<DT10:"), 1);
+    assert_eq!(csi1(b"DT10:", &mut [0; 4]), Err(Refusal::BufferShort.into()));
+    assert_eq!(csi2(b"[400,1]/S", 0, 0, &mut []), Err(Refusal::Number.into()));
+}
+
 #[test]
 fn p13_rights() {
     let mut image = smallest();

@@ -1,4 +1,4 @@
-//! The causes of a refusal and their codes (01, "Codes").
+//! The causes of a refusal and their codes (01, "Codes"; 02, §3).
 
 /// Why a request is refused, in the order of 01's table, with the code that 01 writes in octal.
 #[derive(Clone, Copy, Debug, PartialEq, Eq)]
@@ -24,6 +24,7 @@ pub enum Refusal {
     NoSpecification = 0o51,
     BufferShort = 0o52,
     LineLong = 0o53,
+    Number = 0o54,
     Conversion = 0o60,
 }
 

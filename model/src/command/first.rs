@@ -17,7 +17,8 @@ pub fn csi1(line: &[u8], buffer: &mut [u8]) -> Result<usize, LineRefusal> {
     }
     let condensed = &condensed[..length];
     let written = buffer.get_mut(..length).ok_or(Refusal::BufferShort)?;
-    reading::read(condensed, |_, _, _| ()).ok_or_else(|| not_in_grammar(condensed))?;
+    let bounded = reading::read(condensed, |_, _, _| ()).ok_or_else(|| not_in_grammar(condensed))?;
+    require(bounded, Refusal::Number)?;
     written.copy_from_slice(condensed);
     Ok(length)
 }

@@ -2,14 +2,18 @@
 
 use crate::conversions::radix;
 
-/// "2 or 3 letters", as a Radix-50 word, and the low 8 bits of the unit.
+/// "A unit must be at most 7, a group and a user at most 377 octal".
+const MOST_UNIT: usize = 7;
+const MOST_IN_UIC: usize = 0o377;
+
+/// "2 or 3 letters", as a Radix-50 word, and the unit.
 #[derive(Clone, Copy, Debug, PartialEq, Eq)]
 pub struct Device {
     pub letters: u16,
     pub unit: u8,
 }
 
-/// The low 8 bits of group and user.
+/// "a group and a user at most 377 octal".
 #[derive(Clone, Copy, Debug, PartialEq, Eq)]
 pub struct Uic {
     pub group: u8,
@@ -35,21 +39,23 @@ pub struct Specification<'line> {
     pub switches: Switches<'line>,
 }
 
-/// Reads a whole command, and hands each specification on with its side and its place there; `None` if the line is not
-/// in the grammar, which may show only after some were handed on.
-pub fn read<'line>(line: &'line [u8], mut hand_on: impl FnMut(usize, usize, Specification<'line>)) -> Option<()> {
-    let mut reader = Reader { rest: line };
+/// Reads a whole command, and hands each specification on with its side and its place there. Answers whether all its
+/// numbers keep their bounds; those that do not are handed on as 0. `None` if the line is not in the grammar, which may
+/// show only after some were handed on.
+pub fn read<'line>(line: &'line [u8], mut hand_on: impl FnMut(usize, usize, Specification<'line>)) -> Option<bool> {
+    let mut reader = Reader { rest: line, bounded: true };
     reader.side(|place, specification| hand_on(0, place, specification))?;
     if reader.take(b'<') {
         reader.side(|place, specification| hand_on(1, place, specification))?;
     }
-    reader.rest.is_empty().then_some(())
+    reader.rest.is_empty().then_some(reader.bounded)
 }
 
-/// What is left of the line.
+/// What is left of the line, and whether the numbers before it keep their bounds.
 #[derive(Clone, Copy)]
 struct Reader<'line> {
     rest: &'line [u8],
+    bounded: bool,
 }
 
 impl<'line> Reader<'line> {
@@ -79,10 +85,11 @@ impl<'line> Reader<'line> {
         if !(2..=3).contains(&letters.len()) {
             return None;
         }
-        let unit = low_bits(ahead.run(is_octal));
+        let digits = ahead.run(is_octal);
         if !ahead.take(b':') {
             return None;
         }
+        let unit = ahead.number(digits, MOST_UNIT);
         *self = ahead;
         Some(Device { letters: radix_words(letters)[0], unit })
     }
@@ -115,7 +122,20 @@ impl<'line> Reader<'line> {
         let user = self.run(is_octal);
         let closed = self.take(b']');
         let good = !group.is_empty() && comma && !user.is_empty() && closed;
-        good.then(|| Some(Uic { group: low_bits(group), user: low_bits(user) }))
+        good.then(|| Some(Uic { group: self.number(group, MOST_IN_UIC), user: self.number(user, MOST_IN_UIC) }))
+    }
+
+    /// The number that digits are, 0 if there are none. "leading zeros allowed": a number that keeps a bound has at most
+    /// three digits besides.
+    fn number(&mut self, digits: &[u8], most: usize) -> u8 {
+        let zeros = digits.iter().take_while(|&&digit| digit == b'0').count();
+        let digits = &digits[zeros..];
+        let number = digits.iter().take(3).fold(0, |number, digit| 8 * number + usize::from(digit - b'0'));
+        if digits.len() > 3 || number > most {
+            self.bounded = false;
+            return 0;
+        }
+        number as u8
     }
 
     fn switches(&mut self) -> Option<Switches<'line>> {
@@ -171,7 +191,7 @@ impl Switches<'_> {
 
     /// Writes, per switch, "a word with the number of values, two name words, two words per value".
     pub fn write(&self, buffer: &mut [u8]) {
-        let mut reader = Reader { rest: self.written };
+        let mut reader = Reader { rest: self.written, bounded: true };
         let mut words = buffer.chunks_exact_mut(2);
         let mut put = |word: u16| words.next().expect("the buffer has room").copy_from_slice(&word.to_le_bytes());
         while reader.take(b'/') {
@@ -195,11 +215,6 @@ fn radix_words(characters: &[u8]) -> [u16; 2] {
         *place = radix::code(character).expect("a letter or digit has a code");
     }
     [radix::word([codes[0], codes[1], codes[2]]), radix::word([codes[3], codes[4], codes[5]])]
-}
-
-/// "of unit, group and user the low 8 bits are kept"; no digits are 0.
-fn low_bits(digits: &[u8]) -> u8 {
-    digits.iter().fold(0, |number: u8, digit| number.wrapping_mul(8).wrapping_add(digit - b'0'))
 }
 
 fn is_octal(character: u8) -> bool {

@@ -12,13 +12,15 @@ pub fn csi2<'line>(
 ) -> Result<Specification<'line>, LineRefusal> {
     require(line.len() <= MOST_CONDENSED, Refusal::LineLong)?;
     let mut found = None;
-    // The whole line is read, since one that is not in the grammar is refused whatever is asked of it.
-    reading::read(line, |its_side, its_place, specification| {
+    // The whole line is read, since one that is not in the grammar, or has a number over its bound, is refused whatever is
+    // asked of it.
+    let bounded = reading::read(line, |its_side, its_place, specification| {
         if (its_side, its_place) == (side, k) {
             found = Some(specification);
         }
     })
     .ok_or_else(|| not_in_grammar(line))?;
+    require(bounded, Refusal::Number)?;
     let specification = found.ok_or(Refusal::NoSpecification)?;
     let written = switches.get_mut(..specification.switches.bytes()).ok_or(Refusal::BufferShort)?;
     specification.switches.write(written);

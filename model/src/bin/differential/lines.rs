@@ -114,7 +114,7 @@ fn specification(random: &mut Random) -> Vec<u8> {
     let mut text = Vec::new();
     if random.chance(2, 5) {
         some(random, &mut text, 2, 3, LETTERS);
-        unbounded(random, &mut text, 0);
+        number(random, &mut text, 0, 7);
         text.push(b':');
     }
     if random.chance(3, 5) {
@@ -126,9 +126,9 @@ fn specification(random: &mut Random) -> Vec<u8> {
     }
     if random.chance(1, 3) {
         text.push(b'[');
-        unbounded(random, &mut text, 1);
+        number(random, &mut text, 1, 0o377);
         text.push(b',');
-        unbounded(random, &mut text, 1);
+        number(random, &mut text, 1, 0o377);
         text.push(b']');
     }
     for _ in 0..random.pick(&[0, 0, 0, 1, 2, 3]) {
@@ -149,10 +149,25 @@ fn some(random: &mut Random, text: &mut Vec<u8>, least: usize, most: usize, from
     }
 }
 
-/// Octal digits, of which there is no greatest number.
-fn unbounded(random: &mut Random, text: &mut Vec<u8>, least: usize) {
-    let most = random.pick(&[1, 1, 2, 3, 4, 12, 30]);
-    some(random, text, least, most, OCTAL);
+/// An octal number, of whose digits there is no greatest number; mostly one that keeps its bound.
+fn number(random: &mut Random, text: &mut Vec<u8>, least: usize, bound: usize) {
+    let value = match random.below(32) {
+        0 => {
+            let most = random.pick(&[1, 2, 3, 4, 12, 30]);
+            return some(random, text, least, most, OCTAL);
+        }
+        1 => bound + 1,
+        2 | 3 => bound,
+        4 => 0,
+        _ => random.below(bound + 1),
+    };
+    if value == 0 && least == 0 && random.chance(1, 2) {
+        return;
+    }
+    for _ in 0..random.pick(&[0, 0, 0, 0, 1, 2, 20]) {
+        text.push(b'0');
+    }
+    text.extend(format!("{value:o}").into_bytes());
 }
 
 /// Changes a line by a character.

@@ -90,8 +90,8 @@ impl Request {
             Request::Radpk | Request::Radup | Request::D2bin | Request::Bin2d | Request::O2bin | Request::Bin2o => {
                 &[0, 0o41, 0o60]
             }
-            Request::Csi1 => &[0, 0o53, 0o52, 0o50],
-            Request::Csi2 => &[0, 0o53, 0o50, 0o51, 0o52],
+            Request::Csi1 => &[0, 0o53, 0o52, 0o50, 0o54],
+            Request::Csi2 => &[0, 0o53, 0o50, 0o54, 0o51, 0o52],
         }
     }
 
