@@ -55,6 +55,16 @@ packed-second a b c ha hb hc = omega arith
 pub packed-third : (a b c : ℕ) → a < 40 → b < 40 → c < 40 → thirdCode (packed a b c) ≡ c
 packed-third a b c ha hb hc = omega arith
 
+-- the codes of a word are below 40
+pub first-below : {w a : ℕ} → w < upperEnd → a ≡ firstCode w → a < 40
+first-below low is = omega arith
+
+pub second-below : (w : ℕ) {b : ℕ} → b ≡ secondCode w → b < 40
+second-below w is = omega arith
+
+pub third-below : (w : ℕ) {c : ℕ} → c ≡ thirdCode w → c < 40
+third-below w is = omega arith
+
 -- RADPK's and RADUP's conversions are a pair
 unpack : (w : ℕ) (s : List ℕ) → charactersOf w ≡ some s → Three (characterOf (firstCode w)) (characterOf (secondCode w)) (characterOf (thirdCode w)) s
 unfolding charactersOf

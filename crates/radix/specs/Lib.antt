@@ -6,3 +6,4 @@ pub mod Names
 pub mod NamesTest
 pub mod Radpk
 pub mod Radup
+pub mod Unpacking

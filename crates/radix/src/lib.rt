@@ -1,6 +1,7 @@
 // Radix-50: the word type, characters and codes, legal names and extensions; RADPK and RADUP each in a file of its own.
 pub mod radpk;
 pub mod radup;
+pub mod unpacking;
 
 ghost use mathlib.Core.Path.{_≡_};
 ghost use Prim.Native.Nat.{_<_};
@@ -98,28 +99,18 @@ pub fn code_of(character: u8) -> Code
     Code::Nothing
 }
 
+// The characters in the order of their codes; 0 where a code, 29, has none.
+const CHARACTERS: [u8; 40] = *b" ABCDEFGHIJKLMNOPQRSTUVWXYZ$.\x000123456789";
+
 pub fn character_of(code: usize) -> Character
+    requires { ⌜ code < 40 ⌝ }
     ensures { λ r. ⌜ characterIn r ≡ characterOf code ⌝ }
 {
-    if code == 0 {
-        return Character::Of(32);
-    }
-    if code <= 26 {
-        return Character::Of((code + 64) as u8);
-    }
-    if code == 27 {
-        return Character::Of(36);
-    }
-    if code == 28 {
-        return Character::Of(46);
-    }
-    if code == 29 {
+    let character = CHARACTERS[code];
+    if character == 0 {
         return Character::Nothing;
     }
-    if code <= 39 {
-        return Character::Of((code + 18) as u8);
-    }
-    Character::Nothing
+    Character::Of(character)
 }
 
 // Is the character of a code a letter or a digit?

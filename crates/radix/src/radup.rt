@@ -3,6 +3,7 @@ ghost use mathlib.Core.Path.{_≡_};
 ghost use Rattle.radix.specs.Radup.{radup};
 use crate::Character;
 use crate::Radix50;
+use crate::unpacking::unpack;
 
 pub fn radup(word: usize, characters: &mut [u8]) -> usize
     ensures { λ r. ⌜ r ≡ radup word (now (characters .entry)) .code ⌝ }
@@ -14,14 +15,14 @@ pub fn radup(word: usize, characters: &mut [u8]) -> usize
     if Radix50::END <= word {
         return 0o60;
     }
-    let packed = Radix50(word);
-    let Character::Of(x) = crate::character_of(packed.first()) else {
+    let codes = unpack(word);
+    let Character::Of(x) = crate::character_of(codes.first) else {
         return 0o60;
     };
-    let Character::Of(y) = crate::character_of(packed.second()) else {
+    let Character::Of(y) = crate::character_of(codes.second) else {
         return 0o60;
     };
-    let Character::Of(z) = crate::character_of(packed.third()) else {
+    let Character::Of(z) = crate::character_of(codes.third) else {
         return 0o60;
     };
     characters[0] = x;
