@@ -56,14 +56,8 @@ pub packed-third : (a b c : ℕ) → a < 40 → b < 40 → c < 40 → thirdCode 
 packed-third a b c ha hb hc = omega arith
 
 -- the codes of a word are below 40
-pub first-below : {w a : ℕ} → w < upperEnd → a ≡ firstCode w → a < 40
-first-below low is = omega arith
-
-pub second-below : (w : ℕ) {b : ℕ} → b ≡ secondCode w → b < 40
-second-below w is = omega arith
-
-pub third-below : (w : ℕ) {c : ℕ} → c ≡ thirdCode w → c < 40
-third-below w is = omega arith
+pub codes-below : {w a b c : ℕ} → w < upperEnd → a ≡ firstCode w → b ≡ secondCode w → c ≡ thirdCode w → (a < 40) × (b < 40) × (c < 40)
+codes-below low first second third = (omega arith, omega arith, omega arith)
 
 -- RADPK's and RADUP's conversions are a pair
 unpack : (w : ℕ) (s : List ℕ) → charactersOf w ≡ some s → Three (characterOf (firstCode w)) (characterOf (secondCode w)) (characterOf (thirdCode w)) s
@@ -111,14 +105,14 @@ three-none (some x) none r is = inr (inl refl)
 three-none (some x) (some y) none is = inr (inr refl)
 three-none (some x) (some y) (some z) is = let z : _≡_ {A = ℕ} 0 1 = cc in absurd (omega arith)
 
-none-first : (q r : Option ℕ) (p : Option ℕ) → p ≡ none → threeIf p q r ≡ none
+pub none-first : (q r : Option ℕ) (p : Option ℕ) → p ≡ none → threeIf p q r ≡ none
 none-first q r p is = rw is
 
-none-second : (p r : Option ℕ) (q : Option ℕ) → q ≡ none → threeIf p q r ≡ none
+pub none-second : (p r : Option ℕ) (q : Option ℕ) → q ≡ none → threeIf p q r ≡ none
 none-second none r q is = refl
 none-second (some x) r q is = rw is
 
-none-third : (p q : Option ℕ) (r : Option ℕ) → r ≡ none → threeIf p q r ≡ none
+pub none-third : (p q : Option ℕ) (r : Option ℕ) → r ≡ none → threeIf p q r ≡ none
 none-third none q r is = refl
 none-third (some x) none r is = refl
 none-third (some x) (some y) r is = rw is
@@ -137,6 +131,11 @@ characters-third w is = none-third (characterOf (firstCode w)) (characterOf (sec
 
 pub characters-end : (w : ℕ) → upperEnd ≤ w → charactersOf w ≡ none
 characters-end w high = characters-first w (character-none (firstCode w) (inr (omega arith)))
+
+-- the characters of a word, by its codes
+pub characters-by : (w : ℕ) {a b c : ℕ} → a ≡ firstCode w → b ≡ secondCode w → c ≡ thirdCode w → threeIf (characterOf a) (characterOf b) (characterOf c) ≡ charactersOf w
+unfolding charactersOf
+characters-by w first second third = rw (first, second, third)
 
 pub characters-three : (w x y z : ℕ) → characterOf (firstCode w) ≡ some x → characterOf (secondCode w) ≡ some y → characterOf (thirdCode w) ≡ some z
     → charactersOf w ≡ some (x ∷ (y ∷ (z ∷ [])))

@@ -6,7 +6,7 @@ use mathlib.Core.Option.{none, some}
 use lib.ListN.{length, set}
 use Rattle.answers.proofs.Conversion.{characters-41, characters-60, characters-given, in-parts}
 use Rattle.radix.specs.Characters.{characterOf}
-use Rattle.radix.specs.Packing.{packed, firstCode, secondCode, thirdCode, charactersOf}
+use Rattle.radix.specs.Packing.{packed, charactersOf}
 use Rattle.radix.specs.Radup.{radup}
 use Rattle.radix.proofs.Characters.{character-code, code-bound}
 use Rattle.radix.proofs.Packing.{packed-first, packed-second, packed-third, characters-three, three-set}
@@ -20,11 +20,10 @@ module _ (w : ℕ) (buffer : List ℕ) where
   unfolding radup
   no-characters same is = in-parts (characters-60 3 charactersOf w buffer same is)
 
-  pub characters-written : (x y z : ℕ) → length buffer ≡ 3 → characterOf (firstCode w) ≡ some x → characterOf (secondCode w) ≡ some y → characterOf (thirdCode w) ≡ some z
+  pub characters-written : (x y z : ℕ) → length buffer ≡ 3 → charactersOf w ≡ some (x ∷ (y ∷ (z ∷ [])))
       → (0 ≡ radup w buffer .code) × (set (set (set buffer 0 x) 1 y) 2 z ≡ radup w buffer .buffer)
   unfolding radup
-  characters-written x y z same first second third =
-      rw (three-set buffer x y z same) (in-parts (characters-given 3 charactersOf w buffer same (characters-three w x y z first second third)))
+  characters-written x y z same is = rw (three-set buffer x y z same) (in-parts (characters-given 3 charactersOf w buffer same is))
 
 -- the word of three codes that have characters is written as these
 pub codes-written : (a b c x y z : ℕ) → characterOf a ≡ some x → characterOf b ≡ some y → characterOf c ≡ some z → (buffer : List ℕ) → length buffer ≡ 3

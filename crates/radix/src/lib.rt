@@ -8,7 +8,7 @@ ghost use Prim.Native.Nat.{_<_};
 ghost use mathlib.Core.Bool.{_&&_};
 ghost use lib.Dec.{eqb};
 ghost use Rattle.radix.specs.Characters.{codeOf, characterOf};
-ghost use Rattle.radix.specs.Lookup.{codeIn, characterIn};
+ghost use Rattle.radix.specs.Lookup.{codeIn, charactersIn};
 ghost use Rattle.radix.specs.Packing.{packed, firstCode, secondCode, thirdCode, threeIf};
 ghost use Rattle.radix.specs.NamesTest.{isLetterOrDigitIn, extensionTest, legalName, legalExtension};
 
@@ -66,8 +66,8 @@ pub enum Code {
     Nothing,
 }
 
-pub enum Character {
-    Of(u8),
+pub enum Spelling {
+    Of(u8, u8, u8),
     Nothing,
 }
 
@@ -99,18 +99,25 @@ pub fn code_of(character: u8) -> Code
     Code::Nothing
 }
 
-// The characters in the order of their codes; 0 where a code, 29, has none.
-const CHARACTERS: [u8; 40] = *b" ABCDEFGHIJKLMNOPQRSTUVWXYZ$.\x000123456789";
-
-pub fn character_of(code: usize) -> Character
-    requires { ⌜ code < 40 ⌝ }
-    ensures { λ r. ⌜ characterIn r ≡ characterOf code ⌝ }
+// The characters of three codes, from a row that has them in the order of the codes; 0 stands where a code, 29, has none.
+pub fn spell(a: usize, b: usize, c: usize) -> Spelling
+    requires { ⌜ (a < 40) × (b < 40) × (c < 40) ⌝ }
+    ensures { λ r. ⌜ charactersIn r ≡ threeIf (characterOf a) (characterOf b) (characterOf c) ⌝ }
 {
-    let character = CHARACTERS[code];
-    if character == 0 {
-        return Character::Nothing;
+    let row = b" ABCDEFGHIJKLMNOPQRSTUVWXYZ$.\x000123456789";
+    let x = row[a];
+    if x == 0 {
+        return Spelling::Nothing;
     }
-    Character::Of(character)
+    let y = row[b];
+    if y == 0 {
+        return Spelling::Nothing;
+    }
+    let z = row[c];
+    if z == 0 {
+        return Spelling::Nothing;
+    }
+    Spelling::Of(x, y, z)
 }
 
 // Is the character of a code a letter or a digit?

@@ -1,8 +1,8 @@
 // RADUP.
 ghost use mathlib.Core.Path.{_≡_};
 ghost use Rattle.radix.specs.Radup.{radup};
-use crate::Character;
 use crate::Radix50;
+use crate::Spelling;
 use crate::unpacking::unpack;
 
 pub fn radup(word: usize, characters: &mut [u8]) -> usize
@@ -16,13 +16,7 @@ pub fn radup(word: usize, characters: &mut [u8]) -> usize
         return 0o60;
     }
     let codes = unpack(word);
-    let Character::Of(x) = crate::character_of(codes.first) else {
-        return 0o60;
-    };
-    let Character::Of(y) = crate::character_of(codes.second) else {
-        return 0o60;
-    };
-    let Character::Of(z) = crate::character_of(codes.third) else {
+    let Spelling::Of(x, y, z) = crate::spell(codes.first, codes.second, codes.third) else {
         return 0o60;
     };
     characters[0] = x;

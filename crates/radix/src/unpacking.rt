@@ -37,7 +37,8 @@ fn take_away(held: usize, weight: usize, bit: usize) -> usize
     held
 }
 
-// The word is held above twelve empty bits, and weight by weight these are filled from the left.
+// The word is held above twelve empty bits, and weight by weight these are filled from the left: word and codes are one number,
+// so that a weight and its bit are one subtraction.
 fn take_weights(word: usize) -> usize
     requires { ⌜ word < upperEnd ⌝ }
     ensures { λ r. ⌜ r ≡ through weights 2048 (4096 * word) ⌝ }
