@@ -1,0 +1,1 @@
+// Finish: the scratch files of a caller are removed.
