@@ -2,3 +2,4 @@
 pub mod ScratchTest
 pub mod FinishRows
 pub mod Finish
+pub mod Spared

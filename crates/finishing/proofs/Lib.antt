@@ -1,0 +1,9 @@
+-- The laws of Finish.
+pub mod ScratchTestPasses
+pub mod ScratchTestDelet
+pub mod ScratchTestIff
+pub mod ScratchTestPlain
+pub mod FinishKeys
+pub mod FinishSwept
+pub mod FinishSweptOwners
+pub mod FinishEffect
