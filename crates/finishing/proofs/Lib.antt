@@ -7,3 +7,5 @@ pub mod FinishKeys
 pub mod FinishSwept
 pub mod FinishSweptOwners
 pub mod FinishEffect
+pub mod FinishLoop
+pub mod FinishStage

@@ -1,1 +1,2 @@
 // Finish: the scratch files of a caller are removed.
+pub mod finish;
