@@ -49,6 +49,14 @@ module _ (caller : ℕ) {g : Geometry} where
     as-before : (i : ℕ) → i < slots g → (i ≡ e → ⊥) → isScratch caller (entryOf (clearEntry img g e) g i) ≡ isScratch caller (entryOf img g i)
     as-before i within other = ap (isScratch caller) (here-entry stated right caller e inside is i within other)
 
+    -- what passes afterwards passed before
+    passed-before : (i : ℕ) → i < slots g → isScratch caller (entryOf (clearEntry img g e) g i) ≡ true → isScratch caller (entryOf img g i) ≡ true
+    passed-before i within passed = by (ℕ-discrete i e)
+      where
+        by : Dec (i ≡ e) → isScratch caller (entryOf img g i) ≡ true
+        by (yes same) = subst (λ (j : ℕ). isScratch caller (entryOf img g j) ≡ true) (sym same) is
+        by (no other) = sym (as-before i within other) ∙ passed
+
     swept-here : {img′ : List ℕ} {k : ℕ} → e + suc k ≤ slots g → Swept (clearEntry img g e) img′ g caller (e + 1) k → Swept img img′ g caller e (suc k)
     swept-here {img′} {k} fits rest =
         record {
@@ -104,3 +112,23 @@ module _ (caller : ℕ) {g : Geometry} where
             subst (λ (img′ : List ℕ). Swept img img′ g caller e (suc k)) (ap (deletedAll img caller) (sym (keys-other img g caller e k is)))
                 (swept-other is (rest .1)),
           )
+
+  -- what stays where an entry that passes is cleared stays where all are
+  pub swept-each : (P : List ℕ → Type 0) (k : ℕ) (img : List ℕ) → g ≡ geometryOf img → Consistent img → (e : ℕ) → e + k ≤ slots g
+      → ((i : ℕ) → i < slots g → isScratch caller (entryOf img g i) ≡ true → (mid : List ℕ) → P mid → P (clearEntry mid g i)) → P img
+      → P (sweptFrom img g caller e k)
+  unfolding keysFrom deletedAll
+  swept-each P zero img stated right e fits step before = before
+  swept-each P (suc k) img stated right e fits step before = by (isScratch caller (entryOf img g e)) refl (swept-each P k)
+    where
+      by : (test : Bool) → isScratch caller (entryOf img g e) ≡ test
+          → ((img₁ : List ℕ) → g ≡ geometryOf img₁ → Consistent img₁ → (j : ℕ) → j + k ≤ slots g
+          → ((i : ℕ) → i < slots g → isScratch caller (entryOf img₁ g i) ≡ true → (mid : List ℕ) → P mid → P (clearEntry mid g i)) → P img₁
+          → P (sweptFrom img₁ g caller j k))
+          → P (sweptFrom img g caller e (suc k))
+      by true is later =
+          let inside : e < slots g = omega arith in
+          subst P (sym (here-swept stated right caller e inside is k fits))
+          (later (clearEntry img g e) (here-stated stated right caller e inside is) (here-consistent stated right caller e inside is) (e + 1) (omega arith)
+          (λ i within passed. step i within (passed-before stated right e inside is i within passed)) (step e inside is img before))
+      by false not later = subst P (ap (deletedAll img caller) (sym (keys-other img g caller e k not))) (later img stated right (e + 1) (omega arith) step before)

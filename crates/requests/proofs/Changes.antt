@@ -8,12 +8,13 @@ use Rattle.words.specs.Word.{wordAt}
 use Rattle.frame.proofs.EntrySame.{word-same}
 use Rattle.lines.proofs.LineReadingStage.{line-read-image}
 use Rattle.requests.specs.Request.{Request, outcome, FORMAT, ALLOC, OPENO, OPEN, CLOSE, DELET, RENAM, APPND, LOOK, KEEP, BLOCK-INPUT, BLOCK-OUTPUT, LINKED-READ, LINKED-ADD}
-use Rattle.requests.specs.Request.{LINE-READ, LINE-WRITE, LINE-END, OWNER}
+use Rattle.requests.specs.Request.{LINE-READ, LINE-WRITE, LINE-END, FINISH, OWNER}
 use Rattle.requests.specs.Changes.{MayChange}
 use Rattle.requests.proofs.RequestAsking.{look-image, owner-image, block-input-image, linked-read-image}
 use Rattle.requests.proofs.ChangesWritten.{ChangesOnly, changes-nothing}
 use Rattle.requests.proofs.ChangesEntries.{openo-changes, open-changes, close-changes, delet-changes, keep-changes, renam-changes}
 use Rattle.requests.proofs.ChangesBodies.{format-changes, alloc-changes, appnd-changes, block-output-changes, linked-add-changes}
+use Rattle.requests.proofs.ChangesFinish.{finish-changes}
 use Rattle.requests.proofs.ChangesLines.{line-write-changes, line-end-changes}
 
 -- the image is as it was
@@ -38,6 +39,7 @@ changes-only (LINKED-ADD key caller payload) img = linked-add-changes img key ca
 changes-only (LINE-READ key caller mode position buffer) img = kept-changes (line-read-image img key caller mode position buffer)
 changes-only (LINE-WRITE key caller mode text gather filled) img = line-write-changes img key caller mode text gather filled
 changes-only (LINE-END key caller gather filled) img = line-end-changes img key caller gather filled
+changes-only (FINISH caller) img = finish-changes img caller
 changes-only (OWNER block) img = kept-changes (owner-image img block)
 
 -- every other word is the same,

@@ -9,6 +9,7 @@ pub mod RequestUntouched
 pub mod ChangesWritten
 pub mod ChangesEntries
 pub mod ChangesBodies
+pub mod ChangesFinish
 pub mod ChangesLines
 pub mod Changes
 pub mod ContractSingle

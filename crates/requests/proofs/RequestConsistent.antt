@@ -12,6 +12,7 @@ use Rattle.directory.specs.Renam.{newKey}
 use Rattle.directory.proofs.DeletEffect.{delet-consistent}
 use Rattle.directory.proofs.KeepEffect.{keep-consistent}
 use Rattle.directory.proofs.RenamEffect.{renam-consistent}
+use Rattle.finishing.proofs.FinishEffect.{finish-consistent}
 use Rattle.transfer.proofs.BlockWritten.{block-out-consistent}
 use Rattle.appending.proofs.AppndEffect.{appnd-consistent}
 use Rattle.adding.proofs.LinkedAddEffect.{add-consistent}
@@ -19,7 +20,7 @@ use Rattle.lines.proofs.LineReadingStage.{line-read-image}
 use Rattle.lines.proofs.LineWritingEffect.{line-write-consistent}
 use Rattle.lines.proofs.LineWritingEnding.{line-end-consistent}
 use Rattle.requests.specs.Request.{Request, outcome, FORMAT, ALLOC, OPENO, OPEN, CLOSE, DELET, RENAM, APPND, LOOK, KEEP, BLOCK-INPUT, BLOCK-OUTPUT, LINKED-READ, LINKED-ADD}
-use Rattle.requests.specs.Request.{LINE-READ, LINE-WRITE, LINE-END, OWNER}
+use Rattle.requests.specs.Request.{LINE-READ, LINE-WRITE, LINE-END, FINISH, OWNER}
 use Rattle.requests.proofs.RequestFormat.{format-by}
 use Rattle.requests.proofs.RequestAsking.{look-image, owner-image, block-input-image, linked-read-image}
 
@@ -47,4 +48,5 @@ stays-consistent (LINKED-ADD key caller payload) {img} right = add-consistent im
 stays-consistent (LINE-READ key caller mode position buffer) {img} right = kept-right (line-read-image img key caller mode position buffer) right
 stays-consistent (LINE-WRITE key caller mode text gather filled) {img} right = line-write-consistent img key caller mode text gather filled right
 stays-consistent (LINE-END key caller gather filled) {img} right = line-end-consistent img key caller gather filled right
+stays-consistent (FINISH caller) {img} right = finish-consistent img caller right
 stays-consistent (OWNER block) {img} right = kept-right (owner-image img block) right

@@ -22,6 +22,7 @@ use Rattle.directory.specs.Renam.{newKey}
 use Rattle.directory.proofs.DeletEffect.{delet-refused}
 use Rattle.directory.proofs.KeepEffect.{keep-refused}
 use Rattle.directory.proofs.RenamEffect.{renam-refused}
+use Rattle.finishing.proofs.FinishEffect.{finish-refused}
 use Rattle.transfer.proofs.BlockInput.{block-in-refused}
 use Rattle.transfer.proofs.BlockOutput.{block-out-refused}
 use Rattle.transfer.proofs.LinkedReadStage.{linked-read-refused}
@@ -32,7 +33,7 @@ use Rattle.lines.proofs.LineWritingEffect.{line-write-refused}
 use Rattle.lines.proofs.LineWritingEnding.{line-end-refused}
 use Rattle.requests.specs.Contract.{numbersIn, contractOf}
 use Rattle.requests.specs.Request.{Request, outcome, bufferLent, FORMAT, ALLOC, OPENO, OPEN, CLOSE}
-use Rattle.requests.specs.Request.{DELET, RENAM, APPND, LOOK, KEEP, BLOCK-INPUT, BLOCK-OUTPUT, LINKED-READ, LINKED-ADD, LINE-READ, LINE-WRITE, LINE-END, OWNER}
+use Rattle.requests.specs.Request.{DELET, RENAM, APPND, LOOK, KEEP, BLOCK-INPUT, BLOCK-OUTPUT, LINKED-READ, LINKED-ADD, LINE-READ, LINE-WRITE, LINE-END, FINISH, OWNER}
 
 look-unchanged : (img : List ℕ) (key : Key) → (look img key .code ≡ 0 → ⊥) → Unchanged (look img key) (replicate 6 0) img []
 unfolding look
@@ -69,4 +70,5 @@ refusal-leaves (LINKED-ADD key caller payload) img = add-refused img key caller 
 refusal-leaves (LINE-READ key caller mode position buffer) img = line-read-refused img key caller mode position buffer
 refusal-leaves (LINE-WRITE key caller mode text gather filled) img = line-write-refused img key caller mode text gather filled
 refusal-leaves (LINE-END key caller gather filled) img = line-end-refused img key caller gather filled
+refusal-leaves (FINISH caller) img = finish-refused img caller
 refusal-leaves (OWNER block) img = owner-unchanged img block

@@ -1,6 +1,6 @@
 -- A file that a request does not name has the same entry words and the same body bytes afterwards.
 use Prim.Native.Nat.{ℕ}
-use mathlib.Core.Path.{_≡_, sym, subst}
+use mathlib.Core.Path.{_≡_, sym, subst, _∙_}
 use mathlib.Core.Logic.{inl, inr}
 use mathlib.Core.List.{List}
 use Rattle.pack.specs.declared.Key.{Key}
@@ -15,6 +15,7 @@ use Rattle.directory.specs.Renam.{newKey}
 use Rattle.directory.proofs.DeletEffect.{delet-untouched}
 use Rattle.directory.proofs.KeepEffect.{keep-untouched}
 use Rattle.directory.proofs.RenamEffect.{renam-untouched}
+use Rattle.finishing.proofs.FinishEffect.{finish-untouched}
 use Rattle.transfer.proofs.BlockWritten.{block-out-untouched}
 use Rattle.appending.proofs.AppndEffect.{appnd-untouched}
 use Rattle.adding.proofs.LinkedAddEffect.{add-untouched}
@@ -22,7 +23,7 @@ use Rattle.lines.proofs.LineReadingStage.{line-read-image}
 use Rattle.lines.proofs.LineWritingEffect.{line-write-untouched}
 use Rattle.lines.proofs.LineWritingEnding.{line-end-untouched}
 use Rattle.requests.specs.Request.{Request, outcome, Names, FORMAT, ALLOC, OPENO, OPEN, CLOSE, DELET, RENAM, APPND, LOOK, KEEP, BLOCK-INPUT, BLOCK-OUTPUT, LINKED-READ, LINKED-ADD}
-use Rattle.requests.specs.Request.{LINE-READ, LINE-WRITE, LINE-END, OWNER}
+use Rattle.requests.specs.Request.{LINE-READ, LINE-WRITE, LINE-END, FINISH, OWNER}
 use Rattle.requests.proofs.RequestAsking.{look-image, owner-image, block-input-image, linked-read-image}
 
 -- the image is as it was
@@ -50,4 +51,5 @@ who-is-not-named (LINKED-ADD key caller payload) {img} right who apart = add-unt
 who-is-not-named (LINE-READ key caller mode position buffer) {img} right who apart = kept-untouched who (line-read-image img key caller mode position buffer)
 who-is-not-named (LINE-WRITE key caller mode text gather filled) {img} right who apart = line-write-untouched img key caller mode text gather filled who apart
 who-is-not-named (LINE-END key caller gather filled) {img} right who apart = line-end-untouched img key caller gather filled who apart
+who-is-not-named (FINISH caller) {img} right who apart = finish-untouched right caller who (λ e scratch keyed. apart (sym (keyed .uic) ∙ scratch .own))
 who-is-not-named (OWNER block) {img} right who apart = kept-untouched who (owner-image img block)

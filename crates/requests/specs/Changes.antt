@@ -1,4 +1,4 @@
--- Which words of the image each request may change, as document 01 has it under 'What each request does', and 02 in §1 and §2. That no other word changes is proofs/Changes.antt.
+-- Which words of the image each request may change, as document 01 has it under 'What each request does', and 02 in §1, §2 and §12. That no other word changes is proofs/Changes.antt.
 use Prim.Native.Nat.{ℕ, _+_, _*_, _≤_, _<_}
 use mathlib.Core.Path.{_≡_}
 use mathlib.Core.Logic.{_⊎_}
@@ -15,12 +15,13 @@ use Rattle.creation.specs.Rounding.{lengthFor}
 use Rattle.opening.specs.declared.Opening.the-variants.{Input, Update, Extension}
 use Rattle.adding.specs.LinkedAdd.{addedBlock}
 use Rattle.stream.specs.AddedAll.{takenBlocks}
+use Rattle.finishing.specs.Finish.{Scratch}
 use Rattle.lines.specs.LineReading.{modeOf}
 use Rattle.lines.specs.LineWrite.{putAll, takenOf}
 use Rattle.lines.specs.BytesWriting.{gatheredIn}
 use Rattle.lines.specs.LineWriting.{nulsFor}
 use Rattle.requests.specs.Request.{Request, FORMAT, ALLOC, OPENO, OPEN, CLOSE, DELET, RENAM, APPND, LOOK, KEEP, BLOCK-INPUT, BLOCK-OUTPUT, LINKED-READ, LINKED-ADD}
-use Rattle.requests.specs.Request.{LINE-READ, LINE-WRITE, LINE-END, OWNER}
+use Rattle.requests.specs.Request.{LINE-READ, LINE-WRITE, LINE-END, FINISH, OWNER}
 
 -- w is word i of entry e; one of its words from `first` to `last`; one of its sixteen
 abbrev pub IsWord : List ℕ → ℕ → ℕ → ℕ → Type 0
@@ -92,5 +93,7 @@ MayChange (LINE-READ key caller mode position buffer) img w = ⊥
 MayChange (LINE-WRITE key caller mode text gather filled) img w =
     MayAdd img key caller (gatheredIn img gather filled (putAll (takenOf (modeOf mode) text)) .full) w
 MayChange (LINE-END key caller gather filled) img w = MayAdd img key caller (gatheredIn img gather filled (nulsFor img filled) .full) w
+-- "Delete every file of the caller's UIC that has bit 7 clear, is not open, and that DELET would allow", which "clears the entry, bodies untouched"
+MayChange (FINISH caller) img w = (e : ℕ) × (Scratch img caller e × InEntry img e w)
 -- whose a block is: asked, and nothing written
 MayChange (OWNER block) img w = ⊥

@@ -11,7 +11,7 @@ use Rattle.directory.specs.Look.{lookOutcome}
 use Rattle.lines.specs.declared.line_read.ReadAnswer.{ReadAnswer}
 use Rattle.lines.specs.declared.line_write.WriteAnswer.{WriteAnswer}
 use Rattle.requests.specs.Request.{Request, FORMAT, ALLOC, OPENO, OPEN, CLOSE, DELET, RENAM, APPND, LOOK, KEEP, BLOCK-INPUT, BLOCK-OUTPUT, LINKED-READ, LINKED-ADD}
-use Rattle.requests.specs.Request.{LINE-READ, LINE-WRITE, LINE-END, OWNER}
+use Rattle.requests.specs.Request.{LINE-READ, LINE-WRITE, LINE-END, FINISH, OWNER}
 
 -- the shapes of the contracts, by what they give: a code and the image; an answer of a code and a number, and the image; a code and the lent buffer;
 -- the answer of LOOK, and of the question whose a block is; of lines, an answer of a code and three numbers with the lent buffer, or with the image and the gather
@@ -37,8 +37,8 @@ Result read-answer-and-buffer = ReadAnswer × List ℕ
 Result write-answer-and-both = WriteAnswer × List ℕ × List ℕ
 Result code-and-both = ℕ × List ℕ × List ℕ
 
--- how many numbers that is beside the code: "ALLOC and linked add also return the first or added block, LOOK its six numbers"; whose a block is
--- is three; a read has the count, the status and "the next position", a write "the count taken", the status and the filled count "given back"
+-- how many numbers that is beside the code: "ALLOC and linked add also return the first or added block, LOOK its six numbers"; Finish returns "how many";
+-- whose a block is is three; a read has the count, the status and "the next position", a write "the count taken", the status and the filled count "given back"
 abbrev pub numbersIn : Contract → ℕ
 numbersIn code-and-image = 0
 numbersIn answer-and-image = 1
@@ -84,4 +84,5 @@ contractOf (LINKED-ADD key caller payload) = answer-and-image
 contractOf (LINE-READ key caller mode position buffer) = read-answer-and-buffer
 contractOf (LINE-WRITE key caller mode text gather filled) = write-answer-and-both
 contractOf (LINE-END key caller gather filled) = code-and-both
+contractOf (FINISH caller) = answer-and-image
 contractOf (OWNER block) = owner-answer

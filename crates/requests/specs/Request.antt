@@ -16,6 +16,7 @@ use Rattle.directory.specs.Look.{look}
 use Rattle.directory.specs.Delet.{delet}
 use Rattle.directory.specs.Keep.{keep}
 use Rattle.directory.specs.Renam.{newKey, renam}
+use Rattle.finishing.specs.Finish.{finish}
 use Rattle.transfer.specs.Block.{blockIn, blockOut}
 use Rattle.transfer.specs.LinkedRead.{linkedRead}
 use Rattle.appending.specs.Appnd.{appnd}
@@ -23,8 +24,8 @@ use Rattle.adding.specs.LinkedAdd.{linkedAdd}
 use Rattle.lines.specs.LineReading.{lineRead}
 use Rattle.lines.specs.LineWriting.{lineWrite, lineEnd}
 
--- "Requests taken up": those on an image, with their arguments, in the order of the paper's 'What each request does'; those of document 02 §1 on lines of text; and
--- whose a block is.
+-- "Requests taken up": those on an image, with their arguments, in the order of the paper's 'What each request does'; those of document 02, on lines of text (§1)
+-- and Finish (§12); and whose a block is.
 -- OPEN is OPENI, OPENU or OPENE. A UIC 0 has given place to the caller's. RENAM: "the UIC stays", so its new name comes without one.
 pub data Request : Type 0 where
   FORMAT : (form blocks contents : ℕ) (uics : List ℕ) → Request
@@ -44,6 +45,7 @@ pub data Request : Type 0 where
   LINE-READ : (key : Key) (caller mode position : ℕ) (buffer : List ℕ) → Request
   LINE-WRITE : (key : Key) (caller mode : ℕ) (text gather : List ℕ) (filled : ℕ) → Request
   LINE-END : (key : Key) (caller : ℕ) (gather : List ℕ) (filled : ℕ) → Request
+  FINISH : (caller : ℕ) → Request
   OWNER : (block : ℕ) → Request
 
 -- what a request comes to on an image: the definition that the contract of its function cites
@@ -65,9 +67,11 @@ outcome (LINKED-ADD key caller payload) img = linkedAdd img key caller payload
 outcome (LINE-READ key caller mode position buffer) img = lineRead img key caller mode position buffer
 outcome (LINE-WRITE key caller mode text gather filled) img = lineWrite img key caller mode text gather filled
 outcome (LINE-END key caller gather filled) img = lineEnd img key caller gather filled
+outcome (FINISH caller) img = finish img caller
 outcome (OWNER block) img = owner img block
 
--- whom a request names by name, extension and UIC: Format every file, since it empties the pack; who asks whose a block is names nobody
+-- whom a request names by name, extension and UIC: Format every file, since it empties the pack; Finish every file of the caller's UIC, whatever is then spared;
+-- who asks whose a block is names nobody
 abbrev pub Names : Request → Key → Type 0
 Names (FORMAT form blocks contents uics) who = Unit {0}
 Names (ALLOC key caller protect segments) who = who ≡ key
@@ -86,6 +90,7 @@ Names (LINKED-ADD key caller payload) who = who ≡ key
 Names (LINE-READ key caller mode position buffer) who = who ≡ key
 Names (LINE-WRITE key caller mode text gather filled) who = who ≡ key
 Names (LINE-END key caller gather filled) who = who ≡ key
+Names (FINISH caller) who = who .uic ≡ caller
 Names (OWNER block) who = ⊥
 
 -- "a lent buffer": what is lent beside the image; of a write the gather buffer, for its text is lent for reading only
@@ -107,4 +112,5 @@ bufferLent (LINKED-ADD key caller payload) = payload
 bufferLent (LINE-READ key caller mode position buffer) = buffer
 bufferLent (LINE-WRITE key caller mode text gather filled) = gather
 bufferLent (LINE-END key caller gather filled) = gather
+bufferLent (FINISH caller) = []
 bufferLent (OWNER block) = []

@@ -1,0 +1,27 @@
+-- Finish changes words of the entries that it clears and no other.
+use Prim.Native.Nat.{ℕ}
+use mathlib.Core.Path.{refl}
+use mathlib.Core.List.{List, []}
+use native.Mathlib.Omega.{arith}
+use Rattle.pack.specs.Geometry.{geometryOf, slots}
+use Rattle.finishing.specs.ScratchTest.{scratchKeys}
+use Rattle.finishing.specs.FinishRows.{finishRows}
+use Rattle.finishing.specs.Finish.{finish}
+use Rattle.finishing.proofs.ScratchTestIff.{scratch-iff}
+use Rattle.finishing.proofs.FinishSwept.{swept-each}
+use Rattle.finishing.proofs.FinishEffect.{clear-right}
+use Rattle.requests.specs.Request.{FINISH}
+use Rattle.requests.specs.Changes.{MayChange}
+use Rattle.requests.proofs.ChangesWritten.{ChangesOnly, changes-nothing, changes-then, changes-settled, changes-cleared}
+
+pub finish-changes : (img : List ℕ) (caller : ℕ) → ChangesOnly (MayChange (FINISH caller) img) img (finish img caller .image)
+unfolding finish scratchKeys
+finish-changes img caller =
+    changes-settled (finishRows img) img [] _
+    (λ clear.
+    let right = clear-right clear in
+    swept-each caller (ChangesOnly (MayChange (FINISH caller) img) img) (slots (geometryOf img)) img refl right 0 (omega arith)
+    (λ i inside is mid done.
+    changes-then done
+    (changes-cleared mid (geometryOf img) i (λ j small. (i, (scratch-iff right caller i inside .0 is, (omega arith, omega arith))))))
+    changes-nothing)
