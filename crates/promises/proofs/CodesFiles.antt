@@ -1,4 +1,4 @@
--- Requests on a file that is there give each code in its case: LOOK, the opens, CLOSE, DELET, KEEP, RENAM, APPND; and the owner question.
+-- Requests on a file that is there give each code in its case: LOOK, the opens, CLOSE, DELET, KEEP, RENAM, APPND; and Finish and the owner question.
 use Prim.Native.Nat.{ℕ}
 use mathlib.Core.Path.{_≡_}
 use mathlib.Core.Logic.{_↔_}
@@ -31,9 +31,11 @@ use Rattle.directory.specs.KeepRows.{keepRows}
 use Rattle.directory.specs.Keep.{keep}
 use Rattle.directory.specs.RenamRows.{renamRows}
 use Rattle.directory.specs.Renam.{renam}
+use Rattle.finishing.specs.FinishRows.{finishRows}
+use Rattle.finishing.specs.Finish.{finish}
 use Rattle.appending.specs.AppndRows.{appndRows, nameRows, permitRows}
 use Rattle.appending.specs.Appnd.{appnd}
-use Rattle.requests.specs.Request.{OPEN, CLOSE, DELET, APPND, LOOK, KEEP, OWNER}
+use Rattle.requests.specs.Request.{OPEN, CLOSE, DELET, APPND, LOOK, KEEP, FINISH, OWNER}
 use Rattle.promises.specs.GivenWhen.{Case, behind, GivesCode}
 use Rattle.promises.specs.Codes.{LegalKey, Exists, NoMode, FileCases, RenamCases, casesOf}
 use Rattle.promises.proofs.GivenWhen.{fails, denied, rung, passed, clear}
@@ -61,6 +63,10 @@ file-behind own right legal good there rest = behind (denied right) (behind (den
 pub owner-code : (img : List ℕ) (block : ℕ) → GivesCode (casesOf (OWNER block) img) (owner img block .code)
 unfolding owner ownerRows settled
 owner-code img block = rung _ 0o40 _ (inconsistent img) (λ c. rung _ 0o44 _ (at-least (geometryOf img .blocks) block) (λ b. clear))
+
+pub finish-code : (img : List ℕ) (caller : ℕ) → GivesCode (casesOf (FINISH caller) img) (finish img caller .code)
+unfolding finish finishRows settled
+finish-code img caller = rung _ 0o40 _ (inconsistent img) (λ c. clear)
 
 pub look-code : (img : List ℕ) (key : Key) → GivesCode (casesOf (LOOK key) img) (look img key .code)
 unfolding look lookRows settled fileRows

@@ -52,6 +52,10 @@ use Rattle.room.specs.Room.{FreeRun}
 use Rattle.creation.proofs.FormatRows.{format-iff}
 use Rattle.creation.proofs.FormatEffect.{format-consistent, format-free}
 use Rattle.transfer.specs.Block.{blockIn}
+use Rattle.finishing.specs.Finish.{ScratchFrom, deletedAll, EachDeleted, finish}
+use Rattle.finishing.specs.ScratchTest.{scratchKeys}
+use Rattle.finishing.proofs.ScratchTestIff
+use Rattle.finishing.proofs.FinishEffect
 use Rattle.transfer.specs.LinkedRead.{linkedRead}
 use Rattle.adding.specs.LinkedAdd.{linkedAdd}
 use Rattle.lines.specs.LineWriting.{lineWrite, lineEnd}
@@ -229,6 +233,22 @@ module _ (img : List ℕ) (key : Key) (caller protect segments : ℕ) (clear : G
       → blockIn (readableImage img key caller protect segments reader) key reader place lent
       ≡ record { code = 0; numbers = []; image = readableImage img key caller protect segments reader; buffer = zeroBlock img })
   alloc-zeros = AllocZeros.alloc-zeros img key caller protect segments clear s room reader readable
+
+-- 02 §12: "Delete every file of the caller's UIC that has bit 7 clear, is not open, and that DELET would allow, in stored order, and return how many. The image must
+-- be the one those DELETs leave": one list has their keys in stored order; of no other list is it so; each DELET is done, and this is all that Finish comes to
+module _ {img : List ℕ} (right : Consistent img) (caller : ℕ) where
+  pub finish-listed : ScratchFrom img caller 0 (scratchKeys img caller)
+  finish-listed = ScratchTestIff.keys-listed right caller
+
+  pub finish-deletes : (keys : List Key) → ScratchFrom img caller 0 keys
+      → EachDeleted caller img keys
+      × (finish img caller ≡ record { code = 0; numbers = length keys ∷ []; image = deletedAll img caller keys; buffer = [] })
+  finish-deletes = FinishEffect.finish-deletes right caller
+
+-- "and a second Finish returns 0", by the same caller, nothing between; and it changes nothing
+pub finish-again : (img : List ℕ) (caller : ℕ) → finish img caller .code ≡ 0
+    → finish (finish img caller .image) caller ≡ record { code = 0; numbers = 0 ∷ []; image = finish img caller .image; buffer = [] }
+finish-again = FinishEffect.finish-again
 
 -- Format makes a consistent pack of any image, whose bodies are all free
 module _ (image : List ℕ) (form blocks contents : ℕ) (uics : List ℕ) (right : Formattable (length image) form blocks contents uics) where

@@ -27,7 +27,7 @@ use Rattle.directory.specs.Renam.{newKey}
 use Rattle.lines.specs.LineReading.{modeOf}
 use Rattle.lines.specs.LineWrite.{putAll, takenOf}
 use Rattle.requests.specs.Request.{Request, FORMAT, ALLOC, OPENO, OPEN, CLOSE, DELET, RENAM, APPND, LOOK, KEEP, BLOCK-INPUT, BLOCK-OUTPUT, LINKED-READ, LINKED-ADD}
-use Rattle.requests.specs.Request.{LINE-READ, LINE-WRITE, LINE-END, OWNER}
+use Rattle.requests.specs.Request.{LINE-READ, LINE-WRITE, LINE-END, FINISH, OWNER}
 use Rattle.promises.specs.GivenWhen.{Case, _when_}
 
 -- "A legal name is ..; an extension .."
@@ -196,5 +196,7 @@ casesOf (LINE-WRITE key caller mode text gather filled) img =
 -- "an ending call fills the last with NUL, or adds none at 0"
 casesOf (LINE-END key caller gather filled) img =
     AddingCases img key caller (OtherGather img gather filled) ++ 0o42 when ((0 < filled) × ((b : ℕ) → FreeBlock img b → ⊥)) ∷ []
+-- 02 §12: "Refusals: 40 only."
+casesOf (FINISH caller) img = 0o40 when (Consistent img → ⊥) ∷ []
 -- whose a block is: 40, and 44 where the pack has no such block (docs/DECISIONS.md 22)
 casesOf (OWNER block) img = 0o40 when (Consistent img → ⊥) ∷ 0o44 when (geometryOf img .blocks ≤ block) ∷ []
