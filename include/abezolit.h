@@ -228,17 +228,17 @@ abz_owner_answer abz_owner(const uint8_t *image, size_t image_len, size_t block)
  *   - another of the group, where caller / 256 is the file's UIC / 256, goes by bits 3 to 5, protect / 8 % 8;
  *   - anyone else goes by bits 0 to 2, protect % 8.
  * In these three bits 0 is read, write and delete; 1 is read and write; 2 and 3 are read; 4 to 7 are nothing. The group
- * may so be given less than all others. Bit 7 (0200) is no right: it marks a file for a host that clears away a user's
- * files when the user finishes. KEEP sets it, and no call goes by it.
+ * may so be given less than all others. Bit 7 (0200) is no right: it keeps a file at Finish. KEEP sets it, and no other
+ * call goes by it.
  *
  * Opens
  *
  * A pack says how often its files are open, but not by whom, and keeps that in the image until they are closed. A file
  * has one writer at most (word 9) and some readers (word 10), together 62 at most. It is open if it has either.
  *
- * Each call that follows is one request on one file, or two. It changes what is said at it and nothing else: the other
- * words of that entry, the other entries, the header and all bodies stay. So the blocks of a file that is deleted keep
- * their bytes.
+ * Each call that follows is one request on one file, or two; Finish is one on the caller's files. It changes what is said
+ * at it and nothing else: the other words of that entry, the other entries, the header and all bodies stay. So the
+ * blocks of a file that is deleted keep their bytes.
  */
 
 /* How a file can be open: its writer, and for CLOSE also a reader. */
@@ -319,6 +319,17 @@ size_t abz_delet(uint8_t *image, size_t image_len, size_t caller,
  */
 size_t abz_keep(uint8_t *image, size_t image_len, size_t caller,
                 size_t name1, size_t name2, size_t extension, size_t uic);
+
+/*
+ * Finish: deletes the scratch files of the caller, for a user who ends the day. They are all files of the caller's UIC
+ * that have bit 7 of their protect code clear, are not open, and that the caller may delete, so that bit 6 is clear too.
+ * The image is then as if DELET had been called for each of them, entry after entry; number is how many they are. All
+ * other files stay: those of other UICs, whatever they let the caller do, and those of the caller that are kept, are
+ * open, or have bit 6 set. So a second Finish by the same caller, with nothing between, has number 0 and changes
+ * nothing. Where caller is 0 or not in the pack's list there are no such files, and number is 0.
+ *   ABZ_INCONSISTENT
+ */
+abz_answer abz_finish(uint8_t *image, size_t image_len, size_t caller);
 
 /*
  * RENAM: gives a file a new name, extension and protect code. The owner stays, and so does all else. It cannot change

@@ -17,6 +17,7 @@ int command_delete(char **arguments);
 int command_rename(char **arguments);
 int command_append(char **arguments);
 int command_keep(char **arguments);
+int command_finish(char **arguments);
 
 /* Bytes of linked files */
 int command_put(char **arguments);

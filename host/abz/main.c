@@ -1,7 +1,7 @@
 /*
  * abz: the files of a pack, at the command line; and an example of a host of the service. How a host calls it is shown
- * in requests.c, transfer.c, text.c, reports.c and reading.c; the rest is what a program with files and arguments
- * needs.
+ * in requests.c, finish.c, transfer.c, text.c, reports.c and reading.c; the rest is what a program with files and
+ * arguments needs.
  */
 #include "commands.h"
 #include "files.h"
@@ -47,6 +47,10 @@ static const command commands[] = {
       "the SECOND is then gone" },
     { "keep", "PACK CALLER FILE", 3, 3, command_keep,
       "set 200 in a file's protect code: Finish does not delete it" },
+    { "finish", "[--dry-run] PACK CALLER", 2, 3, command_finish,
+      "delete the caller's files, but for those that are kept or open, or\n"
+      "have 100 in their protect code; lists them first, as list does, and\n"
+      "how many they are. With --dry-run it only lists them." },
     { "put", "PACK CALLER FILE HOSTFILE [PROTECT]", 4, 5, command_put,
       "make a linked file with the bytes of HOSTFILE. It has 510 bytes in\n"
       "each block; the last is filled up with NUL." },

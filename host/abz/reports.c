@@ -44,18 +44,6 @@ static size_t count_free(void)
     return count;
 }
 
-static void show_file(const contents_entry *file)
-{
-    show_name(file->name1, file->name2, file->extension);
-    printf(" %c ", file->kind == ABZ_LINKED ? 'L' : 'C');
-    show_count(file->length);
-    putchar(' ');
-    show_uic(file->uic);
-    putchar(' ');
-    show_octal(file->protect);
-    putchar('\n');
-}
-
 static void show_listing(void)
 {
     contents_entry file;

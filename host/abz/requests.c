@@ -16,7 +16,7 @@
 static pack_file pack;
 
 /* The end of a request that changes the pack. */
-static int finish(const char *command, size_t code)
+static int end_request(const char *command, size_t code)
 {
     if (code != ABZ_OK)
         return tell_refusal(command, code);
@@ -51,7 +51,7 @@ int command_format(char **arguments)
         return STATUS_USAGE;
     if (!pack_begin(&pack, arguments[0], blocks))
         return STATUS_FAILED;
-    return finish("format", abz_format(pack.image, pack.length, ABZ_FORM, blocks, contents, uics, length));
+    return end_request("format", abz_format(pack.image, pack.length, ABZ_FORM, blocks, contents, uics, length));
 }
 
 /* ---- Files ---- */
@@ -108,7 +108,7 @@ int command_alloc(char **arguments)
         if (!show_end()) /* before the pack is written: where abz fails, the pack is to be as it was */
             return STATUS_FAILED;
     }
-    return finish("alloc", answer.code);
+    return end_request("alloc", answer.code);
 }
 
 /* Requests that take a file and nothing else. */
@@ -124,7 +124,7 @@ static int request_on_file(const char *command, file_request *request, char **ar
         return STATUS_USAGE;
     if (!pack_take(&pack, arguments[0]))
         return STATUS_FAILED;
-    return finish(command, request(pack.image, pack.length, caller, FOUR(file)));
+    return end_request(command, request(pack.image, pack.length, caller, FOUR(file)));
 }
 
 int command_delete(char **arguments)
@@ -159,8 +159,8 @@ int command_rename(char **arguments)
         return STATUS_FAILED;
     if (arguments[4] == NULL)
         protect = present_protect(caller, old);
-    return finish("rename", abz_renam(pack.image, pack.length, caller, FOUR(old), new.name1, new.name2, new.extension,
-                                      protect));
+    return end_request("rename", abz_renam(pack.image, pack.length, caller, FOUR(old), new.name1, new.name2,
+                                           new.extension, protect));
 }
 
 int command_append(char **arguments)
@@ -172,7 +172,7 @@ int command_append(char **arguments)
         return STATUS_USAGE;
     if (!pack_take(&pack, arguments[0]))
         return STATUS_FAILED;
-    return finish("append", abz_appnd(pack.image, pack.length, caller, FOUR(first), FOUR(second)));
+    return end_request("append", abz_appnd(pack.image, pack.length, caller, FOUR(first), FOUR(second)));
 }
 
 int command_keep(char **arguments)

@@ -73,6 +73,18 @@ void show_word(size_t name1, size_t name2)
     show_characters(name, count);
 }
 
+void show_file(const contents_entry *file)
+{
+    show_name(file->name1, file->name2, file->extension);
+    printf(" %c ", file->kind == ABZ_LINKED ? 'L' : 'C');
+    show_count(file->length);
+    putchar(' ');
+    show_uic(file->uic);
+    putchar(' ');
+    show_octal(file->protect);
+    putchar('\n');
+}
+
 bool show_end(void)
 {
     if (fflush(stdout) == 0 && !ferror(stdout))

@@ -96,6 +96,14 @@ static void read_line(size_t caller, file_key key, const char *line, size_t *pos
     *position = answer.position;
 }
 
+static void end_day(size_t caller, size_t number)
+{
+    const abz_answer answer = abz_finish(image, PACK, caller);
+
+    DONE(answer.code);
+    CHECK_NUMBER(answer.number, number, "%s: files that Finish deleted", part);
+}
+
 /* ---- The day ---- */
 
 /* An empty pack, and a file that grows; none but its writer can use it before it is closed. */
@@ -283,7 +291,7 @@ static void reading_lines(void)
     REFUSED(abz_line_read(image, PACK, OTHER, FILE4(days), ABZ_NORMAL, 0, &byte, 1).code, ABZ_NOT_OPEN);
 }
 
-/* Everything is deleted, by its owner alone; what was written stays in the image. */
+/* Everything is deleted, by its owner alone, who finishes the day; what was written stays in the image. */
 static void night(void)
 {
     static uint8_t before[PACK];
@@ -299,9 +307,17 @@ static void night(void)
     shows("ss.....022200000", "BLOCKS 00016 FREE 00005\n"
                               "DAY   .LOG L 00006 [023,010] 001\n"
                               "FREQ  .DAT C 00003 [023,010] 203\n");
-    DONE(abz_delet(image, PACK, ME, FILE4(day)));
+    end_day(OTHER, 0);
+    shows(whose, text);
+    DONE_UNSEEN(abz_openi(image, PACK, ME, FILE4(day)));
+    end_day(ME, 0);
+    shows(whose, text);
+    DONE_UNSEEN(abz_close(image, PACK, ME, FILE4(day), ABZ_INPUT));
+    end_day(ME, 1);
     shows("ss......222.....", "BLOCKS 00016 FREE 00011\n"
                               "FREQ  .DAT C 00003 [023,010] 203\n");
+    end_day(ME, 0);
+    shows(whose, text);
     DONE(abz_delet(image, PACK, ME, FILE4(table)));
     shows("ss..............", "BLOCKS 00016 FREE 00014\n");
     CHECK_BYTES(image + 2 * BLOCK, before + 2 * BLOCK, PACK - 2 * BLOCK, "%s: bodies", part);

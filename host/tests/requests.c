@@ -1,4 +1,4 @@
-/* OPENI, OPENU, OPENE, CLOSE, DELET, KEEP, RENAM and APPND, held to requests.h. */
+/* OPENI, OPENU, OPENE, CLOSE, DELET, KEEP, RENAM, APPND and Finish, held to requests.h. */
 #include "requests.h"
 
 /* The header's names for the codes. */

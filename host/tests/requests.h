@@ -1,6 +1,6 @@
 /*
- * The requests on files as document 01 describes them, with nothing taken from the library, and the library held to
- * them. Codes are written as the numbers that the paper gives them.
+ * The requests on files as document 01 describes them, and Finish as 02 does (§12), with nothing taken from the library,
+ * and the library held to them. Codes are written as the numbers that the papers give them.
  */
 #ifndef REQUESTS_H
 #define REQUESTS_H
@@ -16,17 +16,20 @@ enum { GUARD = 16, ROOM = BLOCK * BLOCKS_MAX, CODES = 0100 };
 enum { BUFFER_ROOM = 65536 + BLOCK }; /* so that a size can be wrong in its high bits alone */
 enum { ME = 023 * 256 + 010, GROUP = 023 * 256 + 011, OTHER = 012 * 256 + 04 };
 
-/* From BLOCK_IN they move bodies and have a buffer, from ALLOC they create; those before need a file that is there. */
+/*
+ * From BLOCK_IN they move bodies and have a buffer, from ALLOC they create; those before need a file that is there, but
+ * for FINISH, which names none.
+ */
 enum {
-    OPENI, OPENU, OPENE, CLOSE, DELET, KEEP, RENAM, APPND,
+    OPENI, OPENU, OPENE, CLOSE, DELET, KEEP, RENAM, APPND, FINISH,
     BLOCK_IN, BLOCK_OUT, LINKED_READ, LINKED_ADD,
     ALLOC, OPENO,
     REQUESTS
 };
 
 static const char *const request_names[REQUESTS] = { "OPENI", "OPENU", "OPENE", "CLOSE", "DELET", "KEEP", "RENAM",
-                                                     "APPND", "BLOCK input", "BLOCK output", "linked read",
-                                                     "linked add", "ALLOC", "OPENO" };
+                                                     "APPND", "Finish", "BLOCK input", "BLOCK output",
+                                                     "linked read", "linked add", "ALLOC", "OPENO" };
 
 /* A request does not look at what it has no use for. second is APPND's second file and RENAM's new name. */
 typedef struct {
@@ -58,6 +61,7 @@ static const size_t possible[REQUESTS][11] = {
     [KEEP] = { 040, 015, 2, 6 },
     [RENAM] = { 040, 015, 041, 2, 6, 014 },
     [APPND] = { 040, 015, 041, 2, 6, 043, 014 },
+    [FINISH] = { 040 },
     [BLOCK_IN] = { 040, 015, 041, 2, 6, 043, 045, 044 },
     [BLOCK_OUT] = { 040, 015, 041, 2, 6, 043, 045, 044 },
     [LINKED_READ] = { 040, 015, 041, 2, 6, 043, 045, 044 },
@@ -154,6 +158,11 @@ static inline void lengthen(uint8_t *image, file it, const size_t *more, size_t 
     set_open(image, it.entry, it.writer, it.readers);
 }
 
+static inline void clear_entry(uint8_t *image, size_t entry)
+{
+    memset(image + 2 * entry_word(entry, 0), 0, 2 * ENTRY_WORDS);
+}
+
 static inline void join(uint8_t *image, file first, file second)
 {
     size_t blocks[BLOCKS_MAX];
@@ -161,7 +170,34 @@ static inline void join(uint8_t *image, file first, file second)
     for (size_t place = 0; place < second.length; place++)
         blocks[place] = block_at(image, second.entry, place);
     lengthen(image, first, blocks, second.length);
-    memset(image + 2 * entry_word(second.entry, 0), 0, 2 * ENTRY_WORDS);
+    clear_entry(image, second.entry);
+}
+
+/*
+ * "every file of the caller's UIC that has bit 7 clear, is not open, and that DELET would allow": the last is asked of
+ * the rights again.
+ */
+static inline bool is_scratch(const uint8_t *image, size_t entry, size_t caller)
+{
+    if (!used(image, entry))
+        return false;
+
+    const file it = file_of(image, entry_key(image, entry));
+
+    return it.uic == caller && !(it.protect & 0200) && opens(it) == 0 && rights(caller, it) >= MAY_DELETE;
+}
+
+/* Deletes them, in stored order, and returns how many. */
+static inline size_t finish(uint8_t *image, size_t caller)
+{
+    size_t number = 0;
+
+    for (size_t entry = 0; entry < entry_count(image); entry++)
+        if (is_scratch(image, entry, caller)) {
+            clear_entry(image, entry);
+            number++;
+        }
+    return number;
 }
 
 /* Where in the image a block of a file starts. */
@@ -243,6 +279,9 @@ static inline abz_answer model(uint8_t *image, size_t length, uint8_t *buffer, c
         cause[043] = one.kind == CONTIGUOUS || two.kind == CONTIGUOUS;
         cause[014] = opens(one) > 0 || opens(two) > 0;
         break;
+    case FINISH:
+        cause[015] = cause[2] = false;
+        break;
     case BLOCK_IN:
         cause[041] = it->buffer_len != BLOCK;
         cause[6] = may < MAY_READ;
@@ -304,7 +343,7 @@ static inline abz_answer model(uint8_t *image, size_t length, uint8_t *buffer, c
         else
             set_field(image, one.entry, WRITER, 0);
         break;
-    case DELET: memset(image + 2 * entry_word(one.entry, 0), 0, 2 * ENTRY_WORDS); break;
+    case DELET: clear_entry(image, one.entry); break;
     case KEEP: set_field(image, one.entry, PROTECT, one.protect | 0200); break;
     case RENAM:
         set_field(image, one.entry, NAME1, it->second.name1);
@@ -313,6 +352,7 @@ static inline abz_answer model(uint8_t *image, size_t length, uint8_t *buffer, c
         set_field(image, one.entry, PROTECT, it->protect);
         break;
     case APPND: join(image, one, two); break;
+    case FINISH: answer.number = finish(image, caller); break;
     case BLOCK_IN: memcpy(buffer, body(image, one, it->place), BLOCK); break;
     case BLOCK_OUT: memcpy(body(image, one, it->place), buffer, BLOCK); break;
     case LINKED_READ: memcpy(buffer, body(image, one, it->place) + 2, PAYLOAD); break;
@@ -357,6 +397,7 @@ static inline abz_answer call_library(uint8_t *image, size_t length, uint8_t *bu
                                 it->second.extension, it->protect);
         break;
     case APPND: answer.code = abz_appnd(image, length, caller, FILE4(it->file), FILE4(it->second)); break;
+    case FINISH: return abz_finish(image, length, caller);
     case BLOCK_IN:
         answer.code = abz_block_in(image, length, caller, FILE4(it->file), it->place, buffer, it->buffer_len);
         break;
