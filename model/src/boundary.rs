@@ -17,6 +17,7 @@ extern "C" {
     fn abz_appnd(image: *mut u8, image_len: usize, caller: usize, name1: usize, name2: usize, extension: usize, uic: usize, second_name1: usize, second_name2: usize, second_extension: usize, second_uic: usize) -> usize;
     fn abz_look(image: *const u8, image_len: usize, caller: usize, name1: usize, name2: usize, extension: usize, uic: usize) -> LookAnswer;
     fn abz_keep(image: *mut u8, image_len: usize, caller: usize, name1: usize, name2: usize, extension: usize, uic: usize) -> usize;
+    fn abz_finish(image: *mut u8, image_len: usize, caller: usize) -> Answer;
     fn abz_owner(image: *const u8, image_len: usize, block: usize) -> OwnerAnswer;
     fn abz_block_in(image: *const u8, image_len: usize, caller: usize, name1: usize, name2: usize, extension: usize, uic: usize, place: usize, buffer: *mut u8, buffer_len: usize) -> usize;
     fn abz_block_out(image: *mut u8, image_len: usize, caller: usize, name1: usize, name2: usize, extension: usize, uic: usize, place: usize, buffer: *const u8, buffer_len: usize) -> usize;
@@ -102,6 +103,10 @@ pub fn look(image: &[u8], caller: usize, file: File) -> LookAnswer {
 pub fn keep(image: &mut [u8], caller: usize, file: File) -> usize {
     let File { name1, name2, extension, uic } = file;
     unsafe { abz_keep(image.as_mut_ptr(), image.len(), caller, name1, name2, extension, uic) }
+}
+
+pub fn finish(image: &mut [u8], caller: usize) -> Answer {
+    unsafe { abz_finish(image.as_mut_ptr(), image.len(), caller) }
 }
 
 pub fn owner(image: &[u8], block: usize) -> OwnerAnswer {

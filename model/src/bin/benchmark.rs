@@ -33,6 +33,7 @@ const ROWS: &[(&str, Run)] = &[
     ("alloc-delet-500", alloc_delet_500),
     ("linked-add-until-full", linked_add_until_full),
     ("linked-read-last", linked_read_last),
+    ("finish-100", finish_100),
     ("line-read-start", line_read_start),
     ("line-read-end", line_read_end),
     ("line-write-60", line_write_60),
@@ -287,6 +288,29 @@ fn linked_read_last(way: Way, times: usize) -> Duration {
         {
             let buffer = black_box(&mut buffer);
             code(requests::linked_read(black_box(&image), OWNER, black_box(file), black_box(place), buffer))
+        }
+    )
+}
+
+/// Of the most files 100 are deleted and 28 are kept. Each turn begins with the contents as they were, which are copied.
+fn finish_100(way: Way, times: usize) -> Duration {
+    let mut image = formatted(MOST_BLOCKS, MOST_CONTENTS);
+    for number in 0..MOST_ENTRIES {
+        let protect = if number % 32 < 25 { 0 } else { 0o200 };
+        requests::alloc(&mut image, OWNER, file(number), protect, 16).expect("there is room");
+    }
+    let contents = image[..BLOCK_BYTES * (1 + MOST_CONTENTS)].to_vec();
+    assert_eq!(requests::finish(&mut image.clone(), OWNER), Ok(100));
+    timed!(
+        way,
+        times,
+        {
+            image[..contents.len()].copy_from_slice(&contents);
+            boundary::finish(black_box(&mut image), black_box(OWNER))
+        },
+        {
+            image[..contents.len()].copy_from_slice(&contents);
+            Answer::from(requests::finish(black_box(&mut image), black_box(OWNER)))
         }
     )
 }

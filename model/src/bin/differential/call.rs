@@ -23,7 +23,7 @@ pub enum Numbers {
     Ending { caller: usize, file: File, filled: usize },
     Rename { caller: usize, old: File, new: File, protect: usize },
     Append { caller: usize, first: File, second: File },
-    /// A block, or a number to be converted.
+    /// A block, a caller, or a number to be converted.
     One(usize),
     Side { side: usize, k: usize },
 }
@@ -108,6 +108,7 @@ impl Call {
             (R::Openu, N::File { caller, file }) => vec![boundary::openu(image, caller, file)],
             (R::Opene, N::File { caller, file }) => vec![boundary::opene(image, caller, file)],
             (R::Close, N::Mode { caller, file, mode }) => vec![boundary::close(image, caller, file, mode)],
+            (R::Finish, N::One(caller)) => number(boundary::finish(image, caller)),
             (R::Owner, N::One(block)) => owner(boundary::owner(image, block)),
             (R::BlockIn, N::Place { caller, file, place }) => vec![boundary::block_in(image, caller, file, place, buffer)],
             (R::BlockOut, N::Place { caller, file, place }) => vec![boundary::block_out(image, caller, file, place, buffer)],
@@ -146,6 +147,7 @@ impl Call {
             (R::Openu, N::File { caller, file }) => vec![code(requests::openu(image, caller, file))],
             (R::Opene, N::File { caller, file }) => vec![code(requests::opene(image, caller, file))],
             (R::Close, N::Mode { caller, file, mode }) => vec![code(requests::close(image, caller, file, mode))],
+            (R::Finish, N::One(caller)) => number(requests::finish(image, caller).into()),
             (R::Owner, N::One(block)) => owner(requests::owner(image, block).into()),
             (R::BlockIn, N::Place { caller, file, place }) => vec![code(requests::block_in(image, caller, file, place, buffer))],
             (R::BlockOut, N::Place { caller, file, place }) => vec![code(requests::block_out(image, caller, file, place, buffer))],

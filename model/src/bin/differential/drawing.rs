@@ -44,6 +44,7 @@ pub fn call(random: &mut Random, request: Request, image: &[u8]) -> Call {
             numbers_alone(on_file(random, request, seen))
         }
         Request::Close => numbers_alone(closing(random, seen)),
+        Request::Finish => numbers_alone(Numbers::One(finishing(random, seen))),
         Request::Owner => numbers_alone(Numbers::One(block(random, seen))),
         Request::BlockIn | Request::BlockOut | Request::LinkedRead | Request::LinkedAdd => {
             without_line(transferring(random, request, seen))
@@ -149,6 +150,11 @@ fn closing(random: &mut Random, seen: &Seen) -> Numbers {
     let (caller, file) = old_file(random, seen, |file| file.opens() != 0);
     let mode = if random.chance(1, 12) { random.pick(&[0, 5, 65537, 65540, 1 << 63]) } else { random.between(1, 4) };
     Numbers::Mode { caller, file, mode }
+}
+
+/// Who finishes: mostly someone who has a file that goes.
+fn finishing(random: &mut Random, seen: &Seen) -> usize {
+    old_file(random, seen, |file| file.opens() == 0 && file.protect & 0o300 == 0).0
 }
 
 /// A block of the pack, sometimes behind its end.

@@ -1,4 +1,4 @@
-//! The requests, and the codes that each can give, by the conditions of 01's table, and its statuses by 02, §1.
+//! The requests, and the codes that each can give, by the conditions of 01's table and of 02, and its statuses by 02, §1.
 
 #[derive(Clone, Copy, Debug, PartialEq, Eq)]
 pub enum Request {
@@ -22,6 +22,7 @@ pub enum Request {
     LineRead,
     LineWrite,
     LineEnd,
+    Finish,
     Radpk,
     Radup,
     D2bin,
@@ -54,6 +55,7 @@ pub const ALL: &[Request] = &[
     Request::LineRead,
     Request::LineWrite,
     Request::LineEnd,
+    Request::Finish,
     Request::Radpk,
     Request::Radup,
     Request::D2bin,
@@ -81,6 +83,7 @@ impl Request {
             Request::Opene => &[0, 0o40, 0o15, 0o2, 0o6, 0o5, 0o4, 0o3],
             Request::Close => &[0, 0o40, 0o15, 0o41, 0o2, 0o45],
             Request::Owner => &[0, 0o40, 0o44],
+            Request::Finish => &[0, 0o40],
             Request::BlockIn | Request::BlockOut | Request::LinkedRead | Request::LineRead => {
                 &[0, 0o40, 0o15, 0o41, 0o2, 0o6, 0o43, 0o45, 0o44]
             }
@@ -112,7 +115,7 @@ impl Request {
             Request::BlockIn | Request::BlockOut | Request::LinkedRead | Request::LinkedAdd => 6,
             Request::Delet | Request::Renam | Request::Appnd | Request::Close | Request::LineEnd => 5,
             Request::Csi1 | Request::Csi2 | Request::LineRead | Request::LineWrite => 10,
-            Request::Look | Request::Keep | Request::Owner => 3,
+            Request::Look | Request::Keep | Request::Owner | Request::Finish => 3,
             _ => 2,
         }
     }

@@ -1,4 +1,4 @@
-//! How often each code of each request was reached, and each status.
+//! How often each code of each request was reached, and each status; and how many files a Finish deleted.
 
 use crate::call::{Call, Said};
 use crate::request::{Request, ALL};
@@ -8,6 +8,7 @@ use std::collections::BTreeMap;
 pub struct Tally {
     codes: BTreeMap<(usize, usize), usize>,
     statuses: BTreeMap<(usize, usize, usize), usize>,
+    most_finished: usize,
 }
 
 fn index(request: Request) -> usize {
@@ -20,6 +21,9 @@ impl Tally {
         *self.codes.entry((request, answer[0])).or_default() += 1;
         if let Some((mode, status)) = call.status(answer) {
             *self.statuses.entry((request, mode, status)).or_default() += 1;
+        }
+        if call.request == Request::Finish {
+            self.most_finished = self.most_finished.max(answer[1]);
         }
     }
 
@@ -49,11 +53,15 @@ impl Tally {
                 println!();
             }
         }
+        println!("{:19}  most files of a Finish: {}", "", self.most_finished);
     }
 
     /// The codes and statuses that could be reached and were not.
     pub fn missed(&self) -> Vec<String> {
         let mut missed = Vec::new();
+        if self.most_finished < 2 {
+            missed.push(String::from("a Finish of several files"));
+        }
         for &request in ALL {
             for &code in request.codes().iter().filter(|&&code| self.times(request, code) == 0) {
                 missed.push(format!("{code:02o} of {request:?}"));
