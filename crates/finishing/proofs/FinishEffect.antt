@@ -3,6 +3,7 @@ use Prim.Native.Nat.{ℕ, _+_, _<_}
 use mathlib.Core.Path.{_≡_, refl, sym, ap, subst, _∙_}
 use mathlib.Core.Bool.{Bool, true, false, not}
 use mathlib.Core.List.{List, [], _∷_}
+use mathlib.Core.Option.{none}
 use native.Mathlib.Omega.{arith}
 use native.Mathlib.Decide.{ℕ-discrete}
 use lib.ListN.{length}
@@ -10,6 +11,7 @@ use borrow.Author.Tests.{not-false}
 use Rattle.answers.specs.Refusals.{firstOf, tableOrder, inOrder}
 use Rattle.answers.proofs.Refusals.{none-given, pass, clear}
 use Rattle.answers.proofs.RefusalsTests.{true-not-false}
+use Rattle.pack.specs.declared.Entry.{Entry}
 use Rattle.pack.specs.declared.Geometry.{Geometry}
 use Rattle.pack.specs.declared.Key.{Key}
 use Rattle.pack.specs.declared.Owner.the-variants.{Free}
@@ -21,9 +23,12 @@ use Rattle.pack.specs.Entry.{entryWord, entryOf, blocksAt, Empty}
 use Rattle.pack.specs.Consistent.{Consistent}
 use Rattle.pack.specs.Owner.{ownerOf}
 use Rattle.pack.specs.Untouched.{Untouched}
+use Rattle.pack.proofs.KeySame.{same-back}
 use Rattle.consistency.specs.ConsistentTest.{consistent}
 use Rattle.consistency.proofs.ConsistentTestIff.{consistent-iff}
+use Rattle.asking.specs.KeysTest.{legalKey, found}
 use Rattle.asking.specs.Outcome.{Outcome, Unchanged}
+use Rattle.asking.proofs.Keys.{absent-iff, not-empty}
 use Rattle.asking.proofs.Outcome.{code-is, settled-success, refusal-keeps}
 use Rattle.frame.proofs.ConsistentAlike.{unlike}
 use Rattle.frame.proofs.FramedStays.{geometry-framed}
@@ -34,9 +39,9 @@ use Rattle.finishing.specs.FinishRows.{finishRows}
 use Rattle.finishing.specs.Finish.{Scratch, ScratchFrom, deletedAll, EachDeleted, finish}
 use Rattle.finishing.specs.Spared.{Spared}
 use Rattle.finishing.proofs.ScratchTestPasses.{no-file, scratch-passes}
-use Rattle.finishing.proofs.ScratchTestDelet.{empty-name, named-used}
+use Rattle.finishing.proofs.ScratchTestDelet.{empty-name, used-name, named-used, used-legal}
 use Rattle.finishing.proofs.ScratchTestIff.{scratch-iff, keys-listed, keys-single}
-use Rattle.finishing.proofs.ScratchTestPlain.{scratch-unspared}
+use Rattle.finishing.proofs.Spared.{scratch-unspared}
 use Rattle.finishing.proofs.FinishKeys.{keys-none}
 use Rattle.finishing.proofs.FinishSwept.{Swept, swept}
 use Rattle.finishing.proofs.FinishSweptOwners.{swept-framed, swept-free, swept-owner}
@@ -52,7 +57,7 @@ right-clear {img} right = pass 0o40 [] (ap not (consistent-iff img .1 right)) �
 
 pub clear-right : {img : List ℕ} → firstOf (finishRows img) ≡ 0 → Consistent img
 unfolding finishRows
-clear-right {img} none = consistent-iff img .0 (not-false _ (none-given (not (consistent img)) 0o40 [] (λ is. omega (arith, is)) none .0))
+clear-right {img} passed = consistent-iff img .0 (not-false _ (none-given (not (consistent img)) 0o40 [] (λ is. omega (arith, is)) passed .0))
 
 pub finish-refused : (img : List ℕ) (caller : ℕ) → (finish img caller .code ≡ 0 → ⊥) → Unchanged (finish img caller) (0 ∷ []) img []
 unfolding finish
@@ -92,6 +97,29 @@ module _ {img : List ℕ} (right : Consistent img) (caller : ℕ) where
       → (i : ℕ) → i < 16 → entryWord (finish img caller .image) (geometryOf img) e i ≡ entryWord img (geometryOf img) e i
   finish-words e inside never =
       after-swept .kept .entries e inside (λ behind. never (scratch-iff right caller e inside .0 (behind .is)))
+
+  -- no entry has their names any more
+  pub finish-absent : (e : ℕ) → Scratch img caller e → found (finish img caller .image) (keyIn (entryOf img (geometryOf img) e)) ≡ none
+  finish-absent e s =
+      absent-iff (after-swept .right) (keyIn (entryOf img (geometryOf img) e)) legal .1
+      (subst (λ (h : Geometry). (i : ℕ) → i < slots h → SameKey (keyIn (entryOf (finish img caller .image) h i)) (keyIn (entryOf img (geometryOf img) e)) → ⊥)
+      (sym finish-measures) (λ i within keyed. by i within keyed (isScratch caller (entryOf img (geometryOf img) i)) refl))
+    where
+      legal : legalKey (keyIn (entryOf img (geometryOf img) e)) ≡ true
+      legal =
+          let entry = right .entries e (s .inside) in
+          used-legal refl right e (s .inside) (named-used img (geometryOf img) e entry (used-name img (geometryOf img) e entry (s .file)))
+
+      by : (i : ℕ) → i < slots (geometryOf img) → SameKey (keyIn (entryOf (finish img caller .image) (geometryOf img) i)) (keyIn (entryOf img (geometryOf img) e))
+          → (test : Bool) → isScratch caller (entryOf img (geometryOf img) i) ≡ test → ⊥
+      by i within keyed true is =
+          not-empty (finish img caller .image) (geometryOf img) (keyIn (entryOf img (geometryOf img) e)) i legal keyed
+          (after-swept .emptied i (omega arith) (omega (arith, within)) is)
+      by i within keyed false not =
+          let same = entry-kept (after-swept .kept) i within (λ behind. true-not-false (sym (behind .is) ∙ not)) in
+          unlike img (geometryOf img) refl right e i (s .inside) within
+          (λ equal. true-not-false (sym (scratch-iff right caller e (s .inside) .1 s) ∙ (ap (λ (j : ℕ). isScratch caller (entryOf img (geometryOf img) j)) equal ∙ not)))
+          (s .file) (same-back (subst (λ (x : Entry). SameKey (keyIn x) (keyIn (entryOf img (geometryOf img) e))) same keyed))
 
   -- their blocks are free, and no other block changes hands
   pub finish-frees : (e : ℕ) → Scratch img caller e → (b : ℕ) → 0 < count b (blocksAt img (geometryOf img) e) → ownerOf (finish img caller .image) b ≡ Free

@@ -2,7 +2,7 @@
 pub mod ScratchTestPasses
 pub mod ScratchTestDelet
 pub mod ScratchTestIff
-pub mod ScratchTestPlain
+pub mod Spared
 pub mod FinishKeys
 pub mod FinishSwept
 pub mod FinishSweptOwners

@@ -1,4 +1,4 @@
--- Means: is the file of an entry one that Finish removes, and the keys of those that are, in stored order; `scratch-iff` and `keys-listed` (proofs/Scratch*.antt)
+-- Means: is the file of an entry one that Finish removes, and the keys of those that are, in stored order; `scratch-iff` and `keys-listed` (proofs/ScratchTestIff.antt)
 -- tie them to `Scratch` and `ScratchFrom`.
 use Prim.Native.Nat.{ℕ, suc, zero, _+_, _/_, _%_}
 use mathlib.Core.Bool.{Bool, cond, not, _&&_}

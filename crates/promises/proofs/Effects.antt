@@ -23,10 +23,11 @@ pub use Rattle.transfer.proofs.BlockAgain.{block-again}
 pub use Rattle.room.proofs.Cleared.{taken-cleared}
 -- linked add: the highest free block, joined at the end, its payload behind the others
 pub use Rattle.adding.proofs.LinkedAddEffect.{add-highest, add-blocks, add-payloads}
--- Finish, document 02 §12 (`finish-listed`, `finish-deletes`, `finish-again`: Main.antt). Exactly the scratch files are gone and every other entry has its words; their
--- blocks are free and no other changes hands; every other file has its words and bytes: another's, kept, open, with bit 6 set, and these are all that is spared
-pub use Rattle.finishing.proofs.FinishEffect.{finish-gone, finish-words, finish-frees, finish-owner, finish-leaves, finish-spares}
-pub use Rattle.finishing.proofs.ScratchTestPlain.{spared-iff}
+-- Finish, document 02 §12 (`finish-listed`, `finish-deletes`, `finish-again`: Main.antt). Exactly the scratch files are gone, every other entry has its
+-- words, and no entry has their names; their blocks are free and no other changes hands; every other file has its words and bytes: another's, kept,
+-- open, with bit 6 set, and these are all that is spared
+pub use Rattle.finishing.proofs.FinishEffect.{finish-gone, finish-words, finish-absent, finish-frees, finish-owner, finish-leaves, finish-spares}
+pub use Rattle.finishing.proofs.Spared.{spared-iff}
 -- a caller in no list, and 0: nothing is deleted, on any image
 pub use Rattle.finishing.proofs.FinishEffect.{finish-nobody, finish-zero}
 -- lines, document 02 §1. Reading: from the position on, one of three results; what is laid, counted and passed; to the end of the file, call after call
