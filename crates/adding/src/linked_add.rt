@@ -72,7 +72,7 @@ fn write_last_block(img: &mut [u8], g: Geometry, b: BlockNo, payload: &[u8])
 }
 
 // One block more for the file of entry e, in an image that was judged before.
-pub fn add_block(img: &mut [u8], g: Geometry, e: usize, b: BlockNo, payload: &[u8])
+fn add_block(img: &mut [u8], g: Geometry, e: usize, b: BlockNo, payload: &[u8])
     requires { ⌜ Addable (now img) g e (b .0) (now payload) ⌝ }
     ensures { λ r. ⌜ now (img .exit) ≡ added (now (img .entry)) g e (entryOf (now (img .entry)) g e) (b .0) (now (payload .entry)) ⌝ }
 {

@@ -3,7 +3,7 @@ use Prim.Native.Nat.{ℕ, suc, _<_}
 use mathlib.Core.Path.{_≡_, sym, _∙_}
 use mathlib.Core.Bool.{Bool, true, false, false≢true}
 use mathlib.Core.List.{List, [], _∷_}
-use Rattle.lines.specs.TextBytes.{cleared, isDiscarded, isTerminator, keptOf, through, anyOf}
+use Rattle.lines.specs.TextBytes.{sevenBits, isDiscarded, isTerminator, keptOf, through, anyOf}
 use Rattle.lines.specs.LineRead.{linePassed, keptLine, isTerminated}
 use native.Mathlib.Omega.{arith}
 use lib.ListN.{length}
@@ -16,16 +16,16 @@ pub record Behind (x : ℕ) (s : List ℕ) (passed : ℕ) (line : List ℕ) (ter
   pub terminated-is : isTerminated (x ∷ s) ≡ terminated
 
 module _ (x : ℕ) (s : List ℕ) where
-  pub behind-discarded : isDiscarded (cleared x) ≡ true → isTerminator (cleared x) ≡ false → Behind x s (linePassed s) (keptLine s) (isTerminated s)
+  pub behind-discarded : isDiscarded (sevenBits x) ≡ true → isTerminator (sevenBits x) ≡ false → Behind x s (linePassed s) (keptLine s) (isTerminated s)
   unfolding keptOf through anyOf
   behind-discarded d t = record { passed-is = rw t; line-is = rw (t, d); terminated-is = rw t }
 
-  pub behind-plain : isDiscarded (cleared x) ≡ false → isTerminator (cleared x) ≡ false
-      → Behind x s (linePassed s) (cleared x ∷ keptLine s) (isTerminated s)
+  pub behind-plain : isDiscarded (sevenBits x) ≡ false → isTerminator (sevenBits x) ≡ false
+      → Behind x s (linePassed s) (sevenBits x ∷ keptLine s) (isTerminated s)
   unfolding keptOf through anyOf
   behind-plain d t = record { passed-is = rw t; line-is = rw (t, d); terminated-is = rw t }
 
-  pub behind-end : isDiscarded (cleared x) ≡ false → isTerminator (cleared x) ≡ true → Behind x s 0 (cleared x ∷ []) true
+  pub behind-end : isDiscarded (sevenBits x) ≡ false → isTerminator (sevenBits x) ≡ true → Behind x s 0 (sevenBits x ∷ []) true
   unfolding keptOf through anyOf
   behind-end d t = record { passed-is = rw t; line-is = rw (t, d); terminated-is = rw t }
 

@@ -8,7 +8,7 @@ use lib.Dec.{leb·suc-suc, eqb·suc-suc}
 use lib.ListN.{length}
 use Rattle.lines.specs.declared.LineMode.{LineMode}
 use Rattle.lines.specs.declared.LineMode.the-variants.{Normal, Special}
-use Rattle.lines.specs.TextBytes.{cleared, isDiscarded, isTerminator}
+use Rattle.lines.specs.TextBytes.{sevenBits, isDiscarded, isTerminator}
 use Rattle.lines.specs.LineRead.{LineFound, linePassed, keptLine, isTerminated, isOver, passedFor, wholeLine, surplusLaid, stopped, lineFound}
 use Rattle.lines.proofs.LineReadBytes.{Behind, behind-discarded, behind-plain, behind-end, terminated-some}
 use Rattle.lines.proofs.LineReadCases.{ReadCase, whole, surplus, stop, found-case}
@@ -29,16 +29,16 @@ one-laid true y f g = refl
 one-laid false y f g = refl
 
 module _ (x : ℕ) (s : List ℕ) where
-  passed-for-discarded : (k : ℕ) → 0 < k → isDiscarded (cleared x) ≡ true → passedFor k (x ∷ s) ≡ suc (passedFor k s)
+  passed-for-discarded : (k : ℕ) → 0 < k → isDiscarded (sevenBits x) ≡ true → passedFor k (x ∷ s) ≡ suc (passedFor k s)
   unfolding passedFor
   passed-for-discarded zero some d = absurd (omega arith)
   passed-for-discarded (suc k) some d = rw d
 
-  passed-for-kept : (k : ℕ) → isDiscarded (cleared x) ≡ false → passedFor (suc k) (x ∷ s) ≡ suc (passedFor k s)
+  passed-for-kept : (k : ℕ) → isDiscarded (sevenBits x) ≡ false → passedFor (suc k) (x ∷ s) ≡ suc (passedFor k s)
   unfolding passedFor
   passed-for-kept k d = rw d
 
-  pub found-discarded : (mode : LineMode) (most : ℕ) → 0 < most → isDiscarded (cleared x) ≡ true → isTerminator (cleared x) ≡ false
+  pub found-discarded : (mode : LineMode) (most : ℕ) → 0 < most → isDiscarded (sevenBits x) ≡ true → isTerminator (sevenBits x) ≡ false
       → lineFound mode most (x ∷ s) ≡ onePassed (lineFound mode most s)
   unfolding lineFound
   found-discarded Normal most some d t =
@@ -48,23 +48,23 @@ module _ (x : ℕ) (s : List ℕ) where
       let b = behind-discarded x s d t in
       rw (b .line-is, b .terminated-is, b .passed-is, passed-for-discarded most some d) (one-passed (isOver most s) (stopped most s) (wholeLine s))
 
-  pub found-end : (mode : LineMode) (most : ℕ) → 0 < most → isDiscarded (cleared x) ≡ false → isTerminator (cleared x) ≡ true
-      → lineFound mode most (x ∷ s) ≡ record { laid = cleared x ∷ []; count = 1; status = 0; passed = 1 }
+  pub found-end : (mode : LineMode) (most : ℕ) → 0 < most → isDiscarded (sevenBits x) ≡ false → isTerminator (sevenBits x) ≡ true
+      → lineFound mode most (x ∷ s) ≡ record { laid = sevenBits x ∷ []; count = 1; status = 0; passed = 1 }
   found-end mode most some d t = by (found-case mode most (x ∷ s))
     where
-      b : Behind x s 0 (cleared x ∷ []) true
+      b : Behind x s 0 (sevenBits x ∷ []) true
       b = behind-end x s d t
 
-      by : {m : LineMode} {f : LineFound} → ReadCase most (x ∷ s) m f → f ≡ record { laid = cleared x ∷ []; count = 1; status = 0; passed = 1 }
+      by : {m : LineMode} {f : LineFound} → ReadCase most (x ∷ s) m f → f ≡ record { laid = sevenBits x ∷ []; count = 1; status = 0; passed = 1 }
       by (whole short unended) = rw (b .line-is, b .terminated-is, b .passed-is)
       by (surplus long ended) = absurd (omega (arith, rw (b .line-is) at (ended (b .terminated-is))))
       by (stop long ended) = absurd (omega (arith, rw (b .line-is) at (ended (b .terminated-is))))
 
-  module _ (d : isDiscarded (cleared x) ≡ false) (t : isTerminator (cleared x) ≡ false) where
-    pub special-full : lineFound Special 1 (x ∷ s) ≡ record { laid = cleared x ∷ []; count = 1; status = 1; passed = 1 }
+  module _ (d : isDiscarded (sevenBits x) ≡ false) (t : isTerminator (sevenBits x) ≡ false) where
+    pub special-full : lineFound Special 1 (x ∷ s) ≡ record { laid = sevenBits x ∷ []; count = 1; status = 1; passed = 1 }
     special-full = by (found-case Special 1 (x ∷ s))
       where
-        b : Behind x s (linePassed s) (cleared x ∷ keptLine s) (isTerminated s)
+        b : Behind x s (linePassed s) (sevenBits x ∷ keptLine s) (isTerminated s)
         b = behind-plain x s d t
 
         long-is : length (keptLine (x ∷ s)) ≡ suc (length (keptLine s))
@@ -75,12 +75,12 @@ module _ (x : ℕ) (s : List ℕ) where
         never true is short unended = omega (arith, long-is, terminated-some s is)
         never false is short unended = omega (arith, long-is, unended (b .terminated-is ∙ is))
 
-        by : {f : LineFound} → ReadCase 1 (x ∷ s) Special f → f ≡ record { laid = cleared x ∷ []; count = 1; status = 1; passed = 1 }
+        by : {f : LineFound} → ReadCase 1 (x ∷ s) Special f → f ≡ record { laid = sevenBits x ∷ []; count = 1; status = 1; passed = 1 }
         by (whole short unended) = absurd (never (isTerminated s) refl short unended)
         by (stop long ended) = rw (b .line-is, passed-for-kept 0 d) (unfold passedFor in refl)
 
-    pub special-plain : (k : ℕ) → lineFound Special (suc (suc k)) (x ∷ s) ≡ oneLaid (cleared x) (lineFound Special (suc k) s)
+    pub special-plain : (k : ℕ) → lineFound Special (suc (suc k)) (x ∷ s) ≡ oneLaid (sevenBits x) (lineFound Special (suc k) s)
     unfolding lineFound
     special-plain k =
         let b = behind-plain x s d t in
-        rw (b .line-is, b .terminated-is, b .passed-is, passed-for-kept (suc k) d, leb·suc-suc, eqb·suc-suc) (one-laid (isOver (suc k) s) (cleared x) (stopped (suc k) s) (wholeLine s))
+        rw (b .line-is, b .terminated-is, b .passed-is, passed-for-kept (suc k) d, leb·suc-suc, eqb·suc-suc) (one-laid (isOver (suc k) s) (sevenBits x) (stopped (suc k) s) (wholeLine s))

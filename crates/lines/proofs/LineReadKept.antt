@@ -7,7 +7,7 @@ use lib.ListN.{length, take, drop, take-append-drop}
 use lib.Seq.{take-append-le}
 use Rattle.lines.specs.declared.LineMode.{LineMode}
 use Rattle.lines.specs.declared.LineMode.the-variants.{Normal, Special}
-use Rattle.lines.specs.TextBytes.{cleared, isDiscarded, keptOf}
+use Rattle.lines.specs.TextBytes.{sevenBits, isDiscarded, keptOf}
 use Rattle.lines.specs.LineRead.{LineFound, linePassed, keptLine, passedFor, lineFound}
 use Rattle.lines.proofs.TextBytes.{kept-append}
 use Rattle.lines.proofs.LineReadCases.{ReadCase, whole, surplus, stop, found-case}
@@ -21,10 +21,10 @@ kept-first : (k : ℕ) (s : List ℕ) → take k (keptOf s) ≡ keptOf (take (pa
 unfolding keptOf passedFor
 kept-first zero s = refl
 kept-first (suc k) [] = refl
-kept-first (suc k) (x ∷ s) = by (isDiscarded (cleared x)) refl (kept-first (suc k) s) (kept-first k s)
+kept-first (suc k) (x ∷ s) = by (isDiscarded (sevenBits x)) refl (kept-first (suc k) s) (kept-first k s)
   where
-    by : (b : Bool) → isDiscarded (cleared x) ≡ b → take (suc k) (keptOf s) ≡ keptOf (take (passedFor (suc k) s) s) → take k (keptOf s) ≡ keptOf (take (passedFor k s) s)
-        → take (suc k) (cond b (keptOf s) (cleared x ∷ keptOf s)) ≡ keptOf (take (suc (cond b (passedFor (suc k) s) (passedFor k s))) (x ∷ s))
+    by : (b : Bool) → isDiscarded (sevenBits x) ≡ b → take (suc k) (keptOf s) ≡ keptOf (take (passedFor (suc k) s) s) → take k (keptOf s) ≡ keptOf (take (passedFor k s) s)
+        → take (suc k) (cond b (keptOf s) (sevenBits x ∷ keptOf s)) ≡ keptOf (take (suc (cond b (passedFor (suc k) s) (passedFor k s))) (x ∷ s))
     by true d same less = rw d same
     by false d same less = rw (d, less)
 

@@ -9,7 +9,7 @@ use lib.ListN.{length, take, getD, length-take, length-append}
 use borrow.Author.Tests.{leb-true, leb-false}
 use Rattle.lines.specs.declared.LineMode.{LineMode}
 use Rattle.lines.specs.declared.LineMode.the-variants.{Normal, Special}
-use Rattle.lines.specs.TextBytes.{cleared, isDiscarded, keptOf, through, anyOf}
+use Rattle.lines.specs.TextBytes.{sevenBits, isDiscarded, keptOf, through, anyOf}
 use Rattle.lines.specs.LineRead.{LineFound, endsLine, keptLine, passedFor, overlaid, lineFound}
 use Rattle.lines.proofs.TextBytes.{through-most, through-some}
 use Rattle.lines.proofs.LineReadCases.{ReadCase, whole, surplus, stop, found-case}
@@ -18,7 +18,7 @@ passed-for-most : (k : ℕ) (s : List ℕ) → passedFor k s ≤ length s
 unfolding passedFor
 passed-for-most zero s = omega arith
 passed-for-most (suc k) [] = omega arith
-passed-for-most (suc k) (x ∷ s) = by (isDiscarded (cleared x)) (passed-for-most (suc k) s) (passed-for-most k s)
+passed-for-most (suc k) (x ∷ s) = by (isDiscarded (sevenBits x)) (passed-for-most (suc k) s) (passed-for-most k s)
   where
     by : (discarded : Bool) → passedFor (suc k) s ≤ length s → passedFor k s ≤ length s
         → suc (cond discarded (passedFor (suc k) s) (passedFor k s)) ≤ suc (length s)

@@ -10,7 +10,7 @@ use lib.ListN.{length, drop, replicate, length-append, length-replicate, replica
 use lib.Seq.{drop-append-add}
 use borrow.Author.Tests.{eqb-true, eqb-false}
 use Rattle.lines.specs.declared.LineMode.{LineMode}
-use Rattle.lines.specs.TextBytes.{cleared, isDiscarded, isTerminator}
+use Rattle.lines.specs.TextBytes.{sevenBits, isDiscarded, isTerminator}
 use Rattle.lines.specs.LineRead.{LineFound, linePassed, keptLine, isTerminated, wholeLine, lineFound}
 use Rattle.lines.specs.LineWrite.{putOf, putAll}
 use Rattle.lines.specs.LineRoundTrip.{PlainText, nothing, character, terminated, TextLines, no-line, one-more, ReadBack, at-end, one-read, nulsAfter}
@@ -46,7 +46,7 @@ tab-in-front text s i =
       terminated-is = rw (tab .terminated-is, rubout .terminated-is) (i .terminated-is);
     }
 
-alone-in-front : (x : ℕ) (text s : List ℕ) → putOf x ≡ x ∷ [] → cleared x ≡ x → isDiscarded x ≡ false → isTerminator x ≡ false → InFront text s
+alone-in-front : (x : ℕ) (text s : List ℕ) → putOf x ≡ x ∷ [] → sevenBits x ≡ x → isDiscarded x ≡ false → isTerminator x ≡ false → InFront text s
     → InFront (x ∷ text) s
 unfolding putAll
 alone-in-front x text s alone same kept plain i =
@@ -69,10 +69,10 @@ plain-in-front (character {x} {text} low kept plain rest) s = by (eqb x 9) refl 
     by false is i = alone-in-front x text s (put-alone x (eqb-false x 9 is) feed) (omega arith) kept plain i
 
 -- a terminator is a 7-bit character that is kept
-terminator-kept : (t : ℕ) → isTerminator t ≡ true → (cleared t ≡ t) × (isDiscarded t ≡ false)
+terminator-kept : (t : ℕ) → isTerminator t ≡ true → (sevenBits t ≡ t) × (isDiscarded t ≡ false)
 terminator-kept t ends = by (eqb t 10) (eqb t 11) (eqb t 12) refl refl refl ends
   where
-    by : (feed tab form : Bool) → eqb t 10 ≡ feed → eqb t 11 ≡ tab → eqb t 12 ≡ form → (feed || (tab || form)) ≡ true → (cleared t ≡ t) × (isDiscarded t ≡ false)
+    by : (feed tab form : Bool) → eqb t 10 ≡ feed → eqb t 11 ≡ tab → eqb t 12 ≡ form → (feed || (tab || form)) ≡ true → (sevenBits t ≡ t) × (isDiscarded t ≡ false)
     by true tab form l v f is = rw (eqb-true t 10 l) (refl, refl)
     by false true form l v f is = rw (eqb-true t 11 v) (refl, refl)
     by false false true l v f is = rw (eqb-true t 12 f) (refl, refl)

@@ -8,32 +8,32 @@ use lib.Dec.{leb, ltb}
 use lib.ListN.{length, drop, getD, set, drop-of-length-le}
 use lib.Seq.{drop-cons}
 use Rattle.lines.specs.declared.LineMode.{LineMode}
-use Rattle.lines.specs.TextBytes.{cleared, isDiscarded, isTerminator}
+use Rattle.lines.specs.TextBytes.{sevenBits, isDiscarded, isTerminator}
 use Rattle.lines.specs.LineRead.{statusBit}
 use Rattle.lines.specs.LineSteps.{isSpecial, laidOver, readFrom, readOnFrom, atEnd}
 use Rattle.lines.proofs.TextBytes.{ByteKind, discarded, ends, plain, kind-of}
 
 -- of the first byte
 module _ (mode : LineMode) (most : ℕ) (buffer : List ℕ) (count passed x : ℕ) (s : List ℕ) where
-  pub first-discarded : isDiscarded (cleared x) ≡ true → readFrom mode most buffer count passed (x ∷ s) ≡ readFrom mode most buffer count (passed + 1) s
+  pub first-discarded : isDiscarded (sevenBits x) ≡ true → readFrom mode most buffer count passed (x ∷ s) ≡ readFrom mode most buffer count (passed + 1) s
   unfolding readFrom
   first-discarded d = rw d
 
-  pub first-ends : isDiscarded (cleared x) ≡ false → isTerminator (cleared x) ≡ true
+  pub first-ends : isDiscarded (sevenBits x) ≡ false → isTerminator (sevenBits x) ≡ true
       → readFrom mode most buffer count passed (x ∷ s)
-      ≡ record { buffer = laidOver most buffer count (cleared x); count = count + 1; status = statusBit (ltb most (count + 1)) 1; passed = passed + 1; ended = true }
+      ≡ record { buffer = laidOver most buffer count (sevenBits x); count = count + 1; status = statusBit (ltb most (count + 1)) 1; passed = passed + 1; ended = true }
   unfolding readFrom
   first-ends d t = rw (d, t)
 
-  module _ (d : isDiscarded (cleared x) ≡ false) (t : isTerminator (cleared x) ≡ false) where
+  module _ (d : isDiscarded (sevenBits x) ≡ false) (t : isTerminator (sevenBits x) ≡ false) where
     pub first-full : (isSpecial mode && leb most (count + 1)) ≡ true
         → readFrom mode most buffer count passed (x ∷ s)
-        ≡ record { buffer = laidOver most buffer count (cleared x); count = count + 1; status = 1; passed = passed + 1; ended = true }
+        ≡ record { buffer = laidOver most buffer count (sevenBits x); count = count + 1; status = 1; passed = passed + 1; ended = true }
     unfolding readFrom
     first-full f = rw (d, t, f)
 
     pub first-plain : (isSpecial mode && leb most (count + 1)) ≡ false
-        → readFrom mode most buffer count passed (x ∷ s) ≡ readFrom mode most (laidOver most buffer count (cleared x)) (count + 1) (passed + 1) s
+        → readFrom mode most buffer count passed (x ∷ s) ≡ readFrom mode most (laidOver most buffer count (sevenBits x)) (count + 1) (passed + 1) s
     unfolding readFrom
     first-plain f = rw (d, t, f)
 
@@ -48,13 +48,13 @@ read-parts mode most buffer count passed (x ∷ s) t =
     (isSpecial mode && leb most (count + 1))
     refl
     (read-parts mode most buffer count (passed + 1) s t)
-    (read-parts mode most (laidOver most buffer count (cleared x)) (count + 1) (passed + 1) s t)
+    (read-parts mode most (laidOver most buffer count (sevenBits x)) (count + 1) (passed + 1) s t)
   where
     Parts : List ℕ → ℕ → ℕ → List ℕ → Type 0
     Parts b c p l = readFrom mode most b c p (l ++ t) ≡ readOnFrom mode most (readFrom mode most b c p l) t
 
     by : ByteKind x → (full : Bool) → (isSpecial mode && leb most (count + 1)) ≡ full → Parts buffer count (passed + 1) s
-        → Parts (laidOver most buffer count (cleared x)) (count + 1) (passed + 1) s → Parts buffer count passed (x ∷ s)
+        → Parts (laidOver most buffer count (sevenBits x)) (count + 1) (passed + 1) s → Parts buffer count passed (x ∷ s)
     by (discarded d e) full f passing laying =
         rw (first-discarded mode most buffer count passed x (s ++ t) d, first-discarded mode most buffer count passed x s d) passing
     by (ends d e) full f passing laying =
@@ -96,23 +96,23 @@ module _ (mode : LineMode) (most : ℕ) (buffer : List ℕ) (count passed : ℕ)
   part-end end = rw (drop-of-length-le s end)
 
   module _ (inside : i < length s) where
-    pub from-discarded : isDiscarded (cleared (getD s i 0)) ≡ true
+    pub from-discarded : isDiscarded (sevenBits (getD s i 0)) ≡ true
         → readFrom mode most buffer count passed (drop i s) ≡ readFrom mode most buffer count (passed + 1) (drop (i + 1) s)
     from-discarded d = rw (drop-cons s i 0, add-one i) (first-discarded mode most buffer count passed (getD s i 0) (drop (suc i) s) d)
 
-    module _ (place : ℕ) (placed : place ≡ min count (most - 1)) (d : isDiscarded (cleared (getD s i 0)) ≡ false) where
-      pub from-terminator : isTerminator (cleared (getD s i 0)) ≡ true
+    module _ (place : ℕ) (placed : place ≡ min count (most - 1)) (d : isDiscarded (sevenBits (getD s i 0)) ≡ false) where
+      pub from-terminator : isTerminator (sevenBits (getD s i 0)) ≡ true
           → readFrom mode most buffer count passed (drop i s)
-          ≡ record { buffer = set buffer place (cleared (getD s i 0)); count = count + 1; status = statusBit (ltb most (count + 1)) 1; passed = passed + 1; ended = true }
+          ≡ record { buffer = set buffer place (sevenBits (getD s i 0)); count = count + 1; status = statusBit (ltb most (count + 1)) 1; passed = passed + 1; ended = true }
       from-terminator t = rw (drop-cons s i 0, placed) (first-ends mode most buffer count passed (getD s i 0) (drop (suc i) s) d t)
 
-      module _ (t : isTerminator (cleared (getD s i 0)) ≡ false) where
+      module _ (t : isTerminator (sevenBits (getD s i 0)) ≡ false) where
         pub from-full : (isSpecial mode && leb most (count + 1)) ≡ true
             → readFrom mode most buffer count passed (drop i s)
-            ≡ record { buffer = set buffer place (cleared (getD s i 0)); count = count + 1; status = 1; passed = passed + 1; ended = true }
+            ≡ record { buffer = set buffer place (sevenBits (getD s i 0)); count = count + 1; status = 1; passed = passed + 1; ended = true }
         from-full f = rw (drop-cons s i 0, placed) (first-full mode most buffer count passed (getD s i 0) (drop (suc i) s) d t f)
 
         pub from-plain : (isSpecial mode && leb most (count + 1)) ≡ false
             → readFrom mode most buffer count passed (drop i s)
-            ≡ readFrom mode most (set buffer place (cleared (getD s i 0))) (count + 1) (passed + 1) (drop (i + 1) s)
+            ≡ readFrom mode most (set buffer place (sevenBits (getD s i 0))) (count + 1) (passed + 1) (drop (i + 1) s)
         from-plain f = rw (drop-cons s i 0, add-one i, placed) (first-plain mode most buffer count passed (getD s i 0) (drop (suc i) s) d t f)

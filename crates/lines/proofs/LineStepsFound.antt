@@ -10,7 +10,7 @@ use lib.ListN.{length}
 use borrow.Author.Tests.{lt-leb, le-leb, lt-ltb, le-ltb}
 use Rattle.lines.specs.declared.LineMode.{LineMode}
 use Rattle.lines.specs.declared.LineMode.the-variants.{Normal, Special}
-use Rattle.lines.specs.TextBytes.{cleared, keptOf, through, anyOf}
+use Rattle.lines.specs.TextBytes.{sevenBits, keptOf, through, anyOf}
 use Rattle.lines.specs.LineRead.{LineFound, statusBit, linePassed, keptLine, isTerminated, overlaid, lineFound}
 use Rattle.lines.specs.LineSteps.{LineState, laidOver, laidAll, readFrom, atEnd, stateLeft}
 use Rattle.lines.proofs.TextBytes.{ByteKind, discarded, ends, plain, kind-of}
@@ -58,8 +58,8 @@ special-steps most (x ∷ s) buffer count k passed is = by (kind-of x) k is (λ 
         rw (first-full Special most buffer count passed x s d t (le-leb most (count + 1) (omega arith)), special-full x s d t)
     by (plain d t) (suc j) is rest =
         rw (first-plain Special most buffer count passed x s d t (lt-leb most (count + 1) (omega arith)), special-plain x s d t j)
-        (rest (laidOver most buffer count (cleared x)) (count + 1) j (passed + 1) (omega arith)
-        ∙ behind-laid most buffer count passed (lineFound Special (suc j) s) (cleared x))
+        (rest (laidOver most buffer count (sevenBits x)) (count + 1) j (passed + 1) (omega arith)
+        ∙ behind-laid most buffer count passed (lineFound Special (suc j) s) (sevenBits x))
 
 -- normal mode reads the line to its end, whatever the count
 normalStatus : ℕ → ℕ → Bool → ℕ
@@ -89,7 +89,7 @@ normal-steps most (x ∷ s) buffer count passed = by (kind-of x) (λ b c p. norm
         let counts : count + suc (length (keptLine s)) ≡ count + 1 + length (keptLine s) = omega arith in
         let passes : passed + suc (linePassed s) ≡ passed + 1 + linePassed s = omega arith in
         rw (first-plain Normal most buffer count passed x s d t refl, b .line-is, b .terminated-is, b .passed-is, counts, passes)
-        (rest (laidOver most buffer count (cleared x)) (count + 1) (passed + 1))
+        (rest (laidOver most buffer count (sevenBits x)) (count + 1) (passed + 1))
 
 -- and that is all the line, as the paper has it
 normal-found : (most : ℕ) (s : List ℕ) → 0 < most

@@ -10,7 +10,7 @@ use lib.ListN.{length, getD, set, length-set}
 use Rattle.lines.specs.declared.LineMode.{LineMode}
 use Rattle.lines.specs.declared.line_read.Role.{Role}
 use Rattle.lines.specs.declared.line_read.Role.the-variants.{Discarded, Terminator, Plain}
-use Rattle.lines.specs.TextBytes.{cleared, isDiscarded, isTerminator}
+use Rattle.lines.specs.TextBytes.{sevenBits, isDiscarded, isTerminator}
 use Rattle.lines.specs.LineRead.{statusBit}
 use Rattle.lines.specs.LineSteps.{LineState, isSpecial, readFrom}
 use Rattle.lines.specs.Reader.{IsRole, PartReading}
@@ -26,11 +26,11 @@ module _ {mode : LineMode} {most count₀ passed : ℕ} {part : List ℕ} {whole
   pub part-over : length part ≤ i → record { buffer = buffer; count = count; status = 0; passed = passed + i; ended = false } ≡ whole
   part-over over = sym (reading .same ∙ part-end mode most buffer count (passed + i) part i over)
 
-  module _ (inside : i < length part) {role : Role} (is : IsRole (cleared (getD part i 0)) role) where
+  module _ (inside : i < length part) {role : Role} (is : IsRole (sevenBits (getD part i 0)) role) where
     pub part-discarded : role ≡ Discarded → {buffer′ : List ℕ} {count′ : ℕ} → buffer′ ≡ buffer → count′ ≡ count
         → PartReading mode most count₀ passed part whole buffer′ count′ (i + 1)
     part-discarded told as-before same =
-        let d = role-discarded (subst (IsRole (cleared (getD part i 0))) told is) in
+        let d = role-discarded (subst (IsRole (sevenBits (getD part i 0))) told is) in
         let one-more : passed + (i + 1) ≡ passed + i + 1 = omega arith in
         rw (as-before, same)
         (record {
@@ -42,29 +42,29 @@ module _ {mode : LineMode} {most count₀ passed : ℕ} {part : List ℕ} {whole
 
     module _ {place : ℕ} (placed : place ≡ min count (most - 1)) where
       pub part-terminator : role ≡ Terminator → {status : ℕ} → status ≡ statusBit (ltb most (count + 1)) 1
-          → record { buffer = set buffer place (cleared (getD part i 0)); count = count + 1; status = status; passed = passed + i + 1; ended = true } ≡ whole
+          → record { buffer = set buffer place (sevenBits (getD part i 0)); count = count + 1; status = status; passed = passed + i + 1; ended = true } ≡ whole
       part-terminator told bit =
-          let r = role-terminator (subst (IsRole (cleared (getD part i 0))) told is) in
+          let r = role-terminator (subst (IsRole (sevenBits (getD part i 0))) told is) in
           rw bit (sym (reading .same ∙ from-terminator mode most buffer count (passed + i) part i inside place placed (r .0) (r .1)))
 
       module _ (told : role ≡ Plain) {special : Bool} (says : special ≡ isSpecial mode) where
-        as-plain : (isDiscarded (cleared (getD part i 0)) ≡ false) × (isTerminator (cleared (getD part i 0)) ≡ false)
-        as-plain = role-plain (subst (IsRole (cleared (getD part i 0))) told is)
+        as-plain : (isDiscarded (sevenBits (getD part i 0)) ≡ false) × (isTerminator (sevenBits (getD part i 0)) ≡ false)
+        as-plain = role-plain (subst (IsRole (sevenBits (getD part i 0))) told is)
 
         pub part-full : (special && leb most (count + 1)) ≡ true
-            → record { buffer = set buffer place (cleared (getD part i 0)); count = count + 1; status = 1; passed = passed + i + 1; ended = true } ≡ whole
+            → record { buffer = set buffer place (sevenBits (getD part i 0)); count = count + 1; status = 1; passed = passed + i + 1; ended = true } ≡ whole
         part-full f =
             sym (reading .same
             ∙ from-full mode most buffer count (passed + i) part i inside place placed (as-plain .0) (as-plain .1) (rw (sym says) f))
 
         pub part-plain : (special && leb most (count + 1)) ≡ false
-            → {buffer′ : List ℕ} {count′ : ℕ} → buffer′ ≡ set buffer place (cleared (getD part i 0)) → count′ ≡ count + 1
+            → {buffer′ : List ℕ} {count′ : ℕ} → buffer′ ≡ set buffer place (sevenBits (getD part i 0)) → count′ ≡ count + 1
             → PartReading mode most count₀ passed part whole buffer′ count′ (i + 1)
         part-plain f laid one =
             let one-more : passed + (i + 1) ≡ passed + i + 1 = omega arith in
             rw (laid, one)
             (record {
-              long = length-set buffer place (cleared (getD part i 0)) ∙ reading .long;
+              long = length-set buffer place (sevenBits (getD part i 0)) ∙ reading .long;
               within = omega arith;
               few = omega (arith, reading .few);
               same =

@@ -7,20 +7,20 @@ use native.Mathlib.Omega.{arith}
 use lib.ListN.{length}
 use borrow.Author.Tests.{eqb-true}
 use lib.Dec.{eqb}
-use Rattle.lines.specs.TextBytes.{cleared, isDiscarded, isTerminator, keptOf, through}
+use Rattle.lines.specs.TextBytes.{sevenBits, isDiscarded, isTerminator, keptOf, through}
 
 -- a byte that is discarded ends no line
 pub data ByteKind (x : ℕ) : Type 0 where
-  discarded : isDiscarded (cleared x) ≡ true → isTerminator (cleared x) ≡ false → ByteKind x
-  ends : isDiscarded (cleared x) ≡ false → isTerminator (cleared x) ≡ true → ByteKind x
-  plain : isDiscarded (cleared x) ≡ false → isTerminator (cleared x) ≡ false → ByteKind x
+  discarded : isDiscarded (sevenBits x) ≡ true → isTerminator (sevenBits x) ≡ false → ByteKind x
+  ends : isDiscarded (sevenBits x) ≡ false → isTerminator (sevenBits x) ≡ true → ByteKind x
+  plain : isDiscarded (sevenBits x) ≡ false → isTerminator (sevenBits x) ≡ false → ByteKind x
 
 pub kind-of : (x : ℕ) → ByteKind x
-kind-of x = by (eqb (cleared x) 0) (eqb (cleared x) 127) (isTerminator (cleared x)) refl refl refl
+kind-of x = by (eqb (sevenBits x) 0) (eqb (sevenBits x) 127) (isTerminator (sevenBits x)) refl refl refl
   where
-    by : (nul rubout terminator : Bool) → eqb (cleared x) 0 ≡ nul → eqb (cleared x) 127 ≡ rubout → isTerminator (cleared x) ≡ terminator → ByteKind x
-    by true rubout terminator n r t = discarded (rw n) (rw (eqb-true (cleared x) 0 n))
-    by false true terminator n r t = discarded (rw (n, r)) (rw (eqb-true (cleared x) 127 r))
+    by : (nul rubout terminator : Bool) → eqb (sevenBits x) 0 ≡ nul → eqb (sevenBits x) 127 ≡ rubout → isTerminator (sevenBits x) ≡ terminator → ByteKind x
+    by true rubout terminator n r t = discarded (rw n) (rw (eqb-true (sevenBits x) 0 n))
+    by false true terminator n r t = discarded (rw (n, r)) (rw (eqb-true (sevenBits x) 127 r))
     by false false true n r t = ends (rw (n, r)) t
     by false false false n r t = plain (rw (n, r)) t
 
@@ -28,10 +28,10 @@ kind-of x = by (eqb (cleared x) 0) (eqb (cleared x) 127) (isTerminator (cleared 
 pub kept-append : (s t : List ℕ) → keptOf (s ++ t) ≡ keptOf s ++ keptOf t
 unfolding keptOf
 kept-append [] t = refl
-kept-append (x ∷ s) t = by (isDiscarded (cleared x)) (kept-append s t)
+kept-append (x ∷ s) t = by (isDiscarded (sevenBits x)) (kept-append s t)
   where
     by : (discarded : Bool) → keptOf (s ++ t) ≡ keptOf s ++ keptOf t
-        → cond discarded (keptOf (s ++ t)) (cleared x ∷ keptOf (s ++ t)) ≡ cond discarded (keptOf s) (cleared x ∷ keptOf s) ++ keptOf t
+        → cond discarded (keptOf (s ++ t)) (sevenBits x ∷ keptOf (s ++ t)) ≡ cond discarded (keptOf s) (sevenBits x ∷ keptOf s) ++ keptOf t
     by true same = same
     by false same = rw same
 

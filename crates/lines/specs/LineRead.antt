@@ -6,11 +6,11 @@ use lib.Dec.{eqb, leb, ltb}
 use lib.ListN.{length, take, getD}
 use Rattle.lines.specs.declared.LineMode.{LineMode}
 use Rattle.lines.specs.declared.LineMode.the-variants.{Normal, Special}
-use Rattle.lines.specs.TextBytes.{cleared, isDiscarded, isTerminator, keptOf, through, anyOf}
+use Rattle.lines.specs.TextBytes.{sevenBits, isDiscarded, isTerminator, keptOf, through, anyOf}
 
 -- a byte ends a line when it does so with its bit 7 cleared
 abbrev pub endsLine : ℕ → Bool
-endsLine x = isTerminator (cleared x)
+endsLine x = isTerminator (sevenBits x)
 
 -- "ends after LINE FEED, VERTICAL TAB or FORM FEED": the bytes that the line passes, what is kept of them, and whether a terminator is among them
 abbrev pub linePassed : List ℕ → ℕ
@@ -30,7 +30,7 @@ isOver most s = ltb most (length (keptLine s)) || (eqb (length (keptLine s)) mos
 unfoldable pub passedFor : ℕ → List ℕ → ℕ
 passedFor zero s = 0
 passedFor (suc k) [] = 0
-passedFor (suc k) (x ∷ s) = suc (cond (isDiscarded (cleared x)) (passedFor (suc k) s) (passedFor k s))
+passedFor (suc k) (x ∷ s) = suc (cond (isDiscarded (sevenBits x)) (passedFor (suc k) s) (passedFor k s))
 
 -- "normal mode lays each surplus byte over the last one"
 abbrev pub overlaid : ℕ → List ℕ → List ℕ

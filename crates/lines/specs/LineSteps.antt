@@ -6,7 +6,7 @@ use lib.Dec.{leb, ltb}
 use lib.ListN.{length, drop, set}
 use Rattle.lines.specs.declared.LineMode.{LineMode}
 use Rattle.lines.specs.declared.LineMode.the-variants.{Normal, Special}
-use Rattle.lines.specs.TextBytes.{cleared, isDiscarded, isTerminator}
+use Rattle.lines.specs.TextBytes.{sevenBits, isDiscarded, isTerminator}
 use Rattle.lines.specs.LineRead.{LineFound, statusBit}
 
 abbrev pub isSpecial : LineMode → Bool
@@ -34,15 +34,15 @@ unfoldable pub readFrom : LineMode → ℕ → List ℕ → ℕ → ℕ → List
 readFrom mode most buffer count passed [] = record { buffer = buffer; count = count; status = 0; passed = passed; ended = false }
 readFrom mode most buffer count passed (x ∷ s) =
     cond
-    (isDiscarded (cleared x))
+    (isDiscarded (sevenBits x))
     (readFrom mode most buffer count (passed + 1) s)
     (cond
-    (isTerminator (cleared x))
-    (record { buffer = laidOver most buffer count (cleared x); count = count + 1; status = statusBit (ltb most (count + 1)) 1; passed = passed + 1; ended = true })
+    (isTerminator (sevenBits x))
+    (record { buffer = laidOver most buffer count (sevenBits x); count = count + 1; status = statusBit (ltb most (count + 1)) 1; passed = passed + 1; ended = true })
     (cond
     (isSpecial mode && leb most (count + 1))
-    (record { buffer = laidOver most buffer count (cleared x); count = count + 1; status = 1; passed = passed + 1; ended = true })
-    (readFrom mode most (laidOver most buffer count (cleared x)) (count + 1) (passed + 1) s)))
+    (record { buffer = laidOver most buffer count (sevenBits x); count = count + 1; status = 1; passed = passed + 1; ended = true })
+    (readFrom mode most (laidOver most buffer count (sevenBits x)) (count + 1) (passed + 1) s)))
 
 -- the next part, unless the line has ended
 unfoldable pub readOnFrom : LineMode → ℕ → LineState → List ℕ → LineState

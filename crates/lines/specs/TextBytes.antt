@@ -5,8 +5,8 @@ use mathlib.Core.List.{List, [], _∷_}
 use lib.Dec.{eqb}
 
 -- "It clears bit 7 of each byte"
-abbrev pub cleared : ℕ → ℕ
-cleared x = x % 128
+abbrev pub sevenBits : ℕ → ℕ
+sevenBits x = x % 128
 
 -- "NUL and RUBOUT": of a byte whose bit 7 is cleared; the test itself clears nothing
 abbrev pub isDiscarded : ℕ → Bool
@@ -19,7 +19,7 @@ isTerminator x = eqb x 10 || (eqb x 11 || eqb x 12)
 -- "It clears bit 7 of each byte, discards NUL and RUBOUT": what a reader keeps
 unfoldable pub keptOf : List ℕ → List ℕ
 keptOf [] = []
-keptOf (x ∷ s) = cond (isDiscarded (cleared x)) (keptOf s) (cleared x ∷ keptOf s)
+keptOf (x ∷ s) = cond (isDiscarded (sevenBits x)) (keptOf s) (sevenBits x ∷ keptOf s)
 
 -- how many bytes there are through the first that passes a test, or in all where none does; and whether one does
 unfoldable pub through : (ℕ → Bool) → List ℕ → ℕ
