@@ -1,7 +1,7 @@
 -- What the grammar and the bounds promise: a line says at most one thing and has at most one reading; any other line has a number over its bound,
 -- or a place.
 use Prim.Native.Nat.{ℕ}
-use mathlib.Core.Path.{_≡_, sym, subst}
+use mathlib.Core.Path.{_≡_, subst}
 use mathlib.Core.Logic.{_⊎_, inl, inr, _↔_}
 use mathlib.Core.List.{List}
 use Rattle.command_grammar.specs.Parsed.{Parsed}

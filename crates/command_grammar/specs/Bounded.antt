@@ -1,5 +1,5 @@
 -- The bounds of the numbers that a line says, by their values: how many digits they are typed with does not matter.
-use Prim.Native.Nat.{ℕ, _≤_}
+use Prim.Native.Nat.{_≤_}
 use mathlib.Core.List.{List, [], _∷_}
 use mathlib.Core.Option.{Option, none, some}
 use Rattle.command_grammar.specs.Parsed.{Device, Uic, Specification, Parsed}

@@ -58,8 +58,8 @@ pub line-asked : (line buffer : List ℕ) (answer : Answer) (after : List ℕ) �
     × ((side : ℕ) (lent : ℕ → List ℕ) (known : List Known) → AskedFrom (take (answer .number) after) side lent 0 known → known ≡ knownOf (sideOf side reading))
 line-asked = csi1-then-side
 
--- 3.4, of lines refused with 50: "the place is still that of document 01 and is given with 50 only". "A refused line is answered with the place, in what remains, of the first character with which no command could go on, or with its end if
--- it only stops too soon."
+-- 3.4 "A refused line is answered with the place, in what remains, of the first character with which no command could go on, or with its end if
+-- it only stops too soon": with 50, for "the place is still that of document 01 and is given with 50 only".
 pub line-refused : (line buffer : List ℕ) (answer : Answer) (after : List ℕ) → (TooLong line → ⊥) → length (condensed line) ≤ length buffer
     → Csi1Answered line buffer answer after → answer .code ≡ 0o50 ↔ LinePlace (condensed line) (answer .number)
 line-refused = csi1-refused-iff
