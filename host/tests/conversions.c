@@ -163,11 +163,12 @@ static void every_word(const pair *p)
     }
 }
 
-/* Among them numbers whose low 16 or 32 bits alone would be taken. */
+/* Among them numbers whose low 16, 32 or 52 bits alone would be taken; RADUP moves a word up by 12 bits. */
 static void numbers_above(const pair *p)
 {
     static const size_t far[] = {
         (size_t)UINT32_MAX - WORD, UINT32_MAX, (size_t)UINT32_MAX + 1, (size_t)UINT32_MAX + 1 + 042420,
+        (SIZE_MAX >> 12) + 1, (SIZE_MAX >> 12) + 1 + 042420,
         SIZE_MAX / 2, SIZE_MAX / 2 + 1, SIZE_MAX / 2 + 1 + 042420, SIZE_MAX - WORD, SIZE_MAX - 1, SIZE_MAX
     };
 
