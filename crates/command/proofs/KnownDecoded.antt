@@ -12,13 +12,13 @@ use Rattle.command_switches.proofs.EncodedLength.{values-length, bytes-length}
 use Rattle.words.specs.Word.{wordAt, wordBytes}
 use Rattle.command.specs.Known.{decodedValues, decoded, valueNumbers, switchNumbers}
 
-bytes-append : (a b : List ℕ) → wordBytes (a ++ b) ≡ wordBytes a ++ wordBytes b
+pub bytes-append : (a b : List ℕ) → wordBytes (a ++ b) ≡ wordBytes a ++ wordBytes b
 unfolding wordBytes
 bytes-append [] b = refl
 bytes-append (word ∷ a) b = ap (λ (l : List ℕ). word % 256 ∷ (word / 256 ∷ l)) (bytes-append a b)
 
 -- a word is its two bytes, low first
-word-back : (word : ℕ) → word % 256 + 256 * (word / 256) ≡ word
+pub word-back : (word : ℕ) → word % 256 + 256 * (word / 256) ≡ word
 word-back word = omega arith
 
 values-long : (vs : List (List ℕ)) → length (wordBytes (valueWords vs)) ≡ 4 * length vs

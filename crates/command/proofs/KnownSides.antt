@@ -20,13 +20,13 @@ use Rattle.command.proofs.KnownDecoded.{decoded-encoded}
 
 -- places of a list, and what is left of it from a place on
 
-none-left : (k : ℕ) (vs : List Specification) → drop k vs ≡ [] → specificationAt k vs ≡ none
+pub none-left : (k : ℕ) (vs : List Specification) → drop k vs ≡ [] → specificationAt k vs ≡ none
 unfolding specificationAt
 none-left k [] is = refl
 none-left zero (v ∷ vs) is = let z : _≡_ {A = ℕ} 0 1 = cc in absurd (omega arith)
 none-left (suc k) (v ∷ vs) is = none-left k vs is
 
-one-left : (k : ℕ) (vs : List Specification) (v : Specification) (us : List Specification) → drop k vs ≡ v ∷ us
+pub one-left : (k : ℕ) (vs : List Specification) (v : Specification) (us : List Specification) → drop k vs ≡ v ∷ us
     → (specificationAt k vs ≡ some v) × (drop (suc k) vs ≡ us)
 unfolding specificationAt
 one-left zero [] v us is = let z : _≡_ {A = ℕ} 0 1 = cc in absurd (omega arith)

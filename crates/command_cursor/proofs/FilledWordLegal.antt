@@ -16,7 +16,7 @@ all-every nil = refl
 all-every (cons p all) = rw p (all-every all)
 
 -- a name filled up is its two halves filled up
-halves : (s : List ℕ) → length s ≤ 6 → (take 3 (blankFilled 6 s) ≡ blankFilled 3 (take 3 s)) × (drop 3 (blankFilled 6 s) ≡ blankFilled 3 (drop 3 s))
+pub halves : (s : List ℕ) → length s ≤ 6 → (take 3 (blankFilled 6 s) ≡ blankFilled 3 (take 3 s)) × (drop 3 (blankFilled 6 s) ≡ blankFilled 3 (drop 3 s))
 halves [] few = (refl, refl)
 halves (a ∷ []) few = (refl, refl)
 halves (a ∷ (b ∷ [])) few = (refl, refl)

@@ -5,3 +5,4 @@ pub mod CursorAtSteps
 pub mod FilledWord
 pub mod CursorAtRuns
 pub mod FilledWordLegal
+pub mod FilledWordNames

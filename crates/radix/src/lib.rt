@@ -8,7 +8,7 @@ ghost use Prim.Native.Nat.{_<_};
 ghost use mathlib.Core.Bool.{_&&_};
 ghost use lib.Dec.{eqb};
 ghost use Rattle.radix.specs.Characters.{codeOf, characterOf};
-ghost use Rattle.radix.specs.Lookup.{codeIn, charactersIn};
+ghost use Rattle.radix.specs.Lookup.{codeIn, characterIn, charactersIn};
 ghost use Rattle.radix.specs.Packing.{packed, firstCode, secondCode, thirdCode, threeIf};
 ghost use Rattle.radix.specs.NamesTest.{isLetterOrDigitIn, extensionTest, legalName, legalExtension};
 
@@ -66,6 +66,11 @@ pub enum Code {
     Nothing,
 }
 
+pub enum Character {
+    Of(u8),
+    Nothing,
+}
+
 pub enum Spelling {
     Of(u8, u8, u8),
     Nothing,
@@ -97,6 +102,30 @@ pub fn code_of(character: u8) -> Code
         return Code::Of(x - 64);
     }
     Code::Nothing
+}
+
+pub fn character_of(code: usize) -> Character
+    ensures { λ r. ⌜ characterIn r ≡ characterOf code ⌝ }
+{
+    if code == 0 {
+        return Character::Of(32);
+    }
+    if code <= 26 {
+        return Character::Of((code + 64) as u8);
+    }
+    if code == 27 {
+        return Character::Of(36);
+    }
+    if code == 28 {
+        return Character::Of(46);
+    }
+    if code == 29 {
+        return Character::Nothing;
+    }
+    if code <= 39 {
+        return Character::Of((code + 18) as u8);
+    }
+    Character::Nothing
 }
 
 // The characters of three codes, from a row that has them in the order of the codes; 0 stands where a code, 29, has none.
