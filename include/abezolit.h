@@ -32,7 +32,7 @@ extern "C" {
 #endif
 
 /*
- * The codes, in the order in which causes are named; the two calls on command lines each have an order of their own.
+ * The codes, in the order in which causes are named; the calls on command lines each have an order of their own.
  * They are octal numbers wherever they are written down, so code 41 is 041 here, and printed by %zo.
  */
 enum {
@@ -687,6 +687,31 @@ typedef struct {
  */
 abz_specification abz_csi2(const uint8_t *line, size_t line_len, size_t side, size_t k,
                            uint8_t *switches, size_t switches_len);
+
+/*
+ * Writes the line of specifications that abz_csi2 gave, as a panel shows it: without blanks, a unit only if it is not 0,
+ * group and user in octal without leading zeros. The line goes to the start of line, and the bytes behind it stay.
+ * number is its length.
+ *
+ * outputs and inputs are how many specifications each side has; with inputs 0 there is no <. records has them all, one
+ * behind the other, those of the output side first. The record of a specification is nine words, low byte first,
+ *
+ *   word 0    present          word 3, 4  name1, name2        word 6, 7  group, user
+ *   1, 2      device, unit     5          extension           8          switches
+ *
+ * and behind them the bytes that abz_csi2 wrote for its switches. So it takes 18 bytes and those of its switches.
+ *
+ * Whatever was read is written, and no longer than it was; and what is written is read as the same specifications, and
+ * written again is the same line. So of a line that abz_csi1 condensed all records are written to a line of 128 bytes.
+ *   ABZ_ARGUMENT      no line of whatever length has these specifications: outputs is 0; records_len is not what the
+ *                     records take; or in a record a bit of present is none of those above, a number of an absent part
+ *                     is not 0, an extension stands without a name, a device is not of 2 or 3 letters, a unit is above
+ *                     7, a group or user above 0377, a name, extension, switch or value is not as the grammar has it;
+ *   ABZ_LONG_LINE     the line has more than 128 characters;
+ *   ABZ_SHORT_BUFFER  line_len is less than the line has.
+ */
+abz_answer abz_csi_write(size_t outputs, size_t inputs, const uint8_t *records, size_t records_len,
+                         uint8_t *line, size_t line_len);
 
 #ifdef __cplusplus
 }

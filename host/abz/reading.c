@@ -5,6 +5,7 @@
 #include "contents.h"
 #include "show.h"
 #include "tell.h"
+#include "understood.h"
 
 #include <stdio.h>
 #include <string.h>
@@ -190,8 +191,9 @@ int command_read(char **arguments)
     size_t code = answer.code;
 
     if (code == ABZ_OK) {
-        printf("%.*s\n", (int)answer.number, (const char *)condensed);
-        code = show_side(condensed, answer.number, ABZ_OUTPUT_SIDE);
+        code = show_understood(condensed, answer.number);
+        if (code == ABZ_OK)
+            code = show_side(condensed, answer.number, ABZ_OUTPUT_SIDE);
         if (code == ABZ_OK)
             code = show_side(condensed, answer.number, ABZ_INPUT_SIDE);
     } else if (code == ABZ_GRAMMAR || code == ABZ_NUMBER) {

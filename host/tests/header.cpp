@@ -37,6 +37,7 @@ size_t abz_openo(uint8_t *, size_t, size_t, size_t, size_t, size_t, size_t, size
 
 abz_answer abz_csi1(const uint8_t *, size_t, uint8_t *, size_t);
 abz_specification abz_csi2(const uint8_t *, size_t, size_t, size_t, uint8_t *, size_t);
+abz_answer abz_csi_write(size_t, size_t, const uint8_t *, size_t, uint8_t *, size_t);
 }
 
 bool taken(const uint8_t *chars, size_t chars_len)

@@ -33,6 +33,7 @@ extern "C" {
     fn abz_o2bin(chars: *const u8, chars_len: usize) -> Answer;
     fn abz_bin2o(number: usize, chars: *mut u8, chars_len: usize) -> usize;
     fn abz_csi1(line: *const u8, line_len: usize, condensed: *mut u8, condensed_len: usize) -> Answer;
+    fn abz_csi_write(outputs: usize, inputs: usize, records: *const u8, records_len: usize, line: *mut u8, line_len: usize) -> Answer;
     fn abz_csi2(line: *const u8, line_len: usize, side: usize, k: usize, switches: *mut u8, switches_len: usize) -> crate::answers::SpecificationAnswer;
 }
 
@@ -199,4 +200,8 @@ pub fn csi1(line: &[u8], condensed: &mut [u8]) -> Answer {
 
 pub fn csi2(line: &[u8], side: usize, k: usize, switches: &mut [u8]) -> crate::answers::SpecificationAnswer {
     unsafe { abz_csi2(line.as_ptr(), line.len(), side, k, switches.as_mut_ptr(), switches.len()) }
+}
+
+pub fn csi_write(outputs: usize, inputs: usize, records: &[u8], line: &mut [u8]) -> Answer {
+    unsafe { abz_csi_write(outputs, inputs, records.as_ptr(), records.len(), line.as_mut_ptr(), line.len()) }
 }

@@ -2,6 +2,7 @@
 
 mod finish;
 mod lines;
+mod writing;
 
 use crate::answers::SpecificationAnswer;
 use crate::command::{csi1, csi2, grammar, reading};

@@ -1,6 +1,7 @@
-// Command lines: CSI1 and CSI2.
+// Command lines: CSI1, CSI2 and the writing of lines.
 ghost use Rattle.command.specs.Csi1.{Csi1Answered};
 ghost use Rattle.command.specs.Csi2.{Csi2Answered};
+ghost use Rattle.command_writing.specs.CsiWrite.{CsiWriteAnswered};
 use answers::Answer;
 use command::csi2::SpecificationAnswer;
 
@@ -21,4 +22,16 @@ pub extern "C" fn abz_csi2(
     ensures { λ r. ⌜ Csi2Answered (now (line .entry)) side k (now (switches .entry)) r (now (switches .exit)) ⌝ }
 {
     command::csi2::asking_answer(command::csi2::csi2(line, side, k, switches))
+}
+
+#[no_mangle]
+pub extern "C" fn abz_csi_write(
+    outputs: usize,
+    inputs: usize,
+    records: &[u8],
+    line: &mut [u8],
+) -> Answer
+    ensures { λ r. ⌜ CsiWriteAnswered outputs inputs (now (records .entry)) (now (line .entry)) r (now (line .exit)) ⌝ }
+{
+    command_writing::writing_answer(command_writing::csi_write(outputs, inputs, records, line))
 }

@@ -40,6 +40,7 @@ const ROWS: &[(&str, Run)] = &[
     ("line-write-5100", line_write_5100),
     ("csi1", csi1),
     ("csi2", csi2),
+    ("csi-write", csi_write),
     ("radpk", radpk),
     ("radup", radup),
     ("d2bin", d2bin),
@@ -415,6 +416,40 @@ fn csi2(way: Way, times: usize) -> Duration {
             black_box(2),
             black_box(&mut switches)
         ))
+    )
+}
+
+/// Writes a line of 100 characters with every part in it.
+fn csi_write(way: Way, times: usize) -> Duration {
+    const SHOWN: &[u8; 100] =
+        b"DT1:FREQ.DAT[23,10]/S:A1:B2,DK:STATN1.OBJ/LONG12,PR:<DF:SOURCE.MAC[200,177]/A/B:1:2:3,DT2:SECOND.SRC";
+    let mut records = Vec::new();
+    let mut counts = [0; 2];
+    let mut switches = [0; 384];
+    for side in 0..2 {
+        while let Ok(read) = model::command::csi2(SHOWN, side, counts[side], &mut switches) {
+            let bytes = read.switches.bytes();
+            let it = model::answers::SpecificationAnswer::from(Ok(read));
+            let numbers =
+                [it.present, it.device, it.unit, it.name1, it.name2, it.extension, it.group, it.user, it.switches];
+            records.extend(numbers.iter().flat_map(|&number| (number as u16).to_le_bytes()));
+            records.extend(&switches[..bytes]);
+            counts[side] += 1;
+        }
+    }
+    let mut buffer = [0; 128];
+    assert_eq!(boundary::csi_write(counts[0], counts[1], &records, &mut buffer).number, SHOWN.len());
+    timed!(
+        way,
+        times,
+        {
+            let [outputs, inputs] = black_box(counts);
+            boundary::csi_write(outputs, inputs, black_box(&records), black_box(&mut buffer))
+        },
+        {
+            let [outputs, inputs] = black_box(counts);
+            Answer::from(model::command::csi_write(outputs, inputs, black_box(&records), black_box(&mut buffer)))
+        }
     )
 }
 

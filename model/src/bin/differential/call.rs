@@ -26,6 +26,8 @@ pub enum Numbers {
     /// A block, a caller, or a number to be converted.
     One(usize),
     Side { side: usize, k: usize },
+    /// How many specifications each side has.
+    Sides { outputs: usize, inputs: usize },
 }
 
 #[derive(Clone)]
@@ -125,6 +127,7 @@ impl Call {
             (R::Bin2o, N::One(number)) => vec![boundary::bin2o(number, buffer)],
             (R::Csi1, N::None) => number(boundary::csi1(line, buffer)),
             (R::Csi2, N::Side { side, k }) => specification(boundary::csi2(line, side, k, buffer)),
+            (R::CsiWrite, N::Sides { outputs, inputs }) => number(boundary::csi_write(outputs, inputs, line, buffer)),
             (request, numbers) => unreachable!("{request:?} {numbers:?} {line:?}"),
         }
     }
@@ -164,6 +167,7 @@ impl Call {
             (R::Bin2o, N::One(number)) => vec![code(conversions::bin2o(number, buffer))],
             (R::Csi1, N::None) => number(command::csi1(line, buffer).into()),
             (R::Csi2, N::Side { side, k }) => specification(command::csi2(line, side, k, buffer).into()),
+            (R::CsiWrite, N::Sides { outputs, inputs }) => number(command::csi_write(outputs, inputs, line, buffer).into()),
             (request, numbers) => unreachable!("{request:?} {numbers:?}"),
         }
     }

@@ -6,6 +6,7 @@ use crate::packs::{self, packed, Seen, EXTENSIONS, NAMES, UICS};
 use crate::random::Random;
 use crate::request::Request;
 use crate::text;
+use crate::writing;
 use model::command::{csi2, reading};
 use model::pack::entry::{Entry, CONTIGUOUS, EXTEND, LINKED, OUTPUT, UPDATE};
 use model::pack::form::{BLOCK_BYTES, FORM, LEAST_BLOCKS, MOST_BLOCKS, MOST_CONTENTS, PAYLOAD_BYTES};
@@ -56,6 +57,7 @@ pub fn call(random: &mut Random, request: Request, image: &[u8]) -> Call {
         Request::Radup | Request::Bin2d | Request::Bin2o => without_line(to_characters(random, request)),
         Request::Csi1 => condensing(random),
         Request::Csi2 => asking(random),
+        Request::CsiWrite => writing::writing(random),
     };
     Call { request, numbers, line, buffer }
 }

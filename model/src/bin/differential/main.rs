@@ -13,6 +13,7 @@ mod random;
 mod request;
 mod tally;
 mod text;
+mod writing;
 
 use call::{Call, Numbers, Said};
 use lent::Lent;
@@ -195,6 +196,9 @@ fn compare(
         if grammar::command().accepts(line.model.slice()) == (model[0] == 0o50) {
             differences.push(String::from("the model's two writings of the grammar differ"));
         }
+    }
+    if call.request == Request::CsiWrite && writing::is_said(call.numbers, &call.line) == (model[0] == 0o41) {
+        differences.push(String::from("the model's two ways to judge records differ"));
     }
     if differences.is_empty() {
         return Ok(model);

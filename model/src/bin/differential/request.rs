@@ -31,6 +31,7 @@ pub enum Request {
     Bin2o,
     Csi1,
     Csi2,
+    CsiWrite,
 }
 
 /// Every request that is compared.
@@ -64,6 +65,7 @@ pub const ALL: &[Request] = &[
     Request::Bin2o,
     Request::Csi1,
     Request::Csi2,
+    Request::CsiWrite,
 ];
 
 impl Request {
@@ -95,6 +97,7 @@ impl Request {
             }
             Request::Csi1 => &[0, 0o53, 0o52, 0o50, 0o54],
             Request::Csi2 => &[0, 0o53, 0o50, 0o54, 0o51, 0o52],
+            Request::CsiWrite => &[0, 0o41, 0o53, 0o52],
         }
     }
 
@@ -114,7 +117,7 @@ impl Request {
             Request::Alloc | Request::Openo | Request::Openi | Request::Openu | Request::Opene => 6,
             Request::BlockIn | Request::BlockOut | Request::LinkedRead | Request::LinkedAdd => 6,
             Request::Delet | Request::Renam | Request::Appnd | Request::Close | Request::LineEnd => 5,
-            Request::Csi1 | Request::Csi2 | Request::LineRead | Request::LineWrite => 10,
+            Request::Csi1 | Request::Csi2 | Request::CsiWrite | Request::LineRead | Request::LineWrite => 10,
             Request::Look | Request::Keep | Request::Owner | Request::Finish => 3,
             _ => 2,
         }
