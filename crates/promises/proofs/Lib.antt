@@ -25,5 +25,6 @@ pub mod LinesAgainAccepted
 pub mod LinesAgain
 pub mod Commands
 pub mod CommandCodes
+pub mod WritingCodes
 pub mod Effects
 pub mod Main

@@ -3,7 +3,7 @@ use Prim.Native.Nat.{ℕ, _+_, _*_, _≤_, _<_}
 use mathlib.Core.Path.{_≡_}
 use mathlib.Core.Logic.{_↔_, _⊎_}
 use mathlib.Core.Bool.{true}
-use mathlib.Core.List.{List, [], _∷_, flatten}
+use mathlib.Core.List.{List, [], _∷_, _++_, flatten}
 use mathlib.Core.Option.{none, some}
 use native.Mathlib.Omega.{arith}
 use lib.ListN.{length, getD, take, replicate}
@@ -72,6 +72,13 @@ use Rattle.command.specs.Known.{Known, knownOf, AskedFrom}
 use Rattle.command.proofs.Csi1Only
 use Rattle.command.proofs.Csi2Only
 use Rattle.command.proofs.KnownReading
+use Rattle.command_writing.specs.CsiWrite.{CsiWriteAnswered}
+use Rattle.command_writing.specs.AskedRecords.{RecordsAsked}
+use Rattle.command_writing.specs.WrittenBack.{AskedAs, WrittenBack}
+use Rattle.command_writing.proofs.CsiWriteOnly
+use Rattle.command_writing.proofs.CsiWriteCauses
+use Rattle.command_writing.proofs.CsiWriteAnswers
+use Rattle.command_writing.proofs.ReadThenWritten
 use Rattle.requests.specs.Request.{Request, outcome, Names, bufferLent}
 use Rattle.requests.specs.Contract.{Result, numbersIn, Meets, contractOf}
 use Rattle.requests.proofs.RequestConsistent
@@ -84,6 +91,7 @@ use Rattle.promises.specs.Measures.{DocumentHeader, DocumentMeasures}
 use Rattle.promises.specs.GivenWhen.{GivesCode, InTableOrder}
 use Rattle.promises.specs.Codes.{CreatingCases, AddingCases, OtherPayload, OtherGather, NoLineMode, fullBlocks, casesOf}
 use Rattle.promises.specs.CommandCodes.{Csi1Cases, Csi2Cases}
+use Rattle.promises.specs.WritingCodes.{CsiWriteCases}
 use Rattle.promises.specs.AddedAgain.{openedImage}
 use Rattle.promises.specs.AllocZeros.{allocatedImage, readableImage, zeroBlock}
 use Rattle.promises.specs.Refused.{NotRadix, NotWord, TooLarge, NotNumeral}
@@ -105,18 +113,22 @@ use Rattle.promises.proofs.AllocZeros
 use Rattle.promises.proofs.ConversionsDemands
 use Rattle.promises.proofs.Commands
 use Rattle.promises.proofs.CommandCodes
+use Rattle.promises.proofs.WritingCodes
 
 -- 1.1 "Every request accepts any numbers and any image."
 -- No exported function (`crates/service/src`) has a `requires`: its contract holds of every input, and the code it gives is 0 or one of the paper's table.
 pub code-known : (r : Request) (img : List ℕ) → (outcome r img .code ≡ 0) ⊎ (placeIn tableOrder (outcome r img .code) < length tableOrder)
 code-known = Codes.code-known
 
--- The contracts of CSI1 and CSI2 are relations: each allows an answer to any line, in any buffer, for any side and place.
+-- The contracts of CSI1, CSI2 and the writing of a line are relations: each allows an answer to any line, in any buffer, for any side and place, and to any counts and records.
 pub csi1-answers : (line buffer : List ℕ) → (answer : Answer) × (after : List ℕ) × Csi1Answered line buffer answer after
 csi1-answers = Csi1Only.csi1-answers
 
 pub csi2-answers : (line : List ℕ) (side k : ℕ) (buffer : List ℕ) → (answer : SpecificationAnswer) × (after : List ℕ) × Csi2Answered line side k buffer answer after
 csi2-answers = Csi2Only.csi2-answers
+
+pub csi-write-answers : (outputs inputs : ℕ) (records buffer : List ℕ) → (answer : Answer) × (after : List ℕ) × CsiWriteAnswered outputs inputs records buffer answer after
+csi-write-answers = CsiWriteAnswers.csi-write-answers
 
 -- 1.2 "What cannot be done is refused with the code that the build document orders first,"
 -- Each request on an image gives each code exactly in its case (`specs/Codes.antt`), and the cases stand in the order of the paper's table.
@@ -134,6 +146,11 @@ csi1-code-iff = CommandCodes.csi1-code-iff
 pub csi2-code-iff : (line : List ℕ) (side k : ℕ) (buffer : List ℕ) (answer : SpecificationAnswer) (after : List ℕ) → Csi2Answered line side k buffer answer after
     → (code : ℕ) → answer .code ≡ code ↔ GivesCode (Csi2Cases line side k buffer) code
 csi2-code-iff = CommandCodes.csi2-code-iff
+
+-- and the writing of a command line
+pub csi-write-code-iff : (outputs inputs : ℕ) (records buffer : List ℕ) (answer : Answer) (after : List ℕ) → CsiWriteAnswered outputs inputs records buffer answer after
+    → (code : ℕ) → answer .code ≡ code ↔ GivesCode (CsiWriteCases outputs inputs records buffer) code
+csi-write-code-iff = WritingCodes.csi-write-code-iff
 
 -- and the conversions; a field of these is for 1.1, one for 1.3
 pub radpk-demands : NumberDemands 3 NotRadix radpk
@@ -166,6 +183,10 @@ csi1-kept = CommandCodes.csi1-kept
 pub csi2-kept : (line : List ℕ) (side k : ℕ) (buffer : List ℕ) (answer : SpecificationAnswer) (after : List ℕ) → Csi2Answered line side k buffer answer after
     → (answer .code ≡ 0 → ⊥) → (after ≡ buffer) × (answer ≡ refusal (answer .code) (answer .place)) × ((answer .code ≡ 0o50 → ⊥) → answer .place ≡ 0)
 csi2-kept = CommandCodes.csi2-kept
+
+pub csi-write-kept : (outputs inputs : ℕ) (records buffer : List ℕ) (answer : Answer) (after : List ℕ) → CsiWriteAnswered outputs inputs records buffer answer after
+    → (answer .code ≡ 0 → ⊥) → (after ≡ buffer) × (answer .number ≡ 0)
+csi-write-kept = CsiWriteCauses.csi-write-kept
 
 -- 2.1 "From any consistent image, each request has exactly the effect and answer that the build document draws from the handbook."
 -- Each contract is an equation with the request's `outcome`, whose definition says every word that changes. It allows one result:
@@ -427,6 +448,37 @@ place-end = Commands.place-end
 pub csi2-place : (line : List ℕ) (side k : ℕ) (buffer : List ℕ) (answer : SpecificationAnswer) (after : List ℕ) → Csi2Answered line side k buffer answer after
     → answer .code ≡ 0o50 → LinePlace line (answer .place)
 csi2-place = CommandCodes.csi2-place
+
+-- Document 02 §4: "Demand 3 then holds for reading and writing together." Every line that CSI1 accepts can be asked place by place on both sides,
+pub accepted-asked : (line buffer : List ℕ) (answer : Answer) (after : List ℕ) → Csi1Answered line buffer answer after → answer .code ≡ 0
+    → (outputs inputs : ℕ) × (output input : List ℕ) × AskedAs (take (answer .number) after) outputs inputs output input
+accepted-asked = ReadThenWritten.accepted-asked
+
+-- and what is then kept, written into 128 bytes, is a line of no more characters that CSI1 accepts and that yields the same when it is asked again
+pub read-then-written : (line buffer : List ℕ) (answer : Answer) (after : List ℕ) → Csi1Answered line buffer answer after → answer .code ≡ 0
+    → {lent lent′ : ℕ → List ℕ} {outputs inputs : ℕ} {output input : List ℕ}
+    → RecordsAsked (take (answer .number) after) 0 lent 0 outputs output → RecordsAsked (take (answer .number) after) 1 lent′ 0 inputs input
+    → (room : List ℕ) → lineLimit ≤ length room → (written : Answer) (left : List ℕ)
+    → CsiWriteAnswered outputs inputs (output ++ input) room written left
+    → WrittenBack (take (answer .number) after) outputs inputs output input written left
+read-then-written = ReadThenWritten.read-then-written
+
+-- for given inputs one answer and one buffer; "writing a reading twice gives the same bytes", in whatever buffers; and inputs that differ give lines that differ
+pub csi-write-single : (outputs inputs : ℕ) (records buffer : List ℕ) (a b : Answer) (after after′ : List ℕ) → CsiWriteAnswered outputs inputs records buffer a after
+    → CsiWriteAnswered outputs inputs records buffer b after′ → (a ≡ b) × (after ≡ after′)
+csi-write-single = CsiWriteOnly.csi-write-answered-one
+
+pub written-twice : {outputs inputs : ℕ} {records buffer buffer′ : List ℕ} {answer answer′ : Answer} {after after′ : List ℕ}
+    → CsiWriteAnswered outputs inputs records buffer answer after → answer .code ≡ 0
+    → CsiWriteAnswered outputs inputs records buffer′ answer′ after′ → answer′ .code ≡ 0
+    → take (answer .number) after ≡ take (answer′ .number) after′
+written-twice = CsiWriteOnly.csi-write-twice
+
+pub written-apart : {outputs outputs′ inputs inputs′ : ℕ} {records records′ buffer buffer′ : List ℕ} {answer answer′ : Answer} {after after′ : List ℕ}
+    → CsiWriteAnswered outputs inputs records buffer answer after → answer .code ≡ 0
+    → CsiWriteAnswered outputs′ inputs′ records′ buffer′ answer′ after′ → answer′ .code ≡ 0
+    → take (answer .number) after ≡ take (answer′ .number) after′ → (outputs ≡ outputs′) × (inputs ≡ inputs′) × (records ≡ records′)
+written-apart = CsiWriteOnly.written-apart
 
 -- P1 to P13, "a single tabulated statement"
 pub examples : Examples

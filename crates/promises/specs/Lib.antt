@@ -6,6 +6,7 @@ pub mod Conversions
 pub mod GivenWhen
 pub mod Codes
 pub mod CommandCodes
+pub mod WritingCodes
 pub mod AddedAgain
 pub mod AllocZeros
 pub mod LinesAgain
