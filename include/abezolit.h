@@ -237,8 +237,8 @@ abz_owner_answer abz_owner(const uint8_t *image, size_t image_len, size_t block)
  * has one writer at most (word 9) and some readers (word 10), together 62 at most. It is open if it has either.
  *
  * Each call that follows is one request on one file, or two; Finish is one on the caller's files. It changes what is said
- * at it and nothing else: the other words of that entry, the other entries, the header and all bodies stay. So the
- * blocks of a file that is deleted keep their bytes.
+ * at it and nothing else: the other words of that entry, the other entries, the header and all bodies stay, but for a
+ * block that is taken: it is cleared first. So the blocks of a file that is deleted keep their bytes until then.
  */
 
 /* How a file can be open: its writer, and for CLOSE also a reader. */

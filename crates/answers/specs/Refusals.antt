@@ -30,7 +30,7 @@ row given code = record { given = given; code = code }
 -- "3: 62 opens already"
 -- "12: creating: no empty entry"
 -- "42: no free block, or no free run long enough"
--- "50, 51, 52, 53: see Command lines": they have orders of their own, in `Csi1` and `Csi2`
+-- "50, 51, 52, 53: see Command lines": they, and 54 of document 02, have orders of their own, in `Csi1`, `Csi2` and `CsiWrite`
 -- "60: a conversion's input is not of its set, or too large"
 abbrev pub tableOrder : List ℕ
 tableOrder = 0o40 ∷ 0o15 ∷ 0o41 ∷ 0o13 ∷ 0o2 ∷ 0o6 ∷ 0o5 ∷ 0o43 ∷ 0o4 ∷ 0o14 ∷ 0o45 ∷ 0o44 ∷ 0o3 ∷ 0o12 ∷ 0o42 ∷ 0o60 ∷ []

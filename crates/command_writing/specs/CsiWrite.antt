@@ -22,7 +22,7 @@ writingAnswer W.NoRoom = record { code = 0o52; number = 0 }
 pub data CsiWrite (outputs inputs : ℕ) (records buffer : List ℕ) : Writing → List ℕ → Type 0 where
   -- "41, a record that no reading gives, lengths aside"
   unread : ((reading : Reading) → Given outputs inputs records reading → ⊥) → CsiWrite outputs inputs records buffer W.NoReading buffer
-  -- "53, line over its limit"
+  -- "53, line over its limit": it has no blanks, so its limit is that of a condensed line
   long : {reading : Reading} → Given outputs inputs records reading → lineLimit < length (written reading)
       → CsiWrite outputs inputs records buffer W.TooLong buffer
   -- "52, buffer too short"

@@ -8,7 +8,7 @@ use Rattle.numerals.specs.Digits.{digits}
 use Rattle.command_grammar.specs.LineCharacters.{comma, period, slash, colon, less, opening, closing}
 use Rattle.command_grammar.specs.Parsed.{Device, FileName, Uic, Switch, Specification, Parsed}
 
--- "in octal without leading zeros": as many digits as the number has; "at most 377 octal", so three are enough
+-- "in octal without leading zeros": as many digits as the number has, one for 0; of numbers that keep their bounds, "at most 377 octal", so that three are enough
 unfoldable pub octalDigits : ℕ → List ℕ
 octalDigits number = cond (ltb number 0o10) (digits 8 1 number) (cond (ltb number 0o100) (digits 8 2 number) (digits 8 3 number))
 
