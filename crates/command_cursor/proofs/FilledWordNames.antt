@@ -1,11 +1,11 @@
 -- What is legal has a name: a legal name is the words of one, a legal extension the word of one. And the codes of a word are those of its characters.
 use Prim.Native.Nat.{ℕ, _≤_}
-use mathlib.Core.Path.{_≡_, refl, sym, ap, _∙_}
+use mathlib.Core.Path.{_≡_, sym, ap, _∙_}
 use mathlib.Core.Bool.{Bool, true}
 use mathlib.Core.List.{List, [], _∷_}
 use mathlib.Core.Option.{Option, none, some}
 use native.Mathlib.Omega.{arith}
-use lib.ListN.{length, take, drop, length-append, length-replicate}
+use lib.ListN.{length, length-append, length-replicate}
 use Rattle.answers.specs.Missing.{orElse}
 use Rattle.answers.proofs.RefusalsTests.{parts}
 use Rattle.radix.specs.Characters.{codeOf, characterOf}

@@ -1,16 +1,15 @@
 -- What is laid of codes, words and octal numbers, and that the words of a name show the name.
 use Prim.Native.Nat.{ℕ, _+_, _/_, _%_, _≤_, _<_}
-use mathlib.Core.Path.{_≡_, refl, sym, ap, _∙_}
-use mathlib.Core.Bool.{Bool, true, false}
-use mathlib.Core.List.{List, [], _∷_, _++_, append-nil}
+use mathlib.Core.Path.{_≡_, refl, sym, _∙_}
+use mathlib.Core.Bool.{true, false}
+use mathlib.Core.List.{List, [], _∷_, _++_}
 use mathlib.Core.Option.{Option, none, some}
 use native.Mathlib.Omega.{arith}
 use borrow.Author.Tests.{eq-eqb, ne-eqb, lt-ltb, le-ltb}
-use lib.Dec.{eqb}
-use lib.ListN.{length, take, drop, replicate, length-append, length-replicate, length-take, length-drop, take-append-drop}
+use lib.ListN.{length, take, drop, length-append, length-replicate, length-take, length-drop, take-append-drop}
 use Rattle.radix.specs.Characters.{characterOf}
-use Rattle.radix.specs.Packing.{firstCode, secondCode, thirdCode, wordOf, charactersOf, threeIf}
-use Rattle.radix.specs.Names.{isLetterOrDigit, blank, blankFilled}
+use Rattle.radix.specs.Packing.{firstCode, secondCode, thirdCode, charactersOf, threeIf}
+use Rattle.radix.specs.Names.{isLetterOrDigit, blankFilled}
 use Rattle.radix.proofs.Packing.{word-pair}
 use Rattle.radix.proofs.NamesTest.{named-not-blank}
 use Rattle.numerals.specs.Digits.{digits}
@@ -19,7 +18,7 @@ use Rattle.command_cursor.specs.FilledWord.{filledWord, firstWord, secondWord}
 use Rattle.command_cursor.proofs.FilledWord.{filled-word, all-take, all-drop}
 use Rattle.command_writing.specs.WrittenLine.{octalDigits, writtenUnit}
 use Rattle.command_writing.specs.LaidText.{Puts, shown, shownWord, shownName}
-use Rattle.command_writing.proofs.LaidPieces.{puts-nothing, puts-both, puts-same}
+use Rattle.command_writing.proofs.LaidPieces.{puts-both}
 
 -- codes
 pub shown-none : {o : Option ℕ} → o ≡ none → [] ≡ shown o

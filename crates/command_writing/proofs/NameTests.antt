@@ -1,19 +1,18 @@
 -- The tests of names in the records: each is of what a line can name.
-use Prim.Native.Nat.{ℕ, _+_, _-_, _≤_, _<_}
+use Prim.Native.Nat.{ℕ, _+_, _-_, _≤_}
 use mathlib.Core.Path.{_≡_, refl, sym, ap, _∙_}
 use mathlib.Core.Logic.{_⊎_, inl, inr}
 use mathlib.Core.Bool.{Bool, true, false}
 use mathlib.Core.List.{List, [], _∷_}
-use mathlib.Core.Option.{Option, some}
+use mathlib.Core.Option.{some}
 use native.Mathlib.Omega.{arith}
 use borrow.Author.Tests.{le-leb, leb-true}
 use lib.Dec.{leb}
-use lib.ListN.{length, take, drop, length-take}
+use lib.ListN.{length, take, length-take}
 use lib.Seq.{take-all}
-use Rattle.answers.specs.Missing.{orElse}
 use Rattle.answers.proofs.RefusalsTests.{and-both, parts}
 use Rattle.radix.specs.Characters.{codeOf}
-use Rattle.radix.specs.Packing.{packed, wordOf, firstCode, secondCode, thirdCode}
+use Rattle.radix.specs.Packing.{wordOf, firstCode, secondCode, thirdCode}
 use Rattle.radix.specs.Names.{isLetter, isLetterOrDigit}
 use Rattle.radix.specs.NamesTest.{legalName, legalExtension}
 use Rattle.radix.proofs.Characters.{code-letter, code-blank, code-character, character-letter}

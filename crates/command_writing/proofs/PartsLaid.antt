@@ -2,10 +2,9 @@
 use Prim.Native.Nat.{ℕ, _≤_, _<_}
 use mathlib.Core.Path.{_≡_, refl, sym, ap, _∙_}
 use mathlib.Core.Bool.{Bool, true, false}
-use mathlib.Core.List.{List, [], _∷_, _++_}
+use mathlib.Core.List.{List, [], _∷_}
 use mathlib.Core.Option.{Option, none, some}
 use native.Mathlib.Omega.{arith}
-use lib.ListN.{length}
 use Rattle.radix.specs.Names.{isLetter, isLetterOrDigit}
 use Rattle.radix.specs.NamesTest.{legalName, legalExtension}
 use Rattle.command_grammar.specs.LineCharacters.{comma, period, colon, opening, closing}
@@ -17,7 +16,7 @@ use Rattle.command_writing.specs.Sayable.{SayableDevice, SayableExtensio
 use Rattle.command_writing.specs.Sayable as Y
 use Rattle.command_writing.specs.LaidText.{Puts, shownWord, shownName, PartLaid}
 use Rattle.command_writing.specs.LaidText as L
-use Rattle.command_writing.specs.PartFits.{DeviceLetters, ExtensionOf, NameOf, DeviceFits, ExtensionFits, NoFile, FileFits, UicFits}
+use Rattle.command_writing.specs.PartFits.{DeviceLetters, ExtensionOf, DeviceFits, ExtensionFits, NoFile, FileFits, UicFits}
 use Rattle.command_writing.specs.declared.PartStep.{PartStep}
 use Rattle.command_writing.specs.declared.PartStep.the-variants as P
 use Rattle.command_writing.proofs.LaidPieces.{puts-both, puts-same, puts-nothing}

@@ -15,8 +15,8 @@ use Rattle.command_grammar.specs.Bounded.{BoundedDevice, BoundedUic, BoundedSid
 use Rattle.command_grammar.specs.Bounded as B
 use Rattle.command_grammar.specs.Reading.{inputOf, Reading, Reads, reads}
 use Rattle.command_writing.specs.WrittenLine.{octalDigits, writtenUnit}
-use Rattle.command_writing.specs.Records.{Gives, Given}
-use Rattle.command_writing.specs.Sayable.{SayableDevice, SayableExtension, SayableFile, SayableUic, EachSays, Each, SayableSwitch}
+use Rattle.command_writing.specs.Records.{Given}
+use Rattle.command_writing.specs.Sayable.{SayableDevice, SayableExtension, SayableFile, SayableUic, EachSays, SayableSwitch}
 use Rattle.command_writing.specs.Sayable.{SayableSpecification, SayableSide, SayableInput, SayableReading}
 use Rattle.command_writing.specs.Sayable as Y
 use Rattle.command_writing.proofs.OctalDigits.{octal-digits, octal-worth, unit-digits, unit-worth}

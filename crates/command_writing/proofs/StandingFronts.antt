@@ -1,12 +1,12 @@
 -- The parts of the record at a word, but for its switches: when none fit, and what is laid of those that do.
 use Prim.Native.Nat.{ℕ, _+_, _/_, _%_, _≤_, _<_}
-use mathlib.Core.Path.{_≡_, refl, sym, ap, _∙_, subst}
+use mathlib.Core.Path.{_≡_, sym, _∙_, subst}
 use mathlib.Core.Bool.{Bool}
-use mathlib.Core.List.{List, [], _∷_, _++_}
+use mathlib.Core.List.{List}
 use mathlib.Core.Option.{Option}
 use native.Mathlib.Omega.{arith}
 use lib.Dec.{eqb}
-use lib.ListN.{length, getD}
+use lib.ListN.{getD}
 use Rattle.command_grammar.specs.Parsed.{Device, FileName, Uic}
 use Rattle.command_parts.specs.Numbers.{isPresent, isExtended}
 use Rattle.command_writing.specs.WrittenLine.{writtenDevice, writtenFile, writtenUic}

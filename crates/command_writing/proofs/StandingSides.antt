@@ -1,10 +1,10 @@
 -- Sides and whole readings that stand in records, and what is laid of them.
-use Prim.Native.Nat.{ℕ, suc, _+_, _-_, _≤_, _<_}
+use Prim.Native.Nat.{ℕ, _+_, _-_, _≤_}
 use mathlib.Core.Path.{_≡_, refl, sym, ap, _∙_, subst}
 use mathlib.Core.List.{List, [], _∷_, _++_, append-assoc, append-nil}
 use mathlib.Core.Option.{Option, none, some}
 use native.Mathlib.Omega.{arith}
-use lib.ListN.{length, drop}
+use lib.ListN.{drop}
 use Rattle.command_grammar.specs.LineCharacters.{less}
 use Rattle.command_grammar.specs.Parsed.{Specification}
 use Rattle.command_grammar.specs.Reading.{inputOf, Reading}

@@ -1,6 +1,6 @@
 -- Specifications that stand in records, and what is laid of them.
-use Prim.Native.Nat.{ℕ, _+_, _≤_, _<_}
-use mathlib.Core.Path.{_≡_, refl, sym, ap, _∙_}
+use Prim.Native.Nat.{ℕ, _+_, _≤_}
+use mathlib.Core.Path.{_≡_, sym, _∙_}
 use mathlib.Core.List.{List, [], _∷_, _++_, append-assoc}
 use native.Mathlib.Omega.{arith}
 use lib.ListN.{length, getD, drop}
@@ -9,14 +9,13 @@ use Rattle.command_grammar.specs.Parsed.{Switch, Specification}
 use Rattle.command_switches.specs.Encoded.{switchWords, allSwitchWords}
 use Rattle.command_parts.specs.Numbers.{numbersOf}
 use Rattle.command_writing.specs.Records.{recordWords}
-use Rattle.command_writing.specs.WrittenLine.{writtenDevice, writtenFile, writtenUic, writtenSwitches, writtenSpecification}
+use Rattle.command_writing.specs.WrittenLine.{writtenSpecification}
 use Rattle.command_writing.specs.Sayable.{Each, SayableSwitch, SayableSpecification}
 use Rattle.command_writing.specs.Standing.{joined, specificationWords, Taken, Never}
 use Rattle.command_writing.specs.LaidText.{Puts, StepLaid}
 use Rattle.command_writing.specs.LaidText as L
 use Rattle.command_writing.specs.PartFits.{Front, FrontFits, frontText, switchText, nextText}
 use Rattle.command_writing.specs.declared.Step.{Step}
-use Rattle.command_writing.specs.declared.Step.the-variants as S
 use Rattle.command_writing.proofs.LaidPieces.{puts-both, puts-same}
 use Rattle.command_writing.proofs.RecordRows.{nine-rows, stands-within}
 use Rattle.command_writing.proofs.StandingFronts.{PartWent}

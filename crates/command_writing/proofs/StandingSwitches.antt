@@ -1,7 +1,7 @@
 -- Values and switches that stand in records, and what is laid of them.
-use Prim.Native.Nat.{ℕ, suc, _+_, _≤_, _<_}
+use Prim.Native.Nat.{ℕ, _+_, _≤_}
 use mathlib.Core.Path.{_≡_, refl, sym, ap, _∙_}
-use mathlib.Core.Bool.{true, false}
+use mathlib.Core.Bool.{true}
 use mathlib.Core.List.{List, [], _∷_, _++_}
 use native.Mathlib.Omega.{arith}
 use lib.ListN.{length, getD, drop}
@@ -13,7 +13,7 @@ use Rattle.command_grammar.specs.Grammar.{Between}
 use Rattle.command_cursor.specs.FilledWord.{firstWord, secondWord}
 use Rattle.command_switches.specs.Encoded.{valueWords, switchWords, allSwitchWords}
 use Rattle.command_writing.specs.WrittenLine.{writtenValues, writtenSwitches}
-use Rattle.command_writing.specs.Sayable.{EachSays, Each, SwitchName, SayableSwitch}
+use Rattle.command_writing.specs.Sayable.{Each, SayableSwitch}
 use Rattle.command_writing.specs.Standing.{joined, nameWords, Taken, Never}
 use Rattle.command_writing.specs.LaidText.{Puts, shownName, StepLaid}
 use Rattle.command_writing.specs.LaidText as L
@@ -22,7 +22,7 @@ use Rattle.command_writing.specs.declared.Step.{Step}
 use Rattle.command_writing.specs.declared.Step.the-variants as S
 use Rattle.command_writing.proofs.LaidPieces.{puts-both, puts-same}
 use Rattle.command_writing.proofs.LaidNames.{name-shown}
-use Rattle.command_writing.proofs.NameTests.{named, unnamed, switch-run}
+use Rattle.command_writing.proofs.NameTests.{named, switch-run}
 use Rattle.command_writing.proofs.RecordRows.{two-rows, three-rows, stands-within}
 
 -- the words and the characters of lists

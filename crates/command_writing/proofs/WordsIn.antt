@@ -3,9 +3,8 @@ use Prim.Native.Nat.{ℕ, zero, suc, _+_, _*_, _/_, _%_, _≤_, _<_}
 use mathlib.Core.Path.{_≡_, refl, sym, ap, ap₂, _∙_}
 use mathlib.Core.List.{List, [], _∷_, _++_}
 use native.Mathlib.Omega.{arith}
-use lib.ListN.{length, getD, drop}
-use lib.Seq.{drop-cons}
-use Rattle.words.specs.Word.{wordAt, bytesOf, wordBytes}
+use lib.ListN.{length, getD}
+use Rattle.words.specs.Word.{wordAt, wordBytes}
 use Rattle.words.proofs.WordSlices.{word-behind}
 use Rattle.command.proofs.KnownDecoded.{bytes-append, word-back}
 use Rattle.command_grammar.specs.Parsed.{Specification}

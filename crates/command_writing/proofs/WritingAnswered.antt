@@ -1,21 +1,21 @@
 -- From what a walk over the records says to what is answered.
-use Prim.Native.Nat.{ℕ, zero, suc, _+_, _*_, _-_, _/_, _≤_, _<_}
+use Prim.Native.Nat.{ℕ, _+_, _*_, _-_, _≤_, _<_}
 use mathlib.Core.Path.{_≡_, refl, sym, ap, _∙_}
-use mathlib.Core.List.{List, [], _∷_, _++_, append-nil}
+use mathlib.Core.List.{List, [], _++_, append-nil}
 use native.Mathlib.Omega.{arith}
-use lib.ListN.{length, getD, take, drop, replicate, length-replicate, length-drop, drop-of-length-le}
-use lib.Seq.{take-all, length-take-le}
+use lib.ListN.{length, getD, take, drop, replicate, length-drop, drop-of-length-le}
+use lib.Seq.{length-take-le}
 use Rattle.words.specs.Word.{wordBytes}
 use Rattle.command_switches.proofs.EncodedLength.{bytes-length}
 use Rattle.command.specs.Condensed.{lineLimit}
 use Rattle.command_grammar.specs.Reading.{Reading}
 use Rattle.command_writing.specs.WrittenLine.{written}
-use Rattle.command_writing.specs.Records.{recordsOf, Given}
+use Rattle.command_writing.specs.Records.{Given}
 use Rattle.command_writing.specs.CsiWrite.{CsiWrite}
 use Rattle.command_writing.specs.CsiWrite as C
 use Rattle.command_writing.specs.Sayable.{SayableReading}
 use Rattle.command_writing.specs.Standing.{wordsIn, readingWords, Taken, Never}
-use Rattle.command_writing.specs.LaidText.{Laid, within, Puts}
+use Rattle.command_writing.specs.LaidText.{Laid, within}
 use Rattle.command_writing.specs.declared.Walk.{Walk}
 use Rattle.command_writing.specs.declared.Writing.the-variants as W
 use Rattle.command_writing.proofs.LaidPieces.{laid-within, laid-over}

@@ -2,9 +2,9 @@
 use Prim.Native.Nat.{ℕ, _+_, _≤_}
 use mathlib.Core.Path.{_≡_}
 use mathlib.Core.Bool.{Bool, false}
-use mathlib.Core.List.{List, [], _∷_, _++_}
+use mathlib.Core.List.{List, _∷_, _++_}
 use mathlib.Core.Option.{Option}
-use lib.ListN.{length, getD}
+use lib.ListN.{getD}
 use Rattle.radix.specs.Names.{isLetter, isLetterOrDigit}
 use Rattle.command_grammar.specs.Grammar.{Between}
 use Rattle.command_grammar.specs.LineCharacters.{comma, slash, colon}

@@ -1,7 +1,4 @@
 // The parts of a specification from their numbers: each is judged, and what a line has of it is laid.
-ghost use mathlib.Core.Path.{_≡_};
-ghost use Prim.Native.Nat.{_+_, _≤_};
-ghost use lib.ListN.{length};
 ghost use Rattle.command_writing.specs.WrittenLine.{writtenDevice, writtenExtension, writtenFile, writtenUic};
 ghost use Rattle.command_writing.specs.LaidText.{Decides, PartLaid};
 ghost use Rattle.command_writing.specs.PartFits.{LetterCode, DeviceLetters, DeviceFits, ExtensionFits, NoFile, FileFits, UicFits};

@@ -1,5 +1,4 @@
 // Specifications and sides from the records: each is judged, and what a line has of it is laid.
-ghost use mathlib.Core.Path.{_≡_};
 ghost use Prim.Native.Nat.{_+_, _/_, _%_, _≤_};
 ghost use lib.Dec.{eqb};
 ghost use lib.ListN.{length, getD};

@@ -1,5 +1,4 @@
 // Switches and their values from the records: each is judged, and what a line has of it is laid.
-ghost use mathlib.Core.Path.{_≡_};
 ghost use Prim.Native.Nat.{_≤_};
 ghost use lib.ListN.{length};
 ghost use Rattle.radix.specs.Names.{isLetterOrDigit};

@@ -1,6 +1,6 @@
 -- Rests on `WritingAnswered`: what the walk says of the records is what is answered, with the tests before it against it.
 use borrow.Author.Needs.{needs}
-use mathlib.Core.Path.{sym, _∙_}
+use mathlib.Core.Path.{sym}
 use native.Mathlib.Omega.{arith}
 use lib.Seq.{length-take-le}
 use Rattle.command_writing.proofs.WritingAnswered.{line-part, same-parts}

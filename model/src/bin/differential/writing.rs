@@ -38,18 +38,25 @@ const WORDS: [u16; 26] = [
     1600 + 40 + 27,
 ];
 
-/// The words of the records of a reading, with how many specifications each side has. Of a line of the grammar alone.
-fn records(line: &[u8], bounded: bool) -> Option<([usize; 2], Vec<u16>)> {
-    let mut counts = [0; 2];
-    let mut words = Vec::new();
+/// How many specifications each side has, the words of all records, and where each of these begins.
+struct Records {
+    counts: [usize; 2],
+    words: Vec<u16>,
+    starts: Vec<usize>,
+}
+
+/// The records of a reading; of a line that is not in the grammar there are none.
+fn records(line: &[u8], bounded: bool) -> Option<Records> {
+    let mut all = Records { counts: [0; 2], words: Vec::new(), starts: Vec::new() };
     reading::read(line, |side, _, mut specification| {
         if let Some(device) = specification.device.as_mut().filter(|_| bounded) {
             device.unit %= 8;
         }
-        counts[side] += 1;
-        words.extend(record(specification));
+        all.counts[side] += 1;
+        all.starts.push(all.words.len());
+        all.words.extend(record(specification));
     })?;
-    Some((counts, words))
+    Some(all)
 }
 
 fn record(specification: Specification) -> Vec<u16> {
@@ -65,12 +72,17 @@ fn record(specification: Specification) -> Vec<u16> {
 pub fn writing(random: &mut Random) -> (Numbers, Vec<u8>, Vec<u8>) {
     let line = lines::condensed(random);
     let bounded = random.chance(15, 16);
-    let (mut counts, mut words) = match records(&line, bounded) {
+    let Records { mut counts, mut words, starts } = match records(&line, bounded) {
         Some(drawn) if random.chance(15, 16) => drawn,
         _ => empties(random),
     };
-    if random.chance(1, 2) {
-        spoil(random, &mut words);
+    match random.below(8) {
+        0..=3 => spoil(random, &mut words),
+        4 | 5 => {
+            let start = random.pick(&starts);
+            spoil_part(random, &mut words[start..]);
+        }
+        _ => {}
     }
     if random.chance(1, 12) {
         let side = random.below(2);
@@ -102,10 +114,11 @@ pub fn writing(random: &mut Random) -> (Numbers, Vec<u8>, Vec<u8>) {
 }
 
 /// Specifications with no part, about as many as a line can have.
-fn empties(random: &mut Random) -> ([usize; 2], Vec<u16>) {
+fn empties(random: &mut Random) -> Records {
     let inputs = if random.chance(1, 2) { 0 } else { random.between(1, 100) };
     let outputs = random.between(126, 132) - inputs;
-    ([outputs, inputs], vec![0; 9 * (outputs + inputs)])
+    let all = outputs + inputs;
+    Records { counts: [outputs, inputs], words: vec![0; 9 * all], starts: (0..all).map(|place| 9 * place).collect() }
 }
 
 /// Changes one word of the records, seldom two.
@@ -124,6 +137,27 @@ fn spoil(random: &mut Random, words: &mut [u16]) {
     }
 }
 
+/// Gives a part to the specification of a record, or takes one away, with numbers at their edges.
+fn spoil_part(random: &mut Random, record: &mut [u16]) {
+    let present = record[0];
+    let letter = 1600 * random.between(1, 27) as u16;
+    let word = letter + random.pick(&[0, 40, 41, 27 * 40, 30 * 40, 30]);
+    let (at, numbers) = match random.below(8) {
+        0 => (0, vec![present | 1, letter, random.below(9) as u16]),
+        1 => (0, vec![present | 1, word, random.pick(&[0, 7, 8])]),
+        2 => (0, vec![present & !1, 0, random.below(2) as u16]),
+        3 => (3, vec![word, random.pick(&[0, letter]), 0]),
+        4 => (0, vec![present & !2 | 4, record[1], record[2], 0, 0, word]),
+        5 => (5, vec![random.pick(&[0, word])]),
+        6 => {
+            record[0] |= 8;
+            (6, vec![random.pick(&[0, 255, 256]), random.pick(&[0, 255, 256])])
+        }
+        _ => (0, vec![present ^ 1 << random.below(5)]),
+    };
+    record[at..at + numbers.len()].copy_from_slice(&numbers);
+}
+
 /// Whether some line says the records, found another way than by the model's rules: the line that they would be is put
 /// together whatever stands in them, and read; then its records are these, or no line's are.
 pub fn is_said(numbers: Numbers, bytes: &[u8]) -> bool {
@@ -138,7 +172,10 @@ pub fn is_said(numbers: Numbers, bytes: &[u8]) -> bool {
     };
     bytes.len() % 2 == 0
         && outputs > 0
-        && line.is_some_and(|line| units(&line) && records(&line, false) == Some(([outputs, inputs], words)))
+        && line.is_some_and(|line| {
+            let its = records(&line, false);
+            units(&line) && its.is_some_and(|its| its.counts == [outputs, inputs] && its.words == words)
+        })
 }
 
 /// The line, if the records have as many words as they say.

@@ -1,5 +1,4 @@
 -- Rests on the fields of `NoFile`, one test for each.
-use mathlib.Core.Path.{sym, _∙_}
 use Prim.Native.Nat.{ℕ}
 use mathlib.Core.Path.{_≡_}
 use native.Mathlib.Omega.{arith}
