@@ -1,0 +1,24 @@
+-- The laws of the report.
+pub mod ReportedParts
+pub mod ReportedRuns
+pub mod RulesHeader
+pub mod RulesChain
+pub mod RulesFile
+pub mod RulesEntry
+pub mod RulesEntryRight
+pub mod ReportConsistent
+pub mod SecondSought
+pub mod FaultFile
+pub mod FaultEntry
+pub mod FaultReport
+pub mod FaultMembers
+pub mod ReportSmall
+pub mod ReportOrder
+pub mod FirstSought
+pub mod LookedHeader
+pub mod LookedFields
+pub mod LookedEntry
+pub mod LookedLinks
+pub mod LookedFile
+pub mod LookedShared
+pub mod LookedWhole
