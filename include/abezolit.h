@@ -13,7 +13,7 @@
  *
  * Answers   An answer is a code, or a struct of numbers whose first member is the code. The code is ABZ_OK
  *           where the call did what is said of it, and else the cause of the refusal. Where several causes
- *           hold, the one that is named first at the call is given.
+ *           hold, the one that is named first at the call is given. Only abz_report has no code: it never refuses.
  *
  * Refusals  A refusal changes no byte of any slice, and every other member of its answer is 0, unless it is said at
  *           the call that a member then tells the place of the fault.
@@ -151,7 +151,8 @@ size_t abz_bin2o(size_t number, uint8_t *chars, size_t chars_len);
  * What the free blocks and those of contiguous files hold does not matter.
  *
  * Every call on an image but abz_format takes any bytes for it, of any length, and refuses with ABZ_INCONSISTENT
- * before all else where they are no consistent pack. No call makes a consistent pack inconsistent.
+ * before all else where they are no consistent pack; abz_report then tells why. No call makes a consistent pack
+ * inconsistent.
  */
 
 /* The measures of a pack, as told above. */
@@ -219,6 +220,36 @@ typedef struct {
  *   ABZ_NO_BLOCK      block is n or more.
  */
 abz_owner_answer abz_owner(const uint8_t *image, size_t image_len, size_t block);
+
+/* The rules of a consistent pack, as abz_report tells the first that an image breaks; behind each what it names. */
+enum {
+    ABZ_CONSISTENT   = 0, /* none is broken */
+    ABZ_RULE_SIZE    = 1, /* the image is not 512 * n bytes, or has no word 1 */
+    ABZ_RULE_HEADER  = 2, /* word of block 0: of two UICs alike the later */
+    ABZ_RULE_ENTRY   = 3, /* entry and word: 0 where no legal name begins with it, else 1; 3 a UIC that is not in the list;
+                             9 the writer; 10 readers, with the writer */
+    ABZ_RULE_NAME    = 4, /* entry, and word 3: an earlier file has all four numbers alike */
+    ABZ_RULE_EXTENT  = 5, /* entry and word: 6 the first block is no body (or not 0 where there is none), 7 a contiguous file
+                             has no block or ends behind the last, 8 the last block is not where the file ends */
+    ABZ_RULE_LINK    = 6, /* entry and block, whose link, before the last place, leads to no body */
+    ABZ_RULE_LOOP    = 7, /* entry and block, to which a link leads a second time */
+    ABZ_RULE_END     = 8, /* entry and block, the last of a chain, whose link is not 0 */
+    ABZ_RULE_SHARED  = 9  /* block, which two files reach, and the entry of the second of them */
+};
+
+typedef struct {
+    size_t rule;
+    size_t entry, word, block; /* what the rule names; 0 in each that it does not */
+} abz_report_answer;
+
+/*
+ * Which rule of a consistent pack an image breaks first, and where; rule is ABZ_CONSISTENT exactly if every other call
+ * takes the image for consistent. There is no code and no refusal: any bytes of any length get a report, and nothing is
+ * written. Looked at are, in this order: the size; the words of block 0 by number; the entries one by one, of each words
+ * 0 to 5 (the name with word 3) and 9 to 15 by number, then words 6 to 8 of a contiguous file, or of a linked one word 6,
+ * each link in the order of the chain, word 8 and the last link; then, all entries being right, the bodies by number.
+ */
+abz_report_answer abz_report(const uint8_t *image, size_t image_len);
 
 /*
  * Rights

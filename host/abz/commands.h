@@ -9,6 +9,7 @@
 int command_format(char **arguments);
 int command_list(char **arguments);
 int command_owners(char **arguments);
+int command_report(char **arguments);
 
 /* Files */
 int command_look(char **arguments);

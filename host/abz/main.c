@@ -1,7 +1,7 @@
 /*
  * abz: the files of a pack, at the command line; and an example of a host of the service. How a host calls it is shown
- * in requests.c, finish.c, transfer.c, text.c, reports.c and reading.c; the rest is what a program with files and
- * arguments needs.
+ * in requests.c, finish.c, transfer.c, text.c, reports.c, report.c and reading.c; the rest is what a program with files
+ * and arguments needs.
  */
 #include "commands.h"
 #include "files.h"
@@ -32,6 +32,9 @@ static const command commands[] = {
     { "owners", "PACK", 1, 1, command_owners,
       "whose each block is: the pack's own, free, or a file's, and then at\n"
       "which places in the file, from 0" },
+    { "report", "PACK", 1, 1, command_report,
+      "whether the pack is consistent, and if not the first that is wrong\n"
+      "with it: which rule, where, and in words" },
     { "look", "PACK CALLER FILE", 3, 3, command_look,
       "all that the pack says of a file" },
     { "alloc", "PACK CALLER FILE SEGMENTS [PROTECT]", 4, 5, command_alloc,

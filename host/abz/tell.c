@@ -20,7 +20,7 @@ typedef struct {
  * no command of abz meets.
  */
 static const cause causes[] = {
-    { ABZ_INCONSISTENT, NULL, "the file is not a consistent pack" },
+    { ABZ_INCONSISTENT, NULL, "the file is not a consistent pack; abz report tells what is wrong with it" },
     { ABZ_NAME, NULL, "a name is 1 to 6 of A-Z and 0-9, an extension 0 to 3 of them" },
     { ABZ_ARGUMENT, "format", "BLOCKS is 16 to 1024, CONTENTS 1 to 8; at most 64 UICs, none twice and none [0,0]" },
     { ABZ_ARGUMENT, "alloc", "SEGMENTS is at least 1, and PROTECT at most 377" },

@@ -19,6 +19,7 @@ extern "C" {
     fn abz_keep(image: *mut u8, image_len: usize, caller: usize, name1: usize, name2: usize, extension: usize, uic: usize) -> usize;
     fn abz_finish(image: *mut u8, image_len: usize, caller: usize) -> Answer;
     fn abz_owner(image: *const u8, image_len: usize, block: usize) -> OwnerAnswer;
+    fn abz_report(image: *const u8, image_len: usize) -> crate::report::ReportAnswer;
     fn abz_block_in(image: *const u8, image_len: usize, caller: usize, name1: usize, name2: usize, extension: usize, uic: usize, place: usize, buffer: *mut u8, buffer_len: usize) -> usize;
     fn abz_block_out(image: *mut u8, image_len: usize, caller: usize, name1: usize, name2: usize, extension: usize, uic: usize, place: usize, buffer: *const u8, buffer_len: usize) -> usize;
     fn abz_linked_read(image: *const u8, image_len: usize, caller: usize, name1: usize, name2: usize, extension: usize, uic: usize, place: usize, buffer: *mut u8, buffer_len: usize) -> usize;
@@ -112,6 +113,10 @@ pub fn finish(image: &mut [u8], caller: usize) -> Answer {
 
 pub fn owner(image: &[u8], block: usize) -> OwnerAnswer {
     unsafe { abz_owner(image.as_ptr(), image.len(), block) }
+}
+
+pub fn report(image: &[u8]) -> crate::report::ReportAnswer {
+    unsafe { abz_report(image.as_ptr(), image.len()) }
 }
 
 #[rustfmt::skip]

@@ -1,4 +1,4 @@
-//! The file service of document 01, with the lines and Finish of 02, §1 and §12, as a plain program, written from those
+//! The file service of document 01, with the lines, bounds, writing, report and Finish of 02 (§1 to §4, §6 and §12), as a plain program, written from those
 //! papers and not from the library, so that the two can be run side by side. Nothing here is proved; what counts is that it was written apart.
 
 pub mod answers;
@@ -8,6 +8,7 @@ pub mod conversions;
 pub mod listing;
 pub mod pack;
 pub mod refusal;
+pub mod report;
 pub mod requests;
 pub mod words;
 

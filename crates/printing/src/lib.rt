@@ -1,4 +1,6 @@
 // The listing of a pack as text. Each function but the last puts a piece at a place of a buffer and answers the place behind it.
+pub mod reports;
+
 ghost use mathlib.Core.Path.{_≡_};
 ghost use Prim.Native.Nat.{_+_, _*_, _<_, _≤_};
 ghost use mathlib.Core.List.{_++_};

@@ -5,4 +5,5 @@ pub mod conversions;
 pub mod entries;
 pub mod opens;
 pub mod packs;
+pub mod reports;
 pub mod text;

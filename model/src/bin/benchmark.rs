@@ -28,6 +28,8 @@ type Run = fn(Way, usize) -> Duration;
 const ROWS: &[(&str, Run)] = &[
     ("look-smallest", look_smallest),
     ("look-fullest", look_fullest),
+    ("report-fullest", report_fullest),
+    ("report-shared", report_shared),
     ("alloc-delet-smallest", alloc_delet_smallest),
     ("alloc-delet-largest", alloc_delet_largest),
     ("alloc-delet-500", alloc_delet_500),
@@ -206,6 +208,30 @@ fn look_smallest(way: Way, times: usize) -> Duration {
 
 fn look_fullest(way: Way, times: usize) -> Duration {
     look(way, times, &fullest(), file(MOST_ENTRIES - 1))
+}
+
+fn report(way: Way, times: usize, image: &[u8]) -> Duration {
+    timed!(way, times, boundary::report(black_box(image)), model::report::report(black_box(image)))
+}
+
+/// Beside `look-fullest`: a consistent pack is told by its check.
+fn report_fullest(way: Way, times: usize) -> Duration {
+    report(way, times, &fullest())
+}
+
+/// The last entry reaches a block of the first: all is looked at before it is told.
+fn report_shared(way: Way, times: usize) -> Duration {
+    let mut image = fullest();
+    let first = Entry::read(entry::bytes(&image, 0)).first;
+    let mut last = Entry::read(entry::bytes(&image, MOST_ENTRIES - 1));
+    set_word(block_mut(&mut image, last.last as usize), 0, first);
+    set_word(block_mut(&mut image, first as usize), 0, 0);
+    let mut one = Entry::read(entry::bytes(&image, 0));
+    (one.length, one.last, last.length, last.last) = (1, first, last.length + 1, first);
+    one.write(entry::bytes_mut(&mut image, 0));
+    last.write(entry::bytes_mut(&mut image, MOST_ENTRIES - 1));
+    assert_eq!(model::report::report(&image).rule, 9);
+    report(way, times, &image)
 }
 
 /// A turn is an ALLOC of so many segments and a DELET of what it made.

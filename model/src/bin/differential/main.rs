@@ -10,6 +10,7 @@ mod lent;
 mod lines;
 mod packs;
 mod random;
+mod reports;
 mod request;
 mod tally;
 mod text;
@@ -21,6 +22,7 @@ use model::command::grammar;
 use model::pack::consistency::examine;
 use model::pack::form::{BLOCK_BYTES, MOST_BLOCKS};
 use random::Random;
+use reports::Reports;
 use request::Request;
 use std::process::ExitCode;
 use std::time::Instant;
@@ -53,6 +55,7 @@ struct Report {
     bytes: usize,
     damaged: usize,
     damaged_consistent: usize,
+    reports: Reports,
 }
 
 fn main() -> ExitCode {
@@ -81,7 +84,8 @@ fn main() -> ExitCode {
         report.damaged_consistent,
         start.elapsed().as_secs_f64()
     );
-    let missed = report.tally.missed();
+    report.reports.print();
+    let missed: Vec<String> = report.tally.missed().into_iter().chain(report.reports.missed()).collect();
     for what in &missed {
         println!("NOT REACHED: {what}");
     }
@@ -121,6 +125,7 @@ fn run(calls: u64, seed: u64, report: &mut Report) -> Result<(), (u64, String)> 
             damage::damage(&mut random, &mut image);
             report.damaged += 1;
             report.damaged_consistent += examine(&image).is_ok() as usize;
+            report.reports.compare(&mut random, &image).map_err(|difference| (step, difference))?;
             other.set(&image);
         } else if let Numbers::Format { blocks, .. } = drawn.numbers {
             other.set(&unformatted(&mut random, blocks));

@@ -1,0 +1,147 @@
+/* The command that tells what is wrong with a pack: the line of the program report, then the same in words. */
+#include "commands.h"
+
+#include "abezolit.h"
+#include "contents.h"
+#include "packfile.h"
+#include "show.h"
+#include "tell.h"
+
+#include <stdio.h>
+
+static pack_file pack;
+
+/* The name of each rule as it is printed, and what it names besides. */
+static const struct {
+    const char *name;
+    bool entry, word, block;
+} rules[] = {
+    [ABZ_RULE_SIZE] = { " SIZE", false, false, false },
+    [ABZ_RULE_HEADER] = { " HEADER", false, true, false },
+    [ABZ_RULE_ENTRY] = { "", true, true, false },
+    [ABZ_RULE_NAME] = { " NAME", true, true, false },
+    [ABZ_RULE_EXTENT] = { " EXTENT", true, true, false },
+    [ABZ_RULE_LINK] = { " LINK", true, false, true },
+    [ABZ_RULE_LOOP] = { " LOOP", true, false, true },
+    [ABZ_RULE_END] = { " END", true, false, true },
+    [ABZ_RULE_SHARED] = { " SHARED", true, false, true },
+};
+
+/* ---- The line ---- */
+
+static void show_member(bool named, const char *what, size_t number)
+{
+    if (!named)
+        return;
+    printf(" %s ", what);
+    show_count(number);
+}
+
+static void show_line(const abz_report_answer *report)
+{
+    if (report->rule == ABZ_CONSISTENT) {
+        printf("CONSISTENT\n");
+        return;
+    }
+    printf("FAULT%s", rules[report->rule].name);
+    show_member(rules[report->rule].entry, "ENTRY", report->entry);
+    show_member(rules[report->rule].word, "WORD", report->word);
+    show_member(rules[report->rule].block, "BLOCK", report->block);
+    putchar('\n');
+}
+
+/* ---- The words ---- */
+
+static const char *header_words(size_t word)
+{
+    static const char *const words[] = {
+        "the form is not 1",
+        "the number of blocks is not 16 to 1024",
+        "the blocks of contents are not 1 to 8",
+        "there are more than 64 UICs",
+    };
+
+    if (word < sizeof words / sizeof *words)
+        return words[word];
+    if (word < 4 + word_at(pack.image + 2 * 3))
+        return "a UIC of the list is 0, or is in the list before";
+    return "what stands behind the list of UICs is not 0";
+}
+
+static const char *entry_words(size_t word)
+{
+    switch (word) {
+    case 0:
+    case 1: return "its name is not legal";
+    case 2: return "its extension is not legal";
+    case 3: return "its owner is not in the pack's list of UICs";
+    case 4: return "its protect code is above 377";
+    case 5: return "its kind is neither contiguous nor linked";
+    case 9: return "its writer is none that a file of its kind can have";
+    case 10: return "it is open more than 62 times";
+    default: return "a word of its entry is not 0 that must be";
+    }
+}
+
+static const char *extent_words(size_t word)
+{
+    switch (word) {
+    case 6: return "its first block is none that a file can have";
+    case 7: return "its length is 0, or goes beyond the pack";
+    default: return "its last block is not where it ends";
+    }
+}
+
+static const char *words_of(const abz_report_answer *report)
+{
+    switch (report->rule) {
+    case ABZ_RULE_HEADER: return header_words(report->word);
+    case ABZ_RULE_ENTRY: return entry_words(report->word);
+    case ABZ_RULE_NAME: return "a file before it has the same name, extension and owner";
+    case ABZ_RULE_EXTENT: return extent_words(report->word);
+    case ABZ_RULE_LINK: return "this block links to none that a file can have";
+    case ABZ_RULE_LOOP: return "its chain comes to this block a second time";
+    case ABZ_RULE_END: return "its chain goes on behind this block, its last";
+    case ABZ_RULE_SHARED: return "a file before it has this block too";
+    default: return "the length of the file is not 512 bytes for each block that the header tells of";
+    }
+}
+
+/* Which file, by its name where that is legal; and its extension, if that is. */
+static void show_faulty_file(const abz_report_answer *report)
+{
+    const bool entry = report->rule == ABZ_RULE_ENTRY;
+    contents_entry file;
+
+    contents_read(pack.image, report->entry, &file);
+    if (entry && report->word < 2) {
+        printf("a file without a name: ");
+        return;
+    }
+    show_word(file.name1, file.name2);
+    if (!(entry && report->word == 2) && file.extension != 0) {
+        putchar('.');
+        show_word(file.extension, 0);
+    }
+    putchar(' ');
+    show_uic(file.uic);
+    printf(": ");
+}
+
+int command_report(char **arguments)
+{
+    abz_report_answer report;
+
+    if (!pack_read(&pack, arguments[0]))
+        return STATUS_FAILED;
+    report = abz_report(pack.image, pack.length);
+    show_line(&report);
+    if (report.rule == ABZ_CONSISTENT)
+        return show_end() ? STATUS_DONE : STATUS_FAILED;
+    if (rules[report.rule].entry)
+        show_faulty_file(&report);
+    else if (rules[report.rule].word)
+        printf("the header: ");
+    printf("%s\n", words_of(&report));
+    return show_end() ? STATUS_DONE : STATUS_FAILED;
+}

@@ -1,0 +1,132 @@
+/* The program report, run on images of every rule: what it prints is the line of what the library answers, and of some the line is written out. */
+#define _POSIX_C_SOURCE 200809L
+
+#include "abezolit.h"
+
+#include "image.h"
+#include "listing.h"
+
+#define REPORT "target/bin/report"
+#define REPORTED "target/host/reported.image"
+
+enum { LONGEST = 65536, ROOM = LONGEST + 2 * BLOCK, ME = 023 * 256 + 010, N = 32 };
+
+static uint8_t image[ROOM];
+
+static void try_image(size_t length, const char *line)
+{
+    FILE *file = fopen(REPORTED, "wb");
+
+    CHECK_NUMBER(file && fwrite(image, 1, length, file) == length && fclose(file) == 0, true, "writing " REPORTED);
+    try_command(REPORT " < " REPORTED, line, line);
+}
+
+/* The line of an answer, put together apart from the library. */
+static const char *line_of(abz_report_answer answer)
+{
+    static const char *const names[] = { "", " SIZE", " HEADER", "", " NAME", " EXTENT", " LINK", " LOOP", " END", " SHARED" };
+    static char line[64];
+    char *end = line;
+
+    if (answer.rule == 0)
+        return "CONSISTENT\n";
+    end += sprintf(end, "FAULT%s", names[answer.rule]);
+    if (answer.rule >= 3)
+        end += sprintf(end, " ENTRY %05zu", answer.entry);
+    if (answer.rule >= 2 && answer.rule <= 5)
+        end += sprintf(end, " WORD %05zu", answer.word);
+    if (answer.rule >= 6)
+        end += sprintf(end, " BLOCK %05zu", answer.block);
+    sprintf(end, "\n");
+    return line;
+}
+
+static void expect(size_t length, const char *line)
+{
+    CHECK_NUMBER(strcmp(line_of(abz_report(image, length)), line), 0, "answer for %s", line);
+    try_image(length, line);
+}
+
+static size_t sample(void)
+{
+    static const size_t uics[] = { ME }, chain[] = { 20, 9, 31, 3 };
+
+    memset(image, 0x77, BLOCK * N);
+    const size_t length = make_pack(image, N, 2, uics, 1);
+    put_contiguous(image, 0, key_of("FREQ  ", "DAT", ME), 4, 3);
+    put_linked(image, 3, key_of("LINKED", "   ", ME), chain, 4);
+    put_contiguous(image, 12, key_of("Z     ", "999", ME), 14, 1);
+    return length;
+}
+
+static void lines(void)
+{
+    const size_t length = sample();
+
+    expect(length, "CONSISTENT\n");
+    expect(length - 1, "FAULT SIZE\n");
+    expect(0, "FAULT SIZE\n");
+    expect(3, "FAULT SIZE\n");
+    set_word(image, 255, 1);
+    expect(length, "FAULT HEADER WORD 00255\n");
+    set_word(image, 3, 70);
+    expect(length, "FAULT HEADER WORD 00003\n");
+    sample();
+    set_field(image, 12, PROTECT, 256);
+    expect(length, "FAULT ENTRY 00012 WORD 00004\n");
+    sample();
+    put_contiguous(image, 7, key_of("FREQ  ", "DAT", ME), 16, 1);
+    expect(length, "FAULT NAME ENTRY 00007 WORD 00003\n");
+    sample();
+    set_field(image, 0, LENGTH, 0);
+    expect(length, "FAULT EXTENT ENTRY 00000 WORD 00007\n");
+    sample();
+    set_word(image, BLOCK_WORDS * 9, 0);
+    expect(length, "FAULT LINK ENTRY 00003 BLOCK 00009\n");
+    set_word(image, BLOCK_WORDS * 9, 20);
+    expect(length, "FAULT LOOP ENTRY 00003 BLOCK 00020\n");
+    sample();
+    set_word(image, BLOCK_WORDS * 3, 20);
+    expect(length, "FAULT END ENTRY 00003 BLOCK 00003\n");
+    sample();
+    put_contiguous(image, 12, key_of("Z     ", "999", ME), 31, 1);
+    expect(length, "FAULT SHARED ENTRY 00012 BLOCK 00031\n");
+}
+
+/* Up to 65536 bytes; longer input is refused, a consistent pack too. */
+static void lengths(void)
+{
+    static const size_t uics[] = { ME };
+    const char *const parts = "(head -c 1 " REPORTED "; sleep 0.1; tail -c +2 " REPORTED ") 2>/dev/null | " REPORT;
+
+    memset(image, 0, sizeof image);
+    expect(make_pack(image, 128, 8, uics, 1), "CONSISTENT\n");
+    try_command(parts, "CONSISTENT\n", "from a pipe");
+    put_contiguous(image, 127, key_of("LAST  ", "   ", ME), 127, 2);
+    expect(LONGEST, "FAULT EXTENT ENTRY 00127 WORD 00007\n");
+    try_image(LONGEST + 1, "REFUSED 40\n");
+    make_pack(image, 129, 8, uics, 1);
+    CHECK_NUMBER(abz_report(image, 129 * BLOCK).rule, 0, "a pack of 129 blocks");
+    try_image(129 * BLOCK, "REFUSED 40\n");
+    try_command(parts, "REFUSED 40\n", "a pack of 129 blocks, from a pipe");
+}
+
+/* By chance: a few words of packs changed. */
+static void changed(void)
+{
+    for (int round = 0; round < 200; round++) {
+        const size_t c = 1 + chance(CONTENTS_MAX), n = BLOCKS_MIN + chance(32), length = chance_pack(image, n, c, chance(16 * c + 1));
+
+        for (int change = 0; change < 2; change++)
+            set_word(image, chance(length / 2), chance(n + 3));
+        try_image(length, line_of(abz_report(image, length)));
+    }
+}
+
+int main(void)
+{
+    lines();
+    lengths();
+    changed();
+    return check_end("report_program");
+}
