@@ -48,3 +48,11 @@ pub use Rattle.lines.proofs.LineRoundTrip.{lines-read-back}
 pub use Rattle.lines.proofs.LineRoundTripWritten.{line-taken, line-whole, line-status}
 -- written by any calls, ended, closed, opened and read: any call goes on, and the writing can be finished (`lines-round-trip` is in Main.antt)
 pub use Rattle.promises.proofs.LinesAgainAccepted.{lines-accepted, lines-go-on, lines-finish}
+-- the report, document 02 §6: "It says consistent exactly if document 01 says so, and every fault named is really there."; the first in the order; one answer, small enough for
+-- five digits; one printed text; a fault named means that every request but Format is refused with 40
+pub use Rattle.faults.proofs.ReportConsistent.{report-consistent, rule-consistent, report-one, fault-there}
+pub use Rattle.faults.proofs.FaultReport.{report-fault}
+pub use Rattle.faults.proofs.SecondSought.{second-is}
+pub use Rattle.faults.proofs.ReportSmall.{report-small}
+pub use Rattle.printing.proofs.ReportText.{prints-one}
+pub use Rattle.promises.proofs.ReportFault.{fault-refused}

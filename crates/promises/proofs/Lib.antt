@@ -26,5 +26,6 @@ pub mod LinesAgain
 pub mod Commands
 pub mod CommandCodes
 pub mod WritingCodes
+pub mod ReportFault
 pub mod Effects
 pub mod Main
