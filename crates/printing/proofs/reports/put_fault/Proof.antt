@@ -50,8 +50,7 @@ returns c = let last = c .before .before in
     let entry = c .before .before .before .before .before .before .before .before .before .before .before .before .before .before .before .before .before in
     let rule =
     c .before .before .before .before .before .before .before .before .before .before .before .before .before .before .before .before .before .before .before .before .before .before in
-    let first =
-    c .before .before .before .before .before .before .before .before .before .before .before .before .before .before .before .before .before .before .before .before .before .before .before .before .before .before in (
+    let first = rule .before .before .before .before in (
       put-then (first .put-bytes .ensures) (put-then (rule .put-rule .ensures .0)
           (put-then (entry .put-member .ensures .0) (put-then (word .put-member2 .ensures .0)
           (put-then (block .put-member3 .ensures .0) (last .put-bytes2 .ensures))))),
