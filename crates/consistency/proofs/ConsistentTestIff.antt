@@ -1,6 +1,6 @@
 -- The check says exactly whether an image is consistent, and its map then says how often each block is held.
-use Prim.Native.Nat.{ℕ, zero, _≤_, _<_}
-use mathlib.Core.Path.{_≡_, refl, subst}
+use Prim.Native.Nat.{ℕ, zero, _+_, _≤_, _<_}
+use mathlib.Core.Path.{_≡_, refl, sym, subst, _∙_}
 use mathlib.Core.Bool.{Bool, true, false, cond, _&&_}
 use mathlib.Core.List.{List}
 use mathlib.Core.Logic.{inl, inr, _↔_}
@@ -11,17 +11,21 @@ use Rattle.pack.specs.declared.Geometry.{Geometry}
 use Rattle.pack.specs.GeometrySized.{mostBlocks, Sized}
 use Rattle.pack.specs.Geometry.{geometryOf, slots}
 use Rattle.pack.specs.HeaderTest.{headerTest}
-use Rattle.pack.specs.Entry.{entryWord, entryOf, Empty, RightEntry}
+use Rattle.pack.specs.File.{count}
+use Rattle.pack.specs.Entry.{entryWord, entryOf, blocksAt, Empty, RightEntry}
 use Rattle.pack.specs.Key.{keyIn, SameKey}
 use Rattle.pack.specs.Consistent.{heldIn, held, Consistent}
 use Rattle.answers.proofs.RefusalsTests.{and-left, and-right, and-both}
 use Rattle.pack.proofs.HeaderTestWhole.{header-iff}
 use Rattle.pack.proofs.HeaderRules.{header-sized}
+use Rattle.pack.proofs.ConsistentTotal.{total-same, total-each}
 use Rattle.radix.proofs.Names.{name-not-zero}
 use Rattle.consistency.specs.declared.Opened.the-variants.{Good, Bad}
-use Rattle.consistency.specs.ConsistentTest.{scanTest, markAll, emptyMap, entriesTest, consistent, openedOf}
+use Rattle.consistency.specs.Walk.{systemSet}
+use Rattle.consistency.specs.ConsistentTest.{scanTest, markAll, emptyMap, systemMap, entriesTest, consistent, openedOf}
 use Rattle.consistency.proofs.DifferTest.{differ-iff}
-use Rattle.consistency.proofs.ConsistentTestScan.{scan-fine, fine-scan, scan-counts}
+use Rattle.consistency.proofs.WalkSystem.{system-length, system-own, system-others}
+use Rattle.consistency.proofs.ConsistentTestScan.{right-range, scan-fine, fine-scan, scan-counts, marks-length}
 
 pub empty-long : length emptyMap ≡ mostBlocks
 empty-long = length-replicate {A = ℕ} mostBlocks 0
@@ -46,34 +50,74 @@ module _ (img : List ℕ) (g : Geometry) where
   named e (inl empty) used is = used empty
   named e (inr u) used is = name-not-zero _ _ (u .name) is
 
-  module _ (few : g .blocks ≤ mostBlocks) where
-    long : g .blocks ≤ length emptyMap
-    long = omega (arith, empty-long)
+  -- no file holds a block of the system
+  system-held : ((e : ℕ) → e < slots g → RightEntry img g e) → (b : ℕ) → b < g .bodies .0 → heldIn img g b ≡ 0
+  system-held right b own =
+      total-same (λ e. count b (blocksAt img g e)) (λ e. 0) 0 (slots g) (λ e low high. none e (right e (omega arith)))
+      ∙ (total-each 0 0 (slots g) ∙ omega arith)
+    where
+      none : (e : ℕ) → RightEntry img g e → count b (blocksAt img g e) ≡ 0
+      none e is = elim (decLt 0 (count b (blocksAt img g e))) [
+        | yes some ↦ absurd (omega (arith, right-range img g e is b some))
+        | no free ↦ omega (arith, free)
+      ]
+
+  module _ (sized : Sized img g) where
+    pub system-long : length (systemMap g) ≡ mostBlocks
+    system-long = system-length emptyMap (g .bodies .0) 1 ∙ empty-long
+
+    long : g .blocks ≤ length (systemMap g)
+    long = omega (arith, system-long, sized .most)
+
+    -- the system's map has 1 at each of the system's blocks and 0 elsewhere
+    system-one : (b : ℕ) → b < g .bodies .0 → getD (systemMap g) b 0 ≡ 1
+    system-one b own = system-own emptyMap 1 b (g .bodies .0) (omega (arith, empty-long, sized .most, sized .bodies)) own
+
+    system-zero : (b : ℕ) → g .bodies .0 ≤ b → getD (systemMap g) b 0 ≡ 0
+    system-zero b from = system-others emptyMap 1 b (g .bodies .0) from ∙ empty-zero b
+
+    flags : (b : ℕ) → getD (systemMap g) b 0 ≤ 1
+    flags b = elim (decLt b (g .bodies .0)) [ yes own ↦ omega (arith, system-one b own) | no other ↦ omega (arith, system-zero b (omega (arith, other))) ]
+
+    once-with : ((e : ℕ) → e < slots g → RightEntry img g e) → ((b : ℕ) → heldIn img g b ≤ 1) → (b : ℕ) → getD (systemMap g) b 0 + heldIn img g b ≤ 1
+    once-with right once b = elim (decLt b (g .bodies .0)) [
+      | yes own ↦ omega (arith, system-one b own, system-held right b own)
+      | no other ↦ omega (arith, once b, system-zero b (omega (arith, other)))
+    ]
 
     entries-means : entriesTest img g ≡ true → Entries
     unfolding entriesTest
     entries-means test =
-        let fine = scan-fine img g emptyMap 0 (slots g) long (λ b. omega (arith, empty-zero b)) (and-left (scanTest img g emptyMap 0 (slots g)) _ test) in
-        let apart = differ-iff img g 0 (slots g) .0 (and-right (scanTest img g emptyMap 0 (slots g)) _ test) in
+        let fine = scan-fine img g (systemMap g) 0 (slots g) long flags (and-left (scanTest img g (systemMap g) 0 (slots g)) _ test) in
+        let apart = differ-iff img g (slots g) .0 (and-right (scanTest img g (systemMap g) 0 (slots g)) _ test) in
         record {
           entries = λ e below. fine .right e (omega arith) (omega arith);
-          differ = λ e f less below used same. apart e f (omega arith) less (omega arith) (named e (fine .right e (omega arith) (omega arith)) used) same;
+          differ = λ e f less below used same. apart e f less (omega arith) (named e (fine .right e (omega arith) (omega arith)) used) same;
           once = λ b. omega (arith, fine .once b);
         }
 
     entries-tested : Entries → entriesTest img g ≡ true
     unfolding entriesTest
     entries-tested h =
-        and-both (fine-scan img g emptyMap 0 (slots g) long (record { right = λ e low high. h .entries e (omega arith); once = λ b. omega (arith, h .once b, empty-zero b) }))
-        (differ-iff img g 0 (slots g) .1 (λ e f low less high used same. h .differ e f less (omega arith) (λ empty. used (empty .zero 0 (omega arith))) same))
+        and-both (fine-scan img g (systemMap g) 0 (slots g) long (record { right = λ e low high. h .entries e (omega arith); once = once-with (h .entries) (h .once) }))
+        (differ-iff img g (slots g) .1 (λ e f less high used same. h .differ e f less (omega arith) (λ empty. used (empty .zero 0 (omega arith))) same))
 
     pub entries-iff : entriesTest img g ≡ true ↔ Entries
     entries-iff = (entries-means, entries-tested)
 
-    -- the map that the scan leaves
-    pub entries-held : entriesTest img g ≡ true → (b : ℕ) → getD (markAll img g emptyMap 0 (slots g)) b 0 ≡ heldIn img g b
+    -- the map that the scan leaves, once the system's blocks are given back
+    pub entries-held : entriesTest img g ≡ true → (b : ℕ) → getD (systemSet (markAll img g (systemMap g) 0 (slots g)) (g .bodies .0) 0) b 0 ≡ heldIn img g b
     unfolding entriesTest
-    entries-held test b = omega (arith, empty-zero b, scan-counts img g emptyMap 0 (slots g) long (and-left (scanTest img g emptyMap 0 (slots g)) _ test) b)
+    entries-held test b =
+        let scanned = and-left (scanTest img g (systemMap g) 0 (slots g)) _ test in
+        let counts = scan-counts img g (systemMap g) 0 (slots g) long scanned b in
+        let marks = markAll img g (systemMap g) 0 (slots g) in
+        elim (decLt b (g .bodies .0)) [
+          | yes own ↦
+              system-own marks 0 b (g .bodies .0) (omega (arith, marks-length img g (systemMap g) 0 (slots g), system-long, sized .most, sized .bodies)) own
+              ∙ sym (system-held (entries-means test .entries) b own)
+          | no other ↦ omega (arith, system-others marks 0 b (g .bodies .0) (omega (arith, other)), counts, system-zero b (omega (arith, other)))
+        ]
 
 -- the check says exactly whether the image is consistent
 pub consistent-iff : (img : List ℕ) → consistent img ≡ true ↔ Consistent img
@@ -83,13 +127,13 @@ consistent-iff img = (means, tested)
     means : (headerTest img && entriesTest img (geometryOf img)) ≡ true → Consistent img
     means test =
         let header = header-iff img .0 (and-left (headerTest img) _ test) in
-        let h = entries-iff img (geometryOf img) (header-sized img header .most) .0 (and-right (headerTest img) _ test) in
+        let h = entries-iff img (geometryOf img) (header-sized img header) .0 (and-right (headerTest img) _ test) in
         record { header = header; entries = h .entries; differ = h .differ; once = h .once }
 
     tested : Consistent img → (headerTest img && entriesTest img (geometryOf img)) ≡ true
     tested h =
         and-both (header-iff img .1 (h .header))
-        (entries-iff img (geometryOf img) (header-sized img (h .header) .most) .1 (record { entries = h .entries; differ = h .differ; once = h .once }))
+        (entries-iff img (geometryOf img) (header-sized img (h .header)) .1 (record { entries = h .entries; differ = h .differ; once = h .once }))
 
 -- what the answer of a pack opened says
 by-good : (test : Bool) (g h : Geometry) → cond test (Good g) Bad ≡ Good h → (test ≡ true) × (g ≡ h)

@@ -1,7 +1,7 @@
 -- The answers of the code that opens a pack: what each has to show, from the tests that led to it.
 use Prim.Native.Nat.{ℕ, _≤_}
 use mathlib.Core.Path.{_≡_, refl, sym, ap, subst, _∙_}
-use mathlib.Core.Bool.{Bool, true, false, cond}
+use mathlib.Core.Bool.{Bool, true, false, cond, _&&_}
 use mathlib.Core.List.{List}
 use native.Mathlib.Omega.{arith}
 use lib.ListN.{length, getD}
@@ -19,8 +19,10 @@ use Rattle.pack.proofs.HeaderRules.{header-sized}
 use Rattle.consistency.specs.declared.Opened.{Opened}
 use Rattle.consistency.specs.declared.Opened.the-variants.{Good, Bad}
 use Rattle.consistency.specs.DifferTest.{differTest}
-use Rattle.consistency.specs.ConsistentTest.{scanTest, markAll, emptyMap, entriesTest, consistent, openedOf}
-use Rattle.consistency.proofs.ConsistentTestIff.{empty-long, entries-held}
+use Rattle.consistency.specs.Walk.{systemSet, SystemTaken}
+use Rattle.consistency.specs.ConsistentTest.{scanTest, markAll, emptyMap, systemMap, entriesTest, consistent, openedOf}
+use Rattle.consistency.proofs.WalkSystem.{system-taken}
+use Rattle.consistency.proofs.ConsistentTestIff.{empty-long, system-long, entries-held}
 
 -- an answer that an image is not consistent: of the map it says nothing
 abbrev Refused : List ℕ → Type 0 → Type 0
@@ -58,30 +60,39 @@ module _ (img : List ℕ) (r : Header) (is : r ≡ headerOf img) where
     unfolding consistent
     by-entries = sym (go-on (passed .0) refl) ∙ ap (entriesTest img) (passed .1)
 
-    module _ (lent : List ℕ) (empty : lent ≡ emptyMap) where
-      pub open-room : g .blocks ≤ length lent
-      open-room = omega (arith, open-sized .most, empty-long, ap length empty)
+    pub open-room : (lent : List ℕ) → lent ≡ emptyMap → g .bodies .0 ≤ length lent
+    open-room lent empty = omega (arith, ap length empty, empty-long, open-sized .most, open-sized .bodies)
 
-      pub open-scan : {A : Type 0} → scanTest img g lent 0 (slots g) ≡ false → Refused img A
+    -- on the map that was lent, with the system's blocks taken
+    module _ (lent map : List ℕ) (empty : lent ≡ emptyMap) (is-system : map ≡ systemSet lent (g .bodies .0) 1) where
+      is-map : map ≡ systemMap g
+      is-map = is-system ∙ ap (λ (m : List ℕ). systemSet m (g .bodies .0) 1) empty
+
+      pub open-long : g .blocks ≤ length map
+      open-long = omega (arith, ap length is-map, system-long img g open-sized, open-sized .most)
+
+      pub open-system : SystemTaken map g
+      open-system = system-taken lent g (open-room lent empty) map is-system
+
+      pub open-entries : {A : Type 0} → (scanTest img g map 0 (slots g) && differTest img g 0 (slots g)) ≡ false → Refused img A
       unfolding entriesTest
-      open-scan wrong = refused img (by-entries ∙ sym (stop _ _ (rw empty at wrong)))
+      open-entries wrong = refused img (by-entries ∙ (rw is-map at wrong))
 
-      pub open-same : {A : Type 0} → scanTest img g lent 0 (slots g) ≡ true → differTest img g 0 (slots g) ≡ false → Refused img A
+      all-right : (scanTest img g map 0 (slots g) && differTest img g 0 (slots g)) ≡ true → entriesTest img g ≡ true
       unfolding entriesTest
-      open-same scanned wrong = refused img (by-entries ∙ sym (go-on (rw empty at scanned) (sym wrong)))
+      all-right right = rw is-map at right
 
-      all-right : scanTest img g lent 0 (slots g) ≡ true → differTest img g 0 (slots g) ≡ true → entriesTest img g ≡ true
-      unfolding entriesTest
-      all-right scanned apart = sym (go-on (rw empty at scanned) (sym apart))
-
-      pub open-good : (map : List ℕ) → scanTest img g lent 0 (slots g) ≡ true → map ≡ markAll img g lent 0 (slots g) → differTest img g 0 (slots g) ≡ true
-          → (Good g ≡ openedOf img) × (consistent img ≡ true → (b : ℕ) → getD map b 0 ≡ held img b)
+      pub open-good : (marks left : List ℕ) → (scanTest img g map 0 (slots g) && differTest img g 0 (slots g)) ≡ true
+          → marks ≡ markAll img g map 0 (slots g) → left ≡ systemSet marks (g .bodies .0) 0
+          → (Good g ≡ openedOf img) × (consistent img ≡ true → (b : ℕ) → getD left b 0 ≡ held img b)
       unfolding openedOf held
-      open-good map scanned left apart =
-          let good = by-entries ∙ all-right scanned apart in (
+      open-good marks left right marked given =
+          let good = by-entries ∙ all-right right in
+          let whole : left ≡ systemSet (markAll img g (systemMap g) 0 (slots g)) (g .bodies .0) 0 =
+          given ∙ ap (λ (m : List ℕ). systemSet m (g .bodies .0) 0) (marked ∙ ap (λ (m : List ℕ). markAll img g m 0 (slots g)) is-map) in (
             simp (good, passed .1),
-            λ test b. ap (λ (m : List ℕ). getD m b 0) (rw empty at left)
-                ∙ (entries-held img g (open-sized .most) (all-right scanned apart) b ∙ ap (λ (h : Geometry). heldIn img h b) (sym (passed .1))),
+            λ test b. ap (λ (m : List ℕ). getD m b 0) whole
+                ∙ (entries-held img g open-sized (all-right right) b ∙ ap (λ (h : Geometry). heldIn img h b) (sym (passed .1))),
           )
 
 -- whether a pack was opened

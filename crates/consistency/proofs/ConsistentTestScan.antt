@@ -1,25 +1,27 @@
 -- The scan of all entries on one map: it passes exactly if each entry is right and no block is held twice, the map then counts, and the scan step by step.
 use Prim.Native.Nat.{ℕ, suc, zero, _+_, _-_, _≤_, _<_}
-use mathlib.Core.Path.{_≡_, refl, ap, subst, _∙_}
-use mathlib.Core.Bool.{true, false}
+use mathlib.Core.Path.{_≡_, refl, sym, ap, subst, _∙_}
+use mathlib.Core.Bool.{true, false, _&&_}
 use mathlib.Core.List.{List}
-use mathlib.Core.Logic.{inl, inr}
+use mathlib.Core.Logic.{_⊎_, inl, inr}
 use native.Mathlib.Omega.{arith}
 use native.Mathlib.Decide.{ℕ-discrete}
 use lib.ListN.{length, getD}
 use Rattle.pack.specs.declared.Geometry.{Geometry}
 use Rattle.pack.specs.File.{count}
-use Rattle.pack.specs.Entry.{blocksAt, RightEntry}
+use Rattle.pack.specs.Entry.{blocksAt, Empty, RightEntry}
+use Rattle.pack.specs.Geometry.{slots}
 use Rattle.pack.specs.Consistent.{total}
-use Rattle.answers.proofs.RefusalsTests.{and-left, and-right, and-both}
+use Rattle.answers.proofs.RefusalsTests.{and-left, and-right, and-both, first-fails, second-fails, either-fails}
 use Rattle.pack.proofs.FileCount.{count-nil}
 use Rattle.pack.proofs.EntryRead.{empty-blocks}
 use Rattle.consistency.specs.Walk.{mark}
 use Rattle.consistency.specs.EntryTest.{entryTest}
-use Rattle.consistency.specs.ConsistentTest.{scanTest, markAll}
+use Rattle.consistency.specs.DifferTest.{newTest, differTest}
+use Rattle.consistency.specs.ConsistentTest.{scanTest, markAll, UsedEnd}
 use Rattle.consistency.proofs.WalkTaking.{mark-length, mark-count, takes-once, takes-all}
-use Rattle.consistency.proofs.EntryTestWhole.{entry-right, right-entry}
-use Rattle.consistency.proofs.DifferTest.{left-of}
+use Rattle.consistency.proofs.EntryTestWhole.{empty-of, entry-right, right-entry}
+use Rattle.consistency.proofs.DifferTest.{left-of, differ-not, differ-empty}
 
 module _ (img : List ℕ) (g : Geometry) where
   -- how often the `k` entries from e on hold block b
@@ -72,17 +74,22 @@ module _ (img : List ℕ) (g : Geometry) where
         scan-counts (mark map (blocksAt img g e)) (e + 1) k (rw mark-length long) (and-right (entryTest img g map e) _ test) b,
       )
 
+  -- all are left at the start
+  pub scan-start : (map : List ℕ) (k : ℕ) → scanTest img g map 0 k ≡ scanTest img g map 0 (k - 0)
+  scan-start map k = let all : k ≡ k - 0 = omega arith in ap (scanTest img g map 0) all
+
+  pub marks-start : (map : List ℕ) (k : ℕ) → markAll img g map 0 k ≡ markAll img g map 0 (k - 0)
+  marks-start map k = let all : k ≡ k - 0 = omega arith in ap (markAll img g map 0) all
+
+  pub differ-start : (k : ℕ) → differTest img g 0 k ≡ differTest img g 0 (k - 0)
+  differ-start k = let all : k ≡ k - 0 = omega arith in ap (differTest img g 0) all
+
+  pub marks-length : (map : List ℕ) (e k : ℕ) → length (markAll img g map e k) ≡ length map
+  unfolding markAll
+  marks-length map e zero = refl
+  marks-length map e (suc k) = marks-length (mark map (blocksAt img g e)) (e + 1) k ∙ mark-length map (blocksAt img g e)
+
   -- step by step, at entry e of those below `end`
-  module _ (map : List ℕ) (end total : ℕ) (is : end ≡ total) where
-    whole : total ≡ end - 0
-    whole = omega arith
-
-    pub scan-start : scanTest img g map 0 total ≡ scanTest img g map 0 (end - 0)
-    scan-start = ap (scanTest img g map 0) whole
-
-    pub marks-start : markAll img g map 0 total ≡ markAll img g map 0 (end - 0)
-    marks-start = ap (markAll img g map 0) whole
-
   module _ (map : List ℕ) (e end : ℕ) (below : e < end) where
     pub scan-step : entryTest img g map e ≡ true → (map′ : List ℕ) → map′ ≡ mark map (blocksAt img g e)
         → scanTest img g map e (end - e) ≡ scanTest img g map′ (e + 1) (end - (e + 1))
@@ -97,14 +104,43 @@ module _ (img : List ℕ) (g : Geometry) where
     unfolding scanTest
     scan-not wrong = ap (scanTest img g map e) (left-of e end below) ∙ simp wrong
 
-  module _ (map : List ℕ) (e end : ℕ) (done : end ≤ e) where
-    none-left : end - e ≡ 0
-    none-left = omega arith
+  -- entries that are empty are right, and take no block
+  module _ (map : List ℕ) where
+    pub scan-empty : (e k : ℕ) → ((i : ℕ) → e ≤ i → i < e + k → Empty img g i) → scanTest img g map e k ≡ true
+    unfolding scanTest mark
+    scan-empty e zero all = refl
+    scan-empty e (suc k) all =
+        let here = all e (omega arith) (omega arith) in
+        and-both (empty-of img g map e here)
+        (ap (λ bs. scanTest img g (mark map bs) (e + 1) k) (empty-blocks img g e here) ∙ scan-empty (e + 1) k (λ i low high. all i (omega arith) (omega arith)))
 
-    pub scan-end : scanTest img g map e (end - e) ≡ true
-    unfolding scanTest
-    scan-end = ap (scanTest img g map e) none-left
+    pub marks-empty : (e k : ℕ) → ((i : ℕ) → e ≤ i → i < e + k → Empty img g i) → markAll img g map e k ≡ map
+    unfolding markAll mark
+    marks-empty e zero all = refl
+    marks-empty e (suc k) all =
+        ap (λ bs. markAll img g (mark map bs) (e + 1) k) (empty-blocks img g e (all e (omega arith) (omega arith)))
+        ∙ marks-empty (e + 1) k (λ i low high. all i (omega arith) (omega arith))
 
-    pub marks-end : markAll img g map e (end - e) ≡ map
-    unfolding markAll
-    marks-end = ap (markAll img g map e) none-left
+-- where no more entries are to be looked at, and all that are left are empty
+module _ (img : List ℕ) (g : Geometry) (map : List ℕ) (e end : ℕ) (at : UsedEnd img g end) (done : end ≤ e) where
+  rest-empty : (i : ℕ) → e ≤ i → i < e + (slots g - e) → Empty img g i
+  rest-empty i low high = at .empty i (omega arith) (omega arith)
+
+  pub scan-end : scanTest img g map e (slots g - e) ≡ true
+  scan-end = scan-empty img g map e (slots g - e) rest-empty
+
+  pub marks-end : markAll img g map e (slots g - e) ≡ map
+  marks-end = marks-empty img g map e (slots g - e) rest-empty
+
+  pub differ-end : differTest img g e (slots g - e) ≡ true
+  differ-end = differ-empty img g e (slots g - e) (λ i low high. rest-empty i low high .zero 0 (omega arith))
+
+-- where entry e is judged, of those below `end`, and is not right
+pub either-wrong : (img : List ℕ) (g : Geometry) (map₀ map : List ℕ) (e end : ℕ) → e < end
+    → scanTest img g map₀ 0 end ≡ scanTest img g map e (end - e) → differTest img g 0 end ≡ differTest img g e (end - e)
+    → (entryTest img g map e && newTest img g e) ≡ false → false ≡ (scanTest img g map₀ 0 end && differTest img g 0 end)
+either-wrong img g map₀ map e end below scanned differed wrong = by (either-fails (entryTest img g map e) (newTest img g e) wrong)
+  where
+    by : (entryTest img g map e ≡ false) ⊎ (newTest img g e ≡ false) → false ≡ (scanTest img g map₀ 0 end && differTest img g 0 end)
+    by (inl fails) = sym (first-fails _ (scanned ∙ scan-not img g map e end below fails))
+    by (inr fails) = sym (second-fails (scanTest img g map₀ 0 end) (differed ∙ differ-not img g e end below fails))

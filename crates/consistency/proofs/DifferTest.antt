@@ -14,7 +14,7 @@ use Rattle.pack.specs.Entry.{entryWord, entryOf}
 use Rattle.pack.specs.Key.{keyIn, SameKey}
 use Rattle.pack.proofs.KeySame.{same-key-iff}
 use Rattle.answers.proofs.RefusalsTests.{and-left, and-right, and-both, true-not-false}
-use Rattle.consistency.specs.DifferTest.{sameTest, remainders, keyRemainder, apartTest, uniqueTest, differTest}
+use Rattle.consistency.specs.DifferTest.{sameTest, remainders, keyRemainder, apartTest, newTest, differTest, Marked}
 
 -- entries left to count from e on
 pub left-of : (e end : ℕ) → e < end → end - e ≡ suc (end - (e + 1))
@@ -51,44 +51,58 @@ module _ (img : List ℕ) (g : Geometry) where
       and-both (never (sameTest img g e f) (λ test. apart f (omega arith) (omega arith) (same-iff e f .0 test)))
       (apart-tested e (f + 1) k (λ i low high. apart i (omega arith) (omega arith)))
 
-  -- the test of all pairs
-  abbrev pub Differ : ℕ → ℕ → Type 0
-  Differ e k = (i j : ℕ) → e ≤ i → i < j → j < e + k → (entryWord img g i 0 ≡ 0 → ⊥) → Same i j → ⊥
+  -- the test of one entry against those before it
+  new-means : (e : ℕ) → newTest img g e ≡ true → (entryWord img g e 0 ≡ 0 → ⊥) → Apart e 0 e
+  unfolding newTest
+  new-means e test used = apart-means e 0 e (simp (ne-eqb _ _ used) at test)
 
-  unique-means : (e k : ℕ) → uniqueTest img g e k ≡ true → (entryWord img g e 0 ≡ 0 → ⊥) → Apart e (e + 1) k
-  unfolding uniqueTest
-  unique-means e k test used = apart-means e (e + 1) k (simp (ne-eqb _ _ used) at test)
-
-  unique-tested : (e k : ℕ) → ((entryWord img g e 0 ≡ 0 → ⊥) → Apart e (e + 1) k) → uniqueTest img g e k ≡ true
-  unfolding uniqueTest
-  unique-tested e k apart =
+  new-tested : (e : ℕ) → ((entryWord img g e 0 ≡ 0 → ⊥) → Apart e 0 e) → newTest img g e ≡ true
+  unfolding newTest
+  new-tested e apart =
       elim (ℕ-discrete (entryWord img g e 0) 0) [
         | yes is ↦ simp (eq-eqb _ _ is)
-        | no used ↦ simp (ne-eqb _ _ used) (apart-tested e (e + 1) k (apart used))
+        | no used ↦ simp (ne-eqb _ _ used) (apart-tested e 0 e (apart used))
       ]
 
-  differ-means : (e k : ℕ) → differTest img g e k ≡ true → Differ e k
+  -- of each of several entries
+  each-means : (e k : ℕ) → differTest img g e k ≡ true → (j : ℕ) → e ≤ j → j < e + k → newTest img g j ≡ true
   unfolding differTest
-  differ-means e zero test i j low less high used same = omega arith
-  differ-means e (suc k) test i j low less high used same =
-      elim (ℕ-discrete e i) [
-        | yes is ↦
-            unique-means e k (and-left (uniqueTest img g e k) _ test) (λ zero. used (ap (λ (n : ℕ). entryWord img g n 0) (sym is) ∙ zero)) j
-            (omega arith) (omega arith) (subst (λ (n : ℕ). Same n j) (sym is) same)
-        | no other ↦ differ-means (e + 1) k (and-right (uniqueTest img g e k) _ test) i j (omega (arith, other)) less (omega arith) used same
+  each-means e zero test j low high = absurd (omega arith)
+  each-means e (suc k) test j low high =
+      elim (ℕ-discrete e j) [
+        | yes is ↦ subst (λ (n : ℕ). newTest img g n ≡ true) is (and-left (newTest img g e) _ test)
+        | no other ↦ each-means (e + 1) k (and-right (newTest img g e) _ test) j (omega (arith, other)) (omega arith)
       ]
 
-  differ-tested : (e k : ℕ) → Differ e k → differTest img g e k ≡ true
+  each-tested : (e k : ℕ) → ((j : ℕ) → e ≤ j → j < e + k → newTest img g j ≡ true) → differTest img g e k ≡ true
   unfolding differTest
-  differ-tested e zero differ = refl
-  differ-tested e (suc k) differ =
-      and-both (unique-tested e k (λ used i low high. differ e i (omega arith) (omega arith) (omega arith) used))
-      (differ-tested (e + 1) k (λ i j low less high. differ i j (omega arith) less (omega arith)))
+  each-tested e zero all = refl
+  each-tested e (suc k) all = and-both (all e (omega arith) (omega arith)) (each-tested (e + 1) k (λ j low high. all j (omega arith) (omega arith)))
 
-  pub differ-iff : (e k : ℕ) → differTest img g e k ≡ true ↔ Differ e k
-  differ-iff e k = (differ-means e k, differ-tested e k)
+  -- the test of all pairs
+  abbrev pub Differ : ℕ → Type 0
+  Differ k = (i j : ℕ) → i < j → j < k → (entryWord img g i 0 ≡ 0 → ⊥) → Same i j → ⊥
+
+  -- entries of one key are in use both or neither
+  used-same : (i j : ℕ) → Same i j → (entryWord img g i 0 ≡ 0 → ⊥) → entryWord img g j 0 ≡ 0 → ⊥
+  unfolding entryOf
+  used-same i j same used none = used (same .name1 ∙ none)
+
+  turned : (i j : ℕ) → Same i j → Same j i
+  turned i j same = record { name1 = sym (same .name1); name2 = sym (same .name2); extension = sym (same .extension); uic = sym (same .uic) }
+
+  pub differ-iff : (k : ℕ) → differTest img g 0 k ≡ true ↔ Differ k
+  differ-iff k = (
+    λ test i j less below used same.
+        new-means j (each-means 0 k test j (omega arith) (omega arith)) (used-same i j same used) i (omega arith) (omega arith) (turned i j same),
+    λ differ. each-tested 0 k (λ j low high. new-tested j (λ used i below less same.
+        differ i j (omega arith) (omega arith) (used-same j i same used) (turned j i same))),
+  )
 
   -- step by step, at entry f of those below `end`
+  pub apart-start : (e : ℕ) → apartTest img g e 0 e ≡ apartTest img g e 0 (e - 0)
+  apart-start e = let all : e ≡ e - 0 = omega arith in ap (apartTest img g e 0) all
+
   module _ (e f end : ℕ) (below : f < end) where
     pub apart-step : sameTest img g e f ≡ false → apartTest img g e f (end - f) ≡ apartTest img g e (f + 1) (end - (f + 1))
     unfolding apartTest
@@ -102,22 +116,25 @@ module _ (img : List ℕ) (g : Geometry) where
   unfolding apartTest
   apart-end e f end done = let none : end - f ≡ 0 = omega arith in ap (apartTest img g e f) none
 
-  pub unique-empty : (e k : ℕ) → entryWord img g e 0 ≡ 0 → true ≡ uniqueTest img g e k
-  unfolding uniqueTest
-  unique-empty e k is = simp (eq-eqb _ _ is)
+  pub new-empty : (e : ℕ) → entryWord img g e 0 ≡ 0 → newTest img g e ≡ true
+  unfolding newTest
+  new-empty e is = simp (eq-eqb _ _ is)
 
-  pub unique-used : (e end total : ℕ) → end ≡ total → (entryWord img g e 0 ≡ 0 → ⊥) → uniqueTest img g e (total - (e + 1)) ≡ apartTest img g e (e + 1) (end - (e + 1))
-  unfolding uniqueTest
-  unique-used e end total is used = simp (ne-eqb _ _ used, is)
+  pub new-used : (e : ℕ) → (entryWord img g e 0 ≡ 0 → ⊥) → (r : Bool) → r ≡ apartTest img g e 0 e → r ≡ newTest img g e
+  unfolding newTest
+  new-used e used r is = simp (ne-eqb _ _ used) is
 
-  module _ (e end total : ℕ) (is : end ≡ total) (below : e < end) where
-    pub differ-step : uniqueTest img g e (total - (e + 1)) ≡ true → differTest img g e (end - e) ≡ differTest img g (e + 1) (end - (e + 1))
+  module _ (e end : ℕ) (below : e < end) where
+    pub differ-step : newTest img g e ≡ true → differTest img g e (end - e) ≡ differTest img g (e + 1) (end - (e + 1))
     unfolding differTest
-    differ-step unique = ap (differTest img g e) (left-of e end below) ∙ simp (is, unique)
+    differ-step is = ap (differTest img g e) (left-of e end below) ∙ simp is
 
-  pub differ-end : (e end : ℕ) → end ≤ e → differTest img g e (end - e) ≡ true
-  unfolding differTest
-  differ-end e end done = let none : end - e ≡ 0 = omega arith in ap (differTest img g e) none
+    pub differ-not : newTest img g e ≡ false → differTest img g e (end - e) ≡ false
+    unfolding differTest
+    differ-not twice = ap (differTest img g e) (left-of e end below) ∙ simp twice
+
+  pub differ-empty : (e k : ℕ) → ((j : ℕ) → e ≤ j → j < e + k → entryWord img g j 0 ≡ 0) → differTest img g e k ≡ true
+  differ-empty e k empty = each-tested e k (λ j low high. new-empty j (empty j low high))
 
   -- the remainder of what was read
   pub remainder-of : (e : ℕ) {w₀ w₁ w₂ w₃ : ℕ} → w₀ ≡ entryWord img g e 0 → w₁ ≡ entryWord img g e 1 → w₂ ≡ entryWord img g e 2 → w₃ ≡ entryWord img g e 3
@@ -129,59 +146,38 @@ module _ (img : List ℕ) (g : Geometry) where
   unfolding keyRemainder entryOf
   same-remainder e f same = rw (same .name1, same .name2, same .extension, same .uic)
 
-  -- the remainders of the entries from e up to `total` are marked
-  pub record Marked (marks : List ℕ) (e total : ℕ) : Type 0 where
-    pub long : length marks ≡ remainders
-    pub marked : (i : ℕ) → e ≤ i → i < total → getD marks (keyRemainder img g i) 0 ≡ 1
+  pub marked-none : (marks : List ℕ) → length marks ≡ remainders → Marked img g marks 0
+  marked-none marks long = record { long = long; marked = λ i low used none. absurd (omega arith) }
 
-  pub marked-none : (marks : List ℕ) (end total : ℕ) → length marks ≡ remainders → end ≡ total → Marked marks end total
-  marked-none marks end total long is = record { long = long; marked = λ i low high. absurd (omega arith) }
+  -- an empty entry has no file to mark
+  pub marked-empty : (marks : List ℕ) (e : ℕ) → entryWord img g e 0 ≡ 0 → Marked img g marks e → Marked img g marks (e + 1)
+  marked-empty marks e empty before =
+      record {
+        long = before .long;
+        marked = λ i low used none. elim (ℕ-discrete i e) [
+          | yes is ↦ used (ap (λ (n : ℕ). entryWord img g n 0) is ∙ empty)
+          | no other ↦ before .marked i (omega (arith, other)) used none
+        ];
+      }
 
-  module _ (marks : List ℕ) (e total at : ℕ) (is : at ≡ keyRemainder img g e) where
-    pub marked-more : at < remainders → Marked marks (e + 1) total → Marked (set marks at 1) e total
-    marked-more few before =
+  module _ (marks : List ℕ) (e at : ℕ) (is : at ≡ keyRemainder img g e) (before : Marked img g marks e) where
+    pub marked-more : at < remainders → Marked img g (set marks at 1) (e + 1)
+    marked-more few =
         record {
           long = length-set marks at 1 ∙ before .long;
-          marked = λ i low high. elim (ℕ-discrete (keyRemainder img g i) at) [
-            | yes same ↦ ap (λ (n : ℕ). getD (set marks at 1) n 0) same ∙ getD-set-same marks at 1 0 (omega (arith, few, before .long))
-            | no other ↦ getD-set-other marks at (keyRemainder img g i) 1 0 other ∙ before .marked i (behind i low other) high
+          marked = λ i low used none. elim (ℕ-discrete (keyRemainder img g i) at) [
+            | yes same ↦ omega (arith, none, ap (λ (n : ℕ). getD (set marks at 1) n 0) same, getD-set-same marks at 1 0 (omega (arith, few, before .long)))
+            | no other ↦ before .marked i (earlier i low other) used (sym (getD-set-other marks at (keyRemainder img g i) 1 0 other) ∙ none)
           ];
         }
       where
-        behind : (i : ℕ) → e ≤ i → (keyRemainder img g i ≡ at → ⊥) → e + 1 ≤ i
-        behind i low other = elim (ℕ-discrete e i) [
-          | yes here ↦ absurd (other (ap (keyRemainder img g) (sym here) ∙ sym is))
-          | no later ↦ omega (arith, later)
+        earlier : (i : ℕ) → i < e + 1 → (keyRemainder img g i ≡ at → ⊥) → i < e
+        earlier i low other = elim (ℕ-discrete i e) [
+          | yes here ↦ absurd (other (ap (keyRemainder img g) here ∙ sym is))
+          | no another ↦ omega (arith, another)
         ]
 
-    -- where the remainder of e is not marked, no later file is the same
-    pub unmarked-unique : getD marks at 0 ≡ 0 → Marked marks (e + 1) total → uniqueTest img g e (total - (e + 1)) ≡ true
-    unmarked-unique free before = unique-tested e (total - (e + 1)) (λ used i low high same.
-        let there : getD marks (keyRemainder img g i) 0 ≡ 1 = before .marked i low (omega arith) in
-        let one : getD marks at 0 ≡ 1 = ap (λ (n : ℕ). getD marks n 0) (is ∙ same-remainder e i same) ∙ there in
-        omega (arith, free, one))
-
-  -- downwards, from e to the entry before it
-  module _ (e total : ℕ) (some : 0 < e) (most : e ≤ total) where
-    back : e - 1 + 1 ≡ e
-    back = omega arith
-
-    pub differ-down : uniqueTest img g (e - 1) (total - (e - 1 + 1)) ≡ true → differTest img g e (total - e) ≡ true → differTest img g (e - 1) (total - (e - 1)) ≡ true
-    differ-down unique rest =
-        differ-step (e - 1) total total refl (omega arith) unique ∙ subst (λ (n : ℕ). differTest img g n (total - n) ≡ true) (sym back) rest
-
-    pub marked-back : (marks : List ℕ) → Marked marks e total → Marked marks (e - 1 + 1) total
-    marked-back marks before = subst (λ (n : ℕ). Marked marks n total) (sym back) before
-
-  pub differ-twice : (e total : ℕ) → e < total → uniqueTest img g e (total - (e + 1)) ≡ false → false ≡ differTest img g 0 total
-  differ-twice e total below twice = otherwise (differTest img g 0 total) (λ test.
-      true-not-false (sym (unique-tested e (total - (e + 1)) (λ used i low high. differ-means 0 total test e i (omega arith) (omega arith) (omega arith) used)) ∙ twice))
-    where
-      otherwise : (t : Bool) → (t ≡ true → ⊥) → false ≡ t
-      otherwise true no-way = absurd (no-way refl)
-      otherwise false no-way = refl
-
-  pub differ-all : (e total : ℕ) → e ≡ 0 → differTest img g e (total - e) ≡ true → true ≡ differTest img g 0 total
-  differ-all e total none test =
-      let all : total - 0 ≡ total = omega arith in
-      sym test ∙ (ap (λ (n : ℕ). differTest img g n (total - n)) none ∙ ap (differTest img g 0) all)
+    -- where the remainder of e is not marked, no file before it is the same
+    pub unmarked-new : getD marks at 0 ≡ 0 → (entryWord img g e 0 ≡ 0 → ⊥) → true ≡ newTest img g e
+    unmarked-new free used = sym (new-tested e (λ _ i low high same.
+        before .marked i (omega arith) (used-same e i same used) (ap (λ (n : ℕ). getD marks n 0) (sym (is ∙ same-remainder e i same)) ∙ free)))

@@ -1,7 +1,7 @@
 -- The answers of the code that tests one entry: what each has to show, from the tests that led to it.
 use Prim.Native.Nat.{ℕ, _≤_, _<_}
-use mathlib.Core.Path.{_≡_, sym, ap, subst, _∙_}
-use mathlib.Core.Bool.{Bool, true, false}
+use mathlib.Core.Path.{_≡_, refl, sym, ap, _∙_}
+use mathlib.Core.Bool.{Bool, true, false, _&&_, and-true}
 use mathlib.Core.List.{List}
 use native.Mathlib.Omega.{arith}
 use native.Mathlib.Numerals.{add-one}
@@ -15,29 +15,35 @@ use Rattle.pack.specs.declared.BlockNo.{BlockNo}
 use Rattle.pack.specs.HeaderTest.{listed}
 use Rattle.pack.specs.File.{blocksOf}
 use Rattle.pack.specs.Entry.{entryWord, entryOf, blocksAt, Empty}
-use Rattle.answers.proofs.RefusalsTests.{go-on, stop}
+use Rattle.answers.proofs.RefusalsTests.{go-on, stop, first-fails, parts}
 use Rattle.pack.proofs.EntryRead.{empty-blocks}
 use Rattle.consistency.specs.declared.Walked.{Walked}
 use Rattle.consistency.specs.declared.Walked.the-variants.{End, Stopped}
 use Rattle.consistency.specs.Walk.{mark, blocksFrom, walkOf}
 use Rattle.consistency.specs.EntryTest.{keyTest, kindTest, opensTest, fieldsTest, endTest, bodyTest, restTest, entryTest}
 use Rattle.consistency.proofs.WalkSteps.{Walks, walks, walks-not}
+use Rattle.consistency.specs.DifferTest.{newTest}
 use Rattle.consistency.proofs.EntryTestWhole.{rest-iff}
+use Rattle.consistency.proofs.DifferTest.{new-empty}
 
--- of the test of the name, the extension and the UIC
-module _ (img : List ℕ) (x : Entry) where
-  pub key-name : legalName (x .name1) (x .name2) ≡ false → false ≡ keyTest img x
-  unfolding keyTest
-  key-name wrong = stop _ _ wrong
+-- of the test of the name, the extension and the UIC of entry e, of which these words were read
+module _ (img : List ℕ) (g : Geometry) (e : ℕ) {name1 name2 extension : ℕ}
+    (is₀ : name1 ≡ entryWord img g e 0) (is₁ : name2 ≡ entryWord img g e 1) (is₂ : extension ≡ entryWord img g e 2) where
+  pub key-name : (legalName name1 name2 && legalExtension extension) ≡ false → false ≡ keyTest img (entryOf img g e)
+  unfolding keyTest entryOf
+  key-name wrong =
+      by (legalName (entryWord img g e 0) (entryWord img g e 1)) (legalExtension (entryWord img g e 2)) (listed img (entryWord img g e 3)) (rw (is₀, is₁, is₂) at wrong)
+    where
+      by : (a b c : Bool) → (a && b) ≡ false → false ≡ (a && (b && c))
+      by true b c fails = sym (first-fails c fails)
+      by false b c fails = refl
 
-  module _ (named : legalName (x .name1) (x .name2) ≡ true) where
-    pub key-extension : legalExtension (x .extension) ≡ false → false ≡ keyTest img x
-    unfolding keyTest
-    key-extension wrong = go-on named (stop _ _ wrong)
-
-    pub key-uic : legalExtension (x .extension) ≡ true → (r : Bool) → r ≡ listed img (x .uic) → r ≡ keyTest img x
-    unfolding keyTest
-    key-uic extended r is = go-on named (go-on extended is)
+  pub key-uic : (legalName name1 name2 && legalExtension extension) ≡ true → (r : Bool) (uic : ℕ) → uic ≡ entryWord img g e 3 → r ≡ listed img uic
+      → r ≡ keyTest img (entryOf img g e)
+  unfolding keyTest entryOf
+  key-uic named r uic is₃ is =
+      let holds = parts (legalName (entryWord img g e 0) (entryWord img g e 1)) (legalExtension (entryWord img g e 2)) (rw (is₀, is₁, is₂) at named) in
+      go-on (holds .0) (go-on (holds .1) (rw is₃ at is))
 
 -- of the test of length and writer by the kind
 module _ (kind count writer : ℕ) where
@@ -71,25 +77,27 @@ pub opens-read : (writer readers : ℕ) → writer ≤ 0 → leb readers 62 ≡ 
 unfolding opensTest
 opens-read writer readers none = simp (le-ltb _ _ none, add-zero)
 
--- of the test of all fields
-module _ (img : List ℕ) (x : Entry) where
-  pub fields-key : keyTest img x ≡ false → false ≡ fieldsTest img x
+-- of the test of all fields of entry e
+module _ (img : List ℕ) (g : Geometry) (e : ℕ) where
+  pub fields-key : keyTest img (entryOf img g e) ≡ false → false ≡ fieldsTest img (entryOf img g e)
   unfolding fieldsTest
   fields-key wrong = stop _ _ wrong
 
-  module _ (key : keyTest img x ≡ true) where
-    pub fields-protect : 255 < x .protect → false ≡ fieldsTest img x
-    unfolding fieldsTest
-    fields-protect large = go-on key (stop _ _ (lt-leb _ _ large))
+  module _ (key : keyTest img (entryOf img g e) ≡ true) {protect : ℕ} (is₄ : protect ≡ entryWord img g e 4) where
+    pub fields-protect : 255 < protect → false ≡ fieldsTest img (entryOf img g e)
+    unfolding fieldsTest entryOf
+    fields-protect large = go-on key (stop _ _ (lt-leb _ _ (rw is₄ at large)))
 
-    module _ (few : x .protect ≤ 255) where
-      pub fields-kind : kindTest (x .kind) (x .length) (x .writer) ≡ false → false ≡ fieldsTest img x
-      unfolding fieldsTest
-      fields-kind wrong = go-on key (go-on (le-leb _ _ few) (stop _ _ wrong))
+    module _ (few : protect ≤ 255) {kind length writer : ℕ}
+        (is₅ : kind ≡ entryWord img g e 5) (is₇ : length ≡ entryWord img g e 7) (is₉ : writer ≡ entryWord img g e 9) where
+      pub fields-kind : kindTest kind length writer ≡ false → false ≡ fieldsTest img (entryOf img g e)
+      unfolding fieldsTest entryOf
+      fields-kind wrong = go-on key (go-on (le-leb _ _ (rw is₄ at few)) (stop _ _ (rw (is₅, is₇, is₉) at wrong)))
 
-      pub fields-opens : kindTest (x .kind) (x .length) (x .writer) ≡ true → (r : Bool) → r ≡ opensTest (x .writer) (x .readers) → r ≡ fieldsTest img x
-      unfolding fieldsTest
-      fields-opens right r is = go-on key (go-on (le-leb _ _ few) (go-on right is))
+      pub fields-opens : kindTest kind length writer ≡ true → (r : Bool) (readers : ℕ) → readers ≡ entryWord img g e 10 → r ≡ opensTest writer readers
+          → r ≡ fieldsTest img (entryOf img g e)
+      unfolding fieldsTest entryOf
+      fields-opens right r readers is₁₀ is = go-on key (go-on (le-leb _ _ (rw is₄ at few)) (go-on (rw (is₅, is₇, is₉) at right) (rw (is₉, is₁₀) at is)))
 
 -- after the walk of the blocks of entry x, of which r is the answer
 module _ (img : List ℕ) (g : Geometry) (map : List ℕ) (x : Entry) (r : Walked) (is : r ≡ walkOf img g (x .kind) map 0 (x .length) (x .first .0)) where
@@ -113,40 +121,32 @@ module _ (img : List ℕ) (g : Geometry) (map : List ℕ) (x : Entry) (r : Walke
     unfolding bodyTest blocksOf blocksFrom endTest
     body-chain last kind = go-on (walked .all) (go-on (eq-eqb _ _ (walked .last ∙ last)) (simp (ne-eqb _ _ kind, walked .next)))
 
--- of the test of entry e, of which x is what was read
-pub record Answers (img : List ℕ) (g : Geometry) (map : List ℕ) (e : ℕ) (x : Entry) : Type 0 where
-  pub empty : x .name1 ≡ 0 → (r : Bool) → r ≡ restTest img g e 0 → (r ≡ entryTest img g map e) × (r ≡ true → map ≡ mark map (blocksAt img g e))
-  pub fields : (x .name1 ≡ 0 → ⊥) → fieldsTest img x ≡ false → false ≡ entryTest img g map e
-  pub rest : (x .name1 ≡ 0 → ⊥) → fieldsTest img x ≡ true → restTest img g e 11 ≡ false → false ≡ entryTest img g map e
-  pub body : (x .name1 ≡ 0 → ⊥) → fieldsTest img x ≡ true → restTest img g e 11 ≡ true → (r : Bool) → r ≡ bodyTest img g map x → r ≡ entryTest img g map e
-  pub taken : (map′ : List ℕ) → map′ ≡ mark map (blocksOf img g x) → map′ ≡ mark map (blocksAt img g e)
+-- of the test of an empty entry
+module _ (img : List ℕ) (g : Geometry) (map : List ℕ) (e : ℕ) {w : ℕ} (is : w ≡ entryWord img g e 0) (none : w ≡ 0) where
+  pub empty-answer : (r : Bool) → r ≡ restTest img g e 0 → r ≡ (entryTest img g map e && newTest img g e)
+  unfolding entryTest entryOf
+  empty-answer r tested = rw (new-empty img g e (sym is ∙ none), eq-eqb _ _ (sym is ∙ none)) (tested ∙ sym (and-true _))
 
-empty-mark : (img : List ℕ) (g : Geometry) (map : List ℕ) (e : ℕ) → restTest img g e 0 ≡ true → map ≡ mark map (blocksAt img g e)
-unfolding mark
-empty-mark img g map e test =
-    let empty : Empty img g e = record { zero = λ i below. rest-iff img g e 0 (omega arith) .0 test i (omega arith) below } in
-    sym (ap (mark map) (empty-blocks img g e empty))
+  pub empty-mark : restTest img g e 0 ≡ true → map ≡ mark map (blocksAt img g e)
+  unfolding mark
+  empty-mark test =
+      let empty : Empty img g e = record { zero = λ i below. rest-iff img g e 0 (omega arith) .0 test i (omega arith) below } in
+      sym (ap (mark map) (empty-blocks img g e empty))
 
-at-entry : (img : List ℕ) (g : Geometry) (map : List ℕ) (e : ℕ) → Answers img g map e (entryOf img g e)
-unfolding entryTest
-at-entry img g map e =
-    record {
-      empty = λ zero r is. (simp (eq-eqb _ _ zero) is, λ right. empty-mark img g map e (sym is ∙ right));
-      fields = λ used wrong. simp (ne-eqb _ _ used) (stop _ _ wrong);
-      rest = λ used right wrong. simp (ne-eqb _ _ used) (go-on right (stop _ _ wrong));
-      body = λ used right zero r is. simp (ne-eqb _ _ used) (go-on right (go-on zero is));
-      taken = λ map′ is. is;
-    }
+-- of the test of entry e, one in use
+module _ (img : List ℕ) (g : Geometry) (map : List ℕ) (e : ℕ) (used : entryWord img g e 0 ≡ 0 → ⊥) where
+  pub file-fields : fieldsTest img (entryOf img g e) ≡ false → false ≡ entryTest img g map e
+  unfolding entryTest entryOf
+  file-fields wrong = simp (ne-eqb _ _ used) (stop _ _ wrong)
 
-pub answers : (img : List ℕ) (g : Geometry) (map : List ℕ) (e : ℕ) (x : Entry) → x ≡ entryOf img g e → Answers img g map e x
-answers img g map e x is = subst (Answers img g map e) (sym is) (at-entry img g map e)
+  module _ (right : fieldsTest img (entryOf img g e) ≡ true) where
+    pub file-rest : restTest img g e 11 ≡ false → false ≡ entryTest img g map e
+    unfolding entryTest entryOf
+    file-rest wrong = simp (ne-eqb _ _ used) (go-on right (stop _ _ wrong))
 
--- where w is what was read of its first word
-module _ (img : List ℕ) (g : Geometry) (e : ℕ) (w : ℕ) (is : w ≡ entryWord img g e 0) where
-  pub name-zero : w ≡ 0 → entryOf img g e .name1 ≡ 0
-  unfolding entryOf
-  name-zero zero = sym is ∙ zero
+    pub file-body : restTest img g e 11 ≡ true → (x : Entry) → x ≡ entryOf img g e → (r : Bool) → r ≡ bodyTest img g map x → r ≡ entryTest img g map e
+    unfolding entryTest entryOf
+    file-body zero x read r is = simp (ne-eqb _ _ used) (go-on right (go-on zero (rw read at is)))
 
-  pub name-used : (x : Entry) → x ≡ entryOf img g e → (w ≡ 0 → ⊥) → x .name1 ≡ 0 → ⊥
-  unfolding entryOf
-  name-used x at used zero = used (is ∙ (ap (λ (y : Entry). y .name1) (sym at) ∙ zero))
+  pub file-mark : (x : Entry) → x ≡ entryOf img g e → (map′ : List ℕ) → map′ ≡ mark map (blocksOf img g x) → map′ ≡ mark map (blocksAt img g e)
+  file-mark x read map′ is = rw read at is

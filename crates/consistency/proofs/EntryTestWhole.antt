@@ -23,6 +23,7 @@ use Rattle.pack.proofs.EntryRead.{empty-blocks}
 use Rattle.radix.proofs.Names.{name-not-zero}
 use Rattle.consistency.specs.Walk.{takes}
 use Rattle.consistency.specs.EntryTest.{fieldsTest, bodyTest, restTest, entryTest}
+use Rattle.consistency.specs.ConsistentTest.{UsedEnd}
 use Rattle.consistency.proofs.WalkTaking.{takes-range}
 use Rattle.consistency.proofs.EntryTestFields.{fields-iff, kind-iff}
 
@@ -35,6 +36,26 @@ pub rest-is : (img : List ℕ) (g : Geometry) (e i : ℕ) (r : Bool) {words : �
     → r ≡ restTest img g e i
 unfolding restTest
 rest-is img g e i r size is = rw size at is
+
+-- the entries from e to `end`, the last of all, stand in the image whole; where all their words are 0 they are empty
+module _ {img : List ℕ} {g : Geometry} {e end words : ℕ} (sized : Sized img g) (all : end ≡ slots g) (below : e < end) (size : words ≡ blockWords g) where
+  pub entries-whole : 2 * (words + 16 * e + 16 * (end - e)) ≤ length img
+  entries-whole = omega (arith, size, entry-whole sized (end - 1) (omega (arith, all)))
+
+module _ (img : List ℕ) (g : Geometry) where
+  pub used-stretch : (e end : ℕ) {words : ℕ} → end ≡ slots g → e < end → words ≡ blockWords g → zeros img (words + 16 * e) (16 * (end - e)) ≡ true → UsedEnd img g e
+  unfolding entryWord
+  used-stretch e end {words} all below size test =
+      record {
+        most = omega (arith, all);
+        empty = λ i low high. record {
+          zero = λ j few.
+              zeros-at img (words + 16 * e) (16 * (end - e)) (entryAt g i + j) test (omega (arith, size)) (omega (arith, size, all));
+        };
+      }
+
+  pub used-all : (end : ℕ) → end ≡ slots g → UsedEnd img g end
+  used-all end all = record { most = omega (arith, all); empty = λ i low high. absurd (omega (arith, all)) }
 
 pub rest-iff : (img : List ℕ) (g : Geometry) (e i : ℕ) → i ≤ 16 → restTest img g e i ≡ true ↔ ((j : ℕ) → i ≤ j → j < 16 → entryWord img g e j ≡ 0)
 unfolding restTest entryWord
@@ -55,7 +76,7 @@ module _ (img : List ℕ) (g : Geometry) (map : List ℕ) (e : ℕ) where
       let empty : Empty img g e = record { zero = λ i below. rest-iff img g e 0 (omega arith) .0 test i (omega arith) below } in
       (inl empty, ap (takes (g .bodies .0) (g .blocks) map) (empty-blocks img g e empty))
 
-  empty-of : Empty img g e → entryTest img g map e ≡ true
+  pub empty-of : Empty img g e → entryTest img g map e ≡ true
   unfolding entryTest entryOf
   empty-of empty = simp (eq-eqb _ _ (empty .zero 0 (omega arith))) (rest-iff img g e 0 (omega arith) .1 (λ i low high. empty .zero i high))
 

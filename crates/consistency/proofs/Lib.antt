@@ -1,5 +1,6 @@
 -- The laws of the check.
 pub mod WalkTaking
+pub mod WalkSystem
 pub mod WalkSteps
 pub mod EntryTestFields
 pub mod EntryTestWhole

@@ -5,11 +5,12 @@ use mathlib.Core.Bool.{Bool, true, false, cond}
 use mathlib.Core.List.{List}
 use native.Mathlib.Omega.{arith}
 use lib.ListN.{getD, set}
-use borrow.Author.Tests.{lt-ltb, le-ltb, le-leb, lt-leb, eq-eqb, ne-eqb}
+use lib.Dec.{leb, ltb}
+use borrow.Author.Tests.{lt-ltb, le-ltb, le-leb, eq-eqb, ne-eqb}
 use Rattle.pack.specs.declared.Geometry.{Geometry}
 use Rattle.pack.specs.declared.BlockNo.{BlockNo}
 use Rattle.pack.specs.File.{nextOf, chain, after, lastOf}
-use Rattle.answers.proofs.RefusalsTests.{down}
+use Rattle.answers.proofs.RefusalsTests.{down, first-fails, second-fails}
 use Rattle.consistency.specs.declared.Walked.the-variants.{End, Stopped}
 use Rattle.consistency.specs.Walk.{takes, mark, blocksFrom, walkOf}
 
@@ -27,17 +28,16 @@ module _ (img : List ℕ) (g : Geometry) (kind : ℕ) (map : List ℕ) (other le
   unfolding mark blocksFrom chain
   mark-step next is = ap (λ (k : ℕ). mark map (blocksFrom img g kind k b)) (down left more) ∙ simp is
 
-  pub walk-low : b < g .bodies .0 → walkOf img g kind map other left b ≡ Stopped
-  unfolding walkOf blocksFrom chain takes
-  walk-low low = at-suc ∙ simp (lt-leb _ _ low)
+  stopped : (test : Bool) (last next : BlockNo) → test ≡ false → cond test (End last next) Stopped ≡ Stopped
+  stopped test last next fails = rw fails
 
-  pub walk-high : g .bodies .0 ≤ b → g .blocks ≤ b → walkOf img g kind map other left b ≡ Stopped
+  pub walk-high : g .blocks ≤ b → walkOf img g kind map other left b ≡ Stopped
   unfolding walkOf blocksFrom chain takes
-  walk-high from high = at-suc ∙ simp (le-leb _ _ from, le-ltb _ _ high)
+  walk-high high = at-suc ∙ stopped _ _ _ (second-fails (leb (g .bodies .0) b) (first-fails _ (le-ltb _ _ high)))
 
-  pub walk-taken : g .bodies .0 ≤ b → b < g .blocks → (getD map b 0 ≡ 0 → ⊥) → walkOf img g kind map other left b ≡ Stopped
+  pub walk-taken : (getD map b 0 ≡ 0 → ⊥) → walkOf img g kind map other left b ≡ Stopped
   unfolding walkOf blocksFrom chain takes
-  walk-taken from below taken = at-suc ∙ simp (le-leb _ _ from, lt-ltb _ _ below, ne-eqb _ _ taken)
+  walk-taken taken = at-suc ∙ stopped _ _ _ (second-fails (leb (g .bodies .0) b) (second-fails (ltb b (g .blocks)) (first-fails _ (ne-eqb _ _ taken))))
 
 module _ (img : List ℕ) (g : Geometry) (kind : ℕ) (map : List ℕ) (other left b : ℕ) (none : left ≡ 0) where
   pub walk-end : walkOf img g kind map other left b ≡ End (record { 0 = other }) (record { 0 = b })

@@ -1,5 +1,5 @@
 -- Means: the check of a whole image as a test; proofs/ConsistentTestIff.antt has that it is true exactly if the image is consistent.
-use Prim.Native.Nat.{ℕ, suc, zero, _+_}
+use Prim.Native.Nat.{ℕ, suc, zero, _+_, _≤_, _<_}
 use mathlib.Core.Bool.{Bool, true, cond, _&&_}
 use mathlib.Core.List.{List}
 use lib.ListN.{replicate}
@@ -7,10 +7,10 @@ use Rattle.pack.specs.declared.Geometry.{Geometry}
 use Rattle.pack.specs.GeometrySized.{mostBlocks}
 use Rattle.pack.specs.Geometry.{geometryOf, slots}
 use Rattle.pack.specs.HeaderTest.{headerTest}
-use Rattle.pack.specs.Entry.{blocksAt}
+use Rattle.pack.specs.Entry.{blocksAt, Empty}
 use Rattle.consistency.specs.declared.Opened.{Opened}
 use Rattle.consistency.specs.declared.Opened.the-variants.{Good, Bad}
-use Rattle.consistency.specs.Walk.{mark}
+use Rattle.consistency.specs.Walk.{mark, systemSet}
 use Rattle.consistency.specs.EntryTest.{entryTest}
 use Rattle.consistency.specs.DifferTest.{differTest}
 
@@ -24,13 +24,21 @@ unfoldable pub markAll : List ℕ → Geometry → List ℕ → ℕ → ℕ → 
 markAll img g map e zero = map
 markAll img g map e (suc k) = markAll img g (mark map (blocksAt img g e)) (e + 1) k
 
--- the map on which no block is taken
+-- the map on which no block is taken, and that with the system's
 abbrev pub emptyMap : List ℕ
 emptyMap = replicate mostBlocks 0
 
+abbrev pub systemMap : Geometry → List ℕ
+systemMap g = systemSet emptyMap (g .bodies .0) 1
+
+-- from entry `end` on all are empty
+pub record UsedEnd (img : List ℕ) (g : Geometry) (end : ℕ) : Type 0 where
+  pub most : end ≤ slots g
+  pub empty : (e : ℕ) → end ≤ e → e < slots g → Empty img g e
+
 -- the entries of an image are right, and their files differ
 unfoldable pub entriesTest : List ℕ → Geometry → Bool
-entriesTest img g = scanTest img g emptyMap 0 (slots g) && differTest img g 0 (slots g)
+entriesTest img g = scanTest img g (systemMap g) 0 (slots g) && differTest img g 0 (slots g)
 
 unfoldable pub consistent : List ℕ → Bool
 consistent img = headerTest img && entriesTest img (geometryOf img)

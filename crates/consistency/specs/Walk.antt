@@ -1,7 +1,8 @@
 -- Means: a walk over the blocks of a file, which takes each on a map. The map has 1 at a block that is taken and 0 at another.
-use Prim.Native.Nat.{ℕ}
+use Prim.Native.Nat.{ℕ, suc, zero, _<_}
 use mathlib.Core.Bool.{Bool, true, false, cond, _&&_}
 use mathlib.Core.List.{List, [], _∷_}
+use mathlib.Core.Path.{_≡_}
 use lib.Dec.{eqb, leb, ltb}
 use lib.ListN.{getD, set}
 use Rattle.pack.specs.declared.Geometry.{Geometry}
@@ -18,6 +19,15 @@ takes low end map (b ∷ bs) = leb low b && (ltb b end && (eqb (getD map b 0) 0 
 unfoldable pub mark : List ℕ → List ℕ → List ℕ
 mark map [] = map
 mark map (b ∷ bs) = mark (set map b 1) bs
+
+-- the map with the first `count` blocks taken, or given back: those of the system
+unfoldable pub systemSet : List ℕ → ℕ → ℕ → List ℕ
+systemSet map zero taken = map
+systemSet map (suc count) taken = set (systemSet map count taken) count taken
+
+-- the blocks of the system are taken: then whoever finds a block not taken need not ask whether it is a body
+pub record SystemTaken (map : List ℕ) (g : Geometry) : Type 0 where
+  pub taken : (b : ℕ) → b < g .bodies .0 → getD map b 0 ≡ 0 → ⊥
 
 -- the `length` blocks of a file of a kind from `first` on
 unfoldable pub blocksFrom : List ℕ → Geometry → ℕ → ℕ → ℕ → List ℕ

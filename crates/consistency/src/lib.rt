@@ -1,18 +1,19 @@
 // The check of a whole image: its header, then each entry with its blocks taken on a map, then that files differ.
 ghost use mathlib.Core.Path.{_≡_};
-ghost use mathlib.Core.Bool.{true};
-ghost use Prim.Native.Nat.{ℕ, _+_, _*_, _-_, _<_, _≤_};
+ghost use mathlib.Core.Bool.{true, _&&_};
+ghost use Prim.Native.Nat.{ℕ, _+_, _<_, _≤_};
 ghost use lib.ListN.{length, getD, replicate};
+ghost use Rattle.radix.specs.NamesTest.{legalName, legalExtension};
 ghost use Rattle.pack.specs.GeometrySized.{mostBlocks, Sized};
 ghost use Rattle.pack.specs.Geometry.{slots};
 ghost use Rattle.pack.specs.Header.{RightHeader};
 ghost use Rattle.pack.specs.File.{blocksOf};
-ghost use Rattle.pack.specs.Entry.{blocksAt};
+ghost use Rattle.pack.specs.Entry.{entryWord, entryOf, blocksAt};
 ghost use Rattle.pack.specs.Consistent.{held};
-ghost use Rattle.consistency.specs.Walk.{mark, blocksFrom, walkOf, ended};
+ghost use Rattle.consistency.specs.Walk.{mark, blocksFrom, walkOf, ended, systemSet, SystemTaken};
 ghost use Rattle.consistency.specs.EntryTest.{keyTest, kindTest, opensTest, fieldsTest, bodyTest, restTest, entryTest};
-ghost use Rattle.consistency.specs.DifferTest.{sameTest, remainders, keyRemainder, uniqueTest, differTest};
-ghost use Rattle.consistency.specs.ConsistentTest.{scanTest, markAll, consistent, openedOf};
+ghost use Rattle.consistency.specs.DifferTest.{sameTest, remainders, keyRemainder, apartTest, newTest, differTest, Marked};
+ghost use Rattle.consistency.specs.ConsistentTest.{scanTest, markAll, UsedEnd, consistent, openedOf};
 use pack::BlockNo;
 use pack::Entry;
 use pack::Geometry;
@@ -31,7 +32,21 @@ pub enum Opened {
     Bad,
 }
 
-// A walk has as many steps as the file has blocks by its entry, so that it ends on a chain that loops.
+// The blocks of the system, taken on the map or given back.
+fn set_system(map: &mut [u8], g: Geometry, taken: u8)
+    requires { ⌜ g .bodies .0 ≤ length (now map) ⌝ }
+    ensures { λ r. ⌜ now (map .exit) ≡ systemSet (now (map .entry)) (g .bodies .0) taken ⌝ }
+{
+    let end = g.bodies.0;
+    let mut b = 0;
+    while b < end {
+        map[b] = taken;
+        b += 1;
+    }
+}
+
+// A walk has as many steps as the file has blocks by its entry, so that it ends on a chain that loops. Where the system's blocks are taken on the
+// map, a block that is none of the bodies is one that cannot be taken.
 fn walk(
     img: &[u8],
     map: &mut [u8],
@@ -41,20 +56,16 @@ fn walk(
     count: usize,
 ) -> Walked
     requires { ⌜ Sized (now img) g ⌝ }
-    requires { ⌜ g .blocks ≤ length (now map) ⌝ }
+    requires { ⌜ (g .blocks ≤ length (now map)) × SystemTaken (now map) g ⌝ }
     ensures { λ r. ⌜ r ≡ walkOf (now (img .entry)) g kind (now (map .entry)) 0 count (first .0) ⌝ }
     ensures { λ r. ⌜ (ended r ≡ true → now (map .exit) ≡ mark (now (map .entry)) (blocksFrom (now (img .entry)) g kind count (first .0))) ⌝ }
 {
-    let low = g.bodies.0;
     let end = g.blocks;
     let mut left = count;
     let mut last = BlockNo(0);
     let mut b = first;
     while 0 < left {
         let at = b.0;
-        if at < low {
-            return Walked::Stopped;
-        }
         if end <= at {
             return Walked::Stopped;
         }
@@ -69,18 +80,33 @@ fn walk(
     Walked::End(last, b)
 }
 
-fn is_key_right(img: &[u8], x: Entry) -> bool
-    requires { ⌜ RightHeader (now img) ⌝ }
-    ensures { λ r. ⌜ r ≡ keyTest (now (img .entry)) x ⌝ }
+// Most names and extensions fill their words: then nothing is to be said of blanks.
+fn is_name_right(first: Radix50, second: Radix50, extension: Radix50) -> bool
+    requires { ⌜ (first .0 < 65536) × (second .0 < 65536) × (extension .0 < 65536) ⌝ }
+    ensures { λ r. ⌜ r ≡ (legalName (first .0) (second .0) && legalExtension (extension .0)) ⌝ }
 {
-    if !radix::is_legal_name(Radix50(x.name1), Radix50(x.name2)) {
+    if first.is_filled() {
+        if second.is_filled() {
+            if extension.is_filled() {
+                return true;
+            }
+        }
+    }
+    radix::are_legal(first, second, extension)
+}
+
+fn is_key_right(img: &[u8], g: Geometry, e: usize) -> bool
+    requires { ⌜ Sized (now img) g ⌝ }
+    requires { ⌜ RightHeader (now img) × (e < slots g) ⌝ }
+    ensures { λ r. ⌜ r ≡ keyTest (now (img .entry)) (entryOf (now (img .entry)) g e) ⌝ }
+{
+    let first = Radix50(pack::entry_word(img, g, e, 0));
+    let second = Radix50(pack::entry_word(img, g, e, 1));
+    let extension = Radix50(pack::entry_word(img, g, e, 2));
+    if !is_name_right(first, second, extension) {
         return false;
     }
-    let extension = Radix50(x.extension);
-    if !extension.is_legal_extension() {
-        return false;
-    }
-    pack::is_listed(img, x.uic)
+    pack::is_listed(img, pack::entry_word(img, g, e, 3))
 }
 
 fn is_kind_right(kind: usize, count: usize, writer: usize) -> bool
@@ -110,20 +136,27 @@ fn is_few_opens(writer: usize, readers: usize) -> bool
     readers <= 62
 }
 
-fn are_fields_right(img: &[u8], x: Entry) -> bool
-    requires { ⌜ RightHeader (now img) ⌝ }
-    ensures { λ r. ⌜ r ≡ fieldsTest (now (img .entry)) x ⌝ }
+// Each word is read where it is judged.
+fn are_fields_right(img: &[u8], g: Geometry, e: usize) -> bool
+    requires { ⌜ Sized (now img) g ⌝ }
+    requires { ⌜ RightHeader (now img) × (e < slots g) ⌝ }
+    ensures { λ r. ⌜ r ≡ fieldsTest (now (img .entry)) (entryOf (now (img .entry)) g e) ⌝ }
 {
-    if !is_key_right(img, x) {
+    if !is_key_right(img, g, e) {
         return false;
     }
-    if 255 < x.protect {
+    if 255 < pack::entry_word(img, g, e, 4) {
         return false;
     }
-    if !is_kind_right(x.kind, x.length, x.writer) {
+    let writer = pack::entry_word(img, g, e, 9);
+    if !is_kind_right(
+        pack::entry_word(img, g, e, 5),
+        pack::entry_word(img, g, e, 7),
+        writer,
+    ) {
         return false;
     }
-    is_few_opens(x.writer, x.readers)
+    is_few_opens(writer, pack::entry_word(img, g, e, 10))
 }
 
 // Are the words of entry e from word i on all zero?
@@ -139,7 +172,7 @@ fn is_rest_zero(img: &[u8], g: Geometry, e: usize, i: usize) -> bool
 // Do the blocks of a file end as its entry says? They are taken on the map.
 fn is_body_right(img: &[u8], map: &mut [u8], g: Geometry, x: Entry) -> bool
     requires { ⌜ Sized (now img) g ⌝ }
-    requires { ⌜ g .blocks ≤ length (now map) ⌝ }
+    requires { ⌜ (g .blocks ≤ length (now map)) × SystemTaken (now map) g ⌝ }
     ensures { λ r. ⌜ r ≡ bodyTest (now (img .entry)) g (now (map .entry)) x ⌝ }
     ensures { λ r. ⌜ (r ≡ true → now (map .exit) ≡ mark (now (map .entry)) (blocksOf (now (img .entry)) g x)) ⌝ }
 {
@@ -157,42 +190,21 @@ fn is_body_right(img: &[u8], map: &mut [u8], g: Geometry, x: Entry) -> bool
     next.0 == 0
 }
 
-fn is_entry_right(img: &[u8], map: &mut [u8], g: Geometry, e: usize) -> bool
+// Entry e is one in use.
+fn is_file_right(img: &[u8], map: &mut [u8], g: Geometry, e: usize) -> bool
     requires { ⌜ Sized (now img) g ⌝ }
-    requires { ⌜ RightHeader (now img) ⌝ }
-    requires { ⌜ (e < slots g) × (g .blocks ≤ length (now map)) ⌝ }
+    requires { ⌜ RightHeader (now img) × (e < slots g) × (entryWord (now img) g e 0 ≡ 0 → ⊥) ⌝ }
+    requires { ⌜ (g .blocks ≤ length (now map)) × SystemTaken (now map) g ⌝ }
     ensures { λ r. ⌜ r ≡ entryTest (now (img .entry)) g (now (map .entry)) e ⌝ }
     ensures { λ r. ⌜ (r ≡ true → now (map .exit) ≡ mark (now (map .entry)) (blocksAt (now (img .entry)) g e)) ⌝ }
 {
-    if pack::entry_word(img, g, e, 0) == 0 {
-        return is_rest_zero(img, g, e, 0);
-    }
-    let x = pack::read_entry(img, g, e);
-    if !are_fields_right(img, x) {
+    if !are_fields_right(img, g, e) {
         return false;
     }
     if !is_rest_zero(img, g, e, 11) {
         return false;
     }
-    is_body_right(img, map, g, x)
-}
-
-fn are_entries_right(img: &[u8], map: &mut [u8], g: Geometry) -> bool
-    requires { ⌜ Sized (now img) g ⌝ }
-    requires { ⌜ RightHeader (now img) ⌝ }
-    requires { ⌜ g .blocks ≤ length (now map) ⌝ }
-    ensures { λ r. ⌜ r ≡ scanTest (now (img .entry)) g (now (map .entry)) 0 (slots g) ⌝ }
-    ensures { λ r. ⌜ (r ≡ true → now (map .exit) ≡ markAll (now (img .entry)) g (now (map .entry)) 0 (slots g)) ⌝ }
-{
-    let end = pack::slot_count(g);
-    let mut e = 0;
-    while e < end {
-        if !is_entry_right(img, map, g, e) {
-            return false;
-        }
-        e += 1;
-    }
-    true
+    is_body_right(img, map, g, pack::read_entry(img, g, e))
 }
 
 fn is_same_file(img: &[u8], g: Geometry, e: usize, f: usize) -> bool
@@ -203,18 +215,14 @@ fn is_same_file(img: &[u8], g: Geometry, e: usize, f: usize) -> bool
     pack::is_same_key(pack::read_key(img, g, e), pack::read_key(img, g, f))
 }
 
-// Is entry e empty, or does its file differ from all later ones?
-fn is_unique(img: &[u8], g: Geometry, e: usize) -> bool
+// Does the file of entry e differ from all before it?
+fn is_new(img: &[u8], g: Geometry, e: usize) -> bool
     requires { ⌜ Sized (now img) g ⌝ }
     requires { ⌜ e < slots g ⌝ }
-    ensures { λ r. ⌜ r ≡ uniqueTest (now (img .entry)) g e (slots g - (e + 1)) ⌝ }
+    ensures { λ r. ⌜ r ≡ apartTest (now (img .entry)) g e 0 e ⌝ }
 {
-    if pack::entry_word(img, g, e, 0) == 0 {
-        return true;
-    }
-    let end = pack::slot_count(g);
-    let mut f = e + 1;
-    while f < end {
+    let mut f = 0;
+    while f < e {
         if is_same_file(img, g, e, f) {
             return false;
         }
@@ -238,22 +246,74 @@ fn key_remainder(img: &[u8], g: Geometry, e: usize) -> usize
     (name + rest) % REMAINDERS
 }
 
-// Downwards, with the numbers of the entries behind this one marked: only where its own is among them can a later file be the same.
-fn do_files_differ(img: &[u8], g: Geometry) -> bool
+// The numbers of the files before this one are marked: only where its own is among them can one of them be the same.
+fn does_differ(img: &[u8], marks: &mut [u8], g: Geometry, e: usize) -> bool
     requires { ⌜ Sized (now img) g ⌝ }
-    ensures { λ r. ⌜ r ≡ differTest (now (img .entry)) g 0 (slots g) ⌝ }
+    requires { ⌜ (e < slots g) × (entryWord (now img) g e 0 ≡ 0 → ⊥) × Marked (now img) g (now marks) e ⌝ }
+    ensures { λ r. ⌜ r ≡ newTest (now (img .entry)) g e ⌝ }
+    ensures { λ r. ⌜ (r ≡ true → Marked (now (img .entry)) g (now (marks .exit)) (e + 1)) ⌝ }
 {
-    let mut marks = [0u8; REMAINDERS];
-    let mut e = pack::slot_count(g);
-    while 0 < e {
-        e -= 1;
-        let at = key_remainder(img, g, e);
-        if marks[at] != 0 {
-            if !is_unique(img, g, e) {
-                return false;
-            }
+    let at = key_remainder(img, g, e);
+    if marks[at] != 0 {
+        if !is_new(img, g, e) {
+            return false;
         }
-        marks[at] = 1;
+    }
+    marks[at] = 1;
+    true
+}
+
+fn is_entry_right(img: &[u8], map: &mut [u8], marks: &mut [u8], g: Geometry, e: usize) -> bool
+    requires { ⌜ Sized (now img) g ⌝ }
+    requires { ⌜ RightHeader (now img) × (e < slots g) ⌝ }
+    requires { ⌜ (g .blocks ≤ length (now map)) × SystemTaken (now map) g × Marked (now img) g (now marks) e ⌝ }
+    ensures { λ r. ⌜ r ≡ (entryTest (now (img .entry)) g (now (map .entry)) e && newTest (now (img .entry)) g e) ⌝ }
+    ensures { λ r. ⌜ (r ≡ true → now (map .exit) ≡ mark (now (map .entry)) (blocksAt (now (img .entry)) g e)) ⌝ }
+    ensures { λ r. ⌜ (r ≡ true → Marked (now (img .entry)) g (now (marks .exit)) (e + 1)) ⌝ }
+{
+    if pack::entry_word(img, g, e, 0) == 0 {
+        return is_rest_zero(img, g, e, 0);
+    }
+    if !is_file_right(img, map, g, e) {
+        return false;
+    }
+    does_differ(img, marks, g, e)
+}
+
+// Behind the entries that are to be looked at one by one: the first empty one, if nothing but zeros follows, else the end.
+fn used_end(img: &[u8], g: Geometry) -> usize
+    requires { ⌜ Sized (now img) g ⌝ }
+    ensures { λ r. ⌜ UsedEnd (now (img .entry)) g r ⌝ }
+{
+    let end = pack::slot_count(g);
+    let mut e = 0;
+    while e < end {
+        if pack::entry_word(img, g, e, 0) == 0 {
+            let segments = g.segments;
+            if pack::is_stretch_zero(img, segments.words() + 16 * e, 16 * (end - e)) {
+                return e;
+            }
+            return end;
+        }
+        e += 1;
+    }
+    end
+}
+
+fn are_entries_right(img: &[u8], map: &mut [u8], marks: &mut [u8], g: Geometry) -> bool
+    requires { ⌜ Sized (now img) g ⌝ }
+    requires { ⌜ RightHeader (now img) ⌝ }
+    requires { ⌜ (g .blocks ≤ length (now map)) × SystemTaken (now map) g × (length (now marks) ≡ remainders) ⌝ }
+    ensures { λ r. ⌜ r ≡ (scanTest (now (img .entry)) g (now (map .entry)) 0 (slots g) && differTest (now (img .entry)) g 0 (slots g)) ⌝ }
+    ensures { λ r. ⌜ (r ≡ true → now (map .exit) ≡ markAll (now (img .entry)) g (now (map .entry)) 0 (slots g)) ⌝ }
+{
+    let end = used_end(img, g);
+    let mut e = 0;
+    while e < end {
+        if !is_entry_right(img, map, marks, g, e) {
+            return false;
+        }
+        e += 1;
     }
     true
 }
@@ -267,11 +327,11 @@ pub fn open_pack(img: &[u8], map: &mut [u8]) -> Opened
     let Header::Right(g) = pack::read_header(img) else {
         return Opened::Bad;
     };
-    if !are_entries_right(img, map, g) {
+    set_system(map, g, 1);
+    let mut marks = [0u8; REMAINDERS];
+    if !are_entries_right(img, map, &mut marks, g) {
         return Opened::Bad;
     }
-    if !do_files_differ(img, g) {
-        return Opened::Bad;
-    }
+    set_system(map, g, 0);
     Opened::Good(g)
 }

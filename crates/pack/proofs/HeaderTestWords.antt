@@ -6,6 +6,7 @@ use mathlib.Core.List.{List}
 use mathlib.Core.Logic.{_↔_}
 use native.Mathlib.Omega.{arith}
 use native.Mathlib.Decide.{ℕ-discrete}
+use lib.Bits.{bitOr, or-zero-l, or-add-and, and-le-r}
 use lib.Dec.{eqb}
 use lib.ListN.{getD}
 use borrow.Author.Tests.{eq-eqb, ne-eqb, eqb-true, eqb-false, not-true}
@@ -56,6 +57,24 @@ zeros-clear img from k clear later some is same = rw (same, zeros-step img from 
 pub zeros-never : (img : List ℕ) (from k : ℕ) (clear later : Bool) → 0 < k → (wordAt img from ≡ 0 → ⊥) → later ≡ false
     → (clear && zeros img from k) ≡ (later && zeros img (from + 1) (k - 1))
 zeros-never img from k clear later some never same = rw (same, zeros-not img from k some never) (and-never clear)
+
+-- words laid over each other are 0 only if each is
+laid-zero : (laid word : ℕ) → eqb (bitOr laid word) 0 ≡ (eqb laid 0 && eqb word 0)
+laid-zero laid word = at (ℕ-discrete laid 0) (ℕ-discrete word 0)
+  where
+    at : Dec (laid ≡ 0) → Dec (word ≡ 0) → eqb (bitOr laid word) 0 ≡ (eqb laid 0 && eqb word 0)
+    at (yes p) (yes q) = rw (p, q)
+    at (yes p) (no q) = rw (p, or-zero-l word)
+    at (no p) q = rw (ne-eqb laid 0 p) (ne-eqb (bitOr laid word) 0 (λ none. p (omega (arith, none, or-add-and laid word, and-le-r laid word))))
+
+pub zeros-laid : (img : List ℕ) (from k laid word : ℕ) → 0 < k → word ≡ wordAt img from
+    → (eqb laid 0 && zeros img from k) ≡ (eqb (bitOr laid word) 0 && zeros img (from + 1) (k - 1))
+unfolding zeros
+zeros-laid img from k laid word some is = ap (λ n. eqb laid 0 && zeros img from n) (down k some) ∙ rw (laid-zero laid word, is) (and-within (eqb laid 0) _ _)
+  where
+    and-within : (a b c : Bool) → (a && (b && c)) ≡ ((a && b) && c)
+    and-within true b c = refl
+    and-within false b c = refl
 
 pub zeros-done : (img : List ℕ) (from k : ℕ) (clear : Bool) → k ≡ 0 → (clear && zeros img from k) ≡ clear
 zeros-done img from k clear none = rw (zeros-end img from k none) (and-true clear)

@@ -58,6 +58,22 @@ pub fn are_words_zero(img: &[u8], from: usize, count: usize) -> bool
     clear
 }
 
+// The same of many words: they are laid over each other, and the compiler takes sixteen of them at once.
+pub fn is_stretch_zero(img: &[u8], from: usize, count: usize) -> bool
+    requires { ⌜ 2 * (from + count) ≤ length (now img) ⌝ }
+    ensures { λ r. ⌜ r ≡ zeros (now (img .entry)) from count ⌝ }
+{
+    let mut at = from;
+    let mut left = count;
+    let mut laid = 0u16;
+    while 0 < left {
+        laid = laid | words::word_at(img, at) as u16;
+        at += 1;
+        left -= 1;
+    }
+    laid == 0
+}
+
 pub fn is_among(img: &[u8], word: usize, from: usize, count: usize) -> bool
     requires { ⌜ 2 * (from + count) ≤ length (now img) ⌝ }
     ensures { λ r. ⌜ r ≡ among (now (img .entry)) word from count ⌝ }
@@ -119,7 +135,7 @@ pub fn read_header(img: &[u8]) -> Header
     }
     let segments = segments_of(form);
     let behind = 4 + uics;
-    if !are_words_zero(img, behind, segments.words() - behind) {
+    if !is_stretch_zero(img, behind, segments.words() - behind) {
         return Header::Wrong;
     }
     let bodies = bodies_of(form, contents);

@@ -21,6 +21,7 @@ pub use headers::is_among;
 pub use headers::is_distinct;
 pub use headers::is_listed;
 pub use headers::is_measured;
+pub use headers::is_stretch_zero;
 pub use headers::read_header;
 pub use writing::clear_entry;
 pub use writing::set_entry_word;

@@ -9,7 +9,8 @@ use native.Mathlib.Decide.{decLe}
 use lib.Dec.{leb, ltb}
 use borrow.Author.Tests.{ltb-true, leb-true, lt-ltb, le-leb}
 use Rattle.radix.specs.Characters.{table, codeOf, characterOf, Outside}
-use Rattle.radix.specs.Names.{blank}
+use Rattle.radix.specs.Names.{blank, isLetter, isDigit}
+use Rattle.answers.proofs.RefusalsTests.{and-left, and-right, and-both, true-not-false}
 
 -- a number in a range of the table, and one outside it
 inside : (low end x : ℕ) → low ≤ x → x < end → (leb low x && ltb x end) ≡ true
@@ -58,10 +59,22 @@ code-none x out =
       outside 48 58 x (λ a b. out .digit a (omega arith)),
     )
 
--- the same as the code comes to it: the three marks first, then digits and letters by their ends
-pub code-outside : (x : ℕ) → (x ≡ 32 → ⊥) → (x ≡ 36 → ⊥) → (x ≡ 46 → ⊥) → (48 ≤ x → x ≤ 57 → ⊥) → (65 ≤ x → x ≤ 90 → ⊥) → none ≡ codeOf x
-code-outside x blank dollar period digit letter =
-    sym (code-none x (record { blank = blank; letter = letter; dollar = dollar; period = period; digit = digit }))
+-- the same as the code comes to it: letters first, then a blank, digits, and the two marks
+module _ (x : ℕ) where
+  pub code-as-letter : isLetter x ≡ true → some (x - 64) ≡ codeOf x
+  code-as-letter is = sym (code-letter x (leb-true 65 x (and-left (leb 65 x) (leb x 90) is)) (leb-true x 90 (and-right (leb 65 x) (leb x 90) is)))
+
+  pub code-as-digit : isDigit x ≡ true → some (x - 18) ≡ codeOf x
+  code-as-digit is = sym (code-digit x (leb-true 48 x (and-left (leb 48 x) (leb x 57) is)) (leb-true x 57 (and-right (leb 48 x) (leb x 57) is)))
+
+  pub code-outside : isLetter x ≡ false → (x ≡ 32 → ⊥) → isDigit x ≡ false → (x ≡ 36 → ⊥) → (x ≡ 46 → ⊥) → none ≡ codeOf x
+  code-outside letter blank digit dollar period = sym (code-none x (record {
+    blank = blank;
+    letter = λ low high. true-not-false (sym (and-both (le-leb 65 x low) (le-leb x 90 high)) ∙ letter);
+    dollar = dollar;
+    period = period;
+    digit = λ low high. true-not-false (sym (and-both (le-leb 48 x low) (le-leb x 57 high)) ∙ digit);
+  }))
 
 -- the character of each kind of code
 pub character-blank : (c : ℕ) → c ≡ 0 → characterOf c ≡ some 32

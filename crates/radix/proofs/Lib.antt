@@ -3,6 +3,7 @@ pub mod Characters
 pub mod CharactersRow
 pub mod Packing
 pub mod NamesTest
+pub mod NamesTestFilled
 pub mod Names
 pub mod RadpkCases
 pub mod RadupCases

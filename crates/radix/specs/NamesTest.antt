@@ -4,12 +4,19 @@ use mathlib.Core.Bool.{Bool, true, false, not, cond, _&&_}
 use mathlib.Core.List.{List, [], _∷_, _++_}
 use mathlib.Core.Option.{Option, none, some}
 use lib.Dec.{eqb}
-use Rattle.radix.specs.Packing.{charactersOf}
+use Rattle.radix.specs.Characters.{characterOf}
+use Rattle.radix.specs.Packing.{firstCode, secondCode, thirdCode, charactersOf}
 use Rattle.radix.specs.Names.{isLetterOrDigit, blank, every}
 
 abbrev pub isLetterOrDigitIn : Option ℕ → Bool
 isLetterOrDigitIn none = false
 isLetterOrDigitIn (some x) = isLetterOrDigit x
+
+-- three letters or digits
+unfoldable pub filled : ℕ → Bool
+filled word =
+    isLetterOrDigitIn (characterOf (firstCode word))
+    && (isLetterOrDigitIn (characterOf (secondCode word)) && isLetterOrDigitIn (characterOf (thirdCode word)))
 
 -- letters and digits, then blanks only
 abbrev pub thenBlanks : List ℕ → Bool

@@ -5,12 +5,13 @@ pub mod unpacking;
 
 ghost use mathlib.Core.Path.{_≡_};
 ghost use Prim.Native.Nat.{_<_};
-ghost use mathlib.Core.Bool.{_&&_};
+ghost use mathlib.Core.Bool.{false, _&&_};
 ghost use lib.Dec.{eqb};
 ghost use Rattle.radix.specs.Characters.{codeOf, characterOf};
 ghost use Rattle.radix.specs.Lookup.{codeIn, characterIn, charactersIn};
 ghost use Rattle.radix.specs.Packing.{packed, firstCode, secondCode, thirdCode, threeIf};
-ghost use Rattle.radix.specs.NamesTest.{isLetterOrDigitIn, extensionTest, legalName, legalExtension};
+ghost use Rattle.radix.specs.Names.{isLetter};
+ghost use Rattle.radix.specs.NamesTest.{isLetterOrDigitIn, filled, extensionTest, legalName, legalExtension};
 
 // A word of three characters. A host may pass any number as one: from END up no character is in it.
 pub struct Radix50(pub usize);
@@ -37,7 +38,7 @@ impl Radix50 {
     pub fn second(self) -> usize
         ensures { λ r. ⌜ r ≡ secondCode (self .0) ⌝ }
     {
-        self.0 / 40 % 40
+        self.0 / 40 - 40 * self.first()
     }
 
     pub fn third(self) -> usize
@@ -52,6 +53,20 @@ impl Radix50 {
         ensures { λ r. do ⌜ (← ⟦Self::BLANK⟧ .entry) ≡ packed 0 0 0 ⌝ }
     {
         self.0 == Self::BLANK
+    }
+
+    // Are all three of its characters letters or digits? Only of a word of 16 bits, whose codes are few.
+    pub fn is_filled(self) -> bool
+        requires { ⌜ self .0 < 65536 ⌝ }
+        ensures { λ r. ⌜ r ≡ filled (self .0) ⌝ }
+    {
+        if !is_named(self.first()) {
+            return false;
+        }
+        if !is_named(self.second()) {
+            return false;
+        }
+        is_named(self.third())
     }
 
     pub fn is_legal_extension(self) -> bool
@@ -76,30 +91,32 @@ pub enum Spelling {
     Nothing,
 }
 
+// Letters first: they are the most.
 pub fn code_of(character: u8) -> Code
     ensures { λ r. ⌜ codeIn r ≡ codeOf character ⌝ }
 {
     let x = character as usize;
+    if (65 <= x) & (x <= 90) {
+        return Code::Of(x - 64);
+    }
+    other_code(x)
+}
+
+fn other_code(x: usize) -> Code
+    requires { ⌜ isLetter x ≡ false ⌝ }
+    ensures { λ r. ⌜ codeIn r ≡ codeOf x ⌝ }
+{
     if x == 32 {
         return Code::Of(0);
+    }
+    if (48 <= x) & (x <= 57) {
+        return Code::Of(x - 18);
     }
     if x == 36 {
         return Code::Of(27);
     }
     if x == 46 {
         return Code::Of(28);
-    }
-    if x < 48 {
-        return Code::Nothing;
-    }
-    if x <= 57 {
-        return Code::Of(x - 18);
-    }
-    if x < 65 {
-        return Code::Nothing;
-    }
-    if x <= 90 {
-        return Code::Of(x - 64);
     }
     Code::Nothing
 }
@@ -165,6 +182,17 @@ fn is_in_name(code: usize) -> bool
     code <= 39
 }
 
+// The codes of letters and digits, a bit of a number for each.
+const NAMED: usize = 0xffc7fffffe;
+
+// The same of a code below 64, at once.
+fn is_named(code: usize) -> bool
+    requires { ⌜ code < 64 ⌝ }
+    ensures { λ r. ⌜ r ≡ isLetterOrDigitIn (characterOf code) ⌝ }
+{
+    (NAMED >> code) & 1 == 1
+}
+
 fn are_blank(b: usize, c: usize) -> bool
     ensures { λ r. ⌜ r ≡ (eqb b 0 && eqb c 0) ⌝ }
 {
@@ -206,4 +234,14 @@ pub fn is_legal_name(first: Radix50, second: Radix50) -> bool
         return second.is_blank();
     }
     second.is_legal_extension()
+}
+
+// A file's name and extension.
+pub fn are_legal(first: Radix50, second: Radix50, extension: Radix50) -> bool
+    ensures { λ r. ⌜ r ≡ (legalName (first .0) (second .0) && legalExtension (extension .0)) ⌝ }
+{
+    if !is_legal_name(first, second) {
+        return false;
+    }
+    extension.is_legal_extension()
 }

@@ -1,8 +1,10 @@
--- Rests on `EntryTestAnswers`: a first word 0 asks that all are 0; else each test answers where those before it passed, and the body's marks are the entry's.
+-- Rests on `EntryTestAnswers`: an empty entry is all zero and new; of one in use its own test answers, and then whether its file is new.
 use borrow.Author.Needs.{needs}
-use mathlib.Core.Path.{refl, sym, _∙_}
+use mathlib.Core.Path.{sym, _∙_}
 use borrow.Author.Tests.{not-true, not-false}
-use Rattle.consistency.proofs.EntryTestAnswers.{answers, name-zero, name-used}
+use Rattle.answers.proofs.RefusalsTests.{go-on, stop, true-not-false}
+use Rattle.consistency.proofs.EntryTestAnswers.{empty-answer, empty-mark}
+use Rattle.consistency.proofs.DifferTest.{marked-empty}
 use Rattle.consistency.proofs.is_entry_right.Statement.{statement}
 use Rattle.consistency.proofs.is_entry_right.Tie as tie
 
@@ -13,59 +15,39 @@ is-rest-zero-requires : tie.Need-is-rest-zero-requires
 is-rest-zero-requires c κs = search needs
 
 returns : tie.Need-returns
-returns c = answers _ _ _ _ _ refl .empty (name-zero _ _ _ _ (c .before .before .entry-word .ensures .0) (c .before .if1 .taken)) _ (c .is-rest-zero .ensures)
-
-read-entry-requires : tie.Need-read-entry-requires
-read-entry-requires c κs = search needs
-
-are-fields-right-requires : tie.Need-are-fields-right-requires
-are-fields-right-requires c κs = search needs
-
-returns-2 : tie.Need-returns-2
-returns-2 c =
-    let entry-word = c .before .before .before .before .entry-word in
-    let if1 = c .before .before .before .if1 in
-    let read-entry = c .before .before .read-entry in (
-      answers _ _ _ _ _ (read-entry .ensures .0) .fields (name-used _ _ _ _ (entry-word .ensures .0) _ (read-entry .ensures .0) (if1 .left))
-          (sym (c .before .are-fields-right .ensures) ∙ not-true _ (c .if2 .taken)),
-      λ e. cc,
+returns c = let start = c .before .before .before .before .before .before in
+    let is = c .before .before .entry-word .ensures .0 in
+    let none = c .before .if1 .taken in
+    let zero = c .is-rest-zero .ensures in (
+      empty-answer _ _ _ _ is none _ zero,
+      (λ right. empty-mark _ _ _ _ is none (sym zero ∙ right), λ right. marked-empty _ _ _ _ (sym is ∙ none) (start .pre .1 .1 .2)),
     )
 
-is-rest-zero-requires-2 : tie.Need-is-rest-zero-requires-2
-is-rest-zero-requires-2 c κs = search needs
-
-returns-3 : tie.Need-returns-3
-returns-3 c =
-    let entry-word = c .before .before .before .before .before .before .entry-word in
-    let if1 = c .before .before .before .before .before .if1 in
-    let read-entry = c .before .before .before .before .read-entry in
-    let are-fields-right = c .before .before .before .are-fields-right in (
-      answers _ _ _ _ _ (read-entry .ensures .0) .rest (name-used _ _ _ _ (entry-word .ensures .0) _ (read-entry .ensures .0) (if1 .left))
-          (sym (are-fields-right .ensures) ∙ not-false _ (c .before .before .if2 .left)) (sym (c .before .is-rest-zero2 .ensures) ∙ not-true _ (c .if3 .taken)),
-      λ e. cc,
-    )
-
-is-body-right-requires : tie.Need-is-body-right-requires
-is-body-right-requires c κs = search needs
+is-file-right-requires : tie.Need-is-file-right-requires
+is-file-right-requires c κs = let pre = c .before .before .before .before .before .before .pre in
+    (pre .0, ((pre .1 .0 .0, pre .1 .0 .1, λ none. c .before .if1 .left (c .before .before .entry-word .ensures .0 ∙ none)), (pre .1 .1 .0, pre .1 .1 .1)))
 
 same-length : tie.Need-same-length
 same-length c = search needs
 
-returns-4 : tie.Need-returns-4
-returns-4 c =
-    let entry-word = c .before .before .before .before .before .before .before .before .before .before .entry-word in
-    let if1 = c .before .before .before .before .before .before .before .before .before .if1 in
-    let read-entry = c .before .before .before .before .before .before .before .before .read-entry in
-    let are-fields-right = c .before .before .before .before .before .before .before .are-fields-right in
-    let if2 = c .before .before .before .before .before .before .if2 in
-    let is-rest-zero2 = c .before .before .before .before .before .is-rest-zero2 in
-    let if3 = c .before .before .before .before .if3 in
-    let is-body-right = c .before .before .is-body-right in
-    let a = answers _ _ _ _ _ (read-entry .ensures .0) in (
-      a .body (name-used _ _ _ _ (entry-word .ensures .0) _ (read-entry .ensures .0) (if1 .left)) (sym (are-fields-right .ensures) ∙ not-false _ (if2 .left))
-          (sym (is-rest-zero2 .ensures) ∙ not-false _ (if3 .left)) _ (is-body-right .ensures .0),
-      λ right. a .taken _ (is-body-right .ensures .1 right),
-    )
+returns-2 : tie.Need-returns-2
+returns-2 c = (stop _ _ (sym (c .before .before .before .is-file-right .ensures .0) ∙ not-true _ (c .if2 .taken)), (λ e. cc, λ e. true-not-false (sym e)))
+
+does-differ-requires : tie.Need-does-differ-requires
+does-differ-requires c κs = let pre = c .before .before .before .before .before .before .before .before .before .before .before .pre in
+    (pre .0, (pre .1 .0 .1, λ none. c .before .before .before .before .before .before .if1 .left (c .before .before .before .before .before .before .before .entry-word .ensures .0 ∙ none), pre .1 .1 .2))
+
+same-length-2 : tie.Need-same-length-2
+same-length-2 c = search needs
+
+same-length-3 : tie.Need-same-length-3
+same-length-3 c = search needs
+
+returns-3 : tie.Need-returns-3
+returns-3 c = let file = c .before .before .before .before .before .before .before .is-file-right in
+    let right = not-false _ (c .before .before .before .before .if2 .left) in
+    let differs = c .before .before .does-differ in
+    (go-on (sym (file .ensures .0) ∙ right) (differs .ensures .0), (λ _. file .ensures .1 right, λ new. differs .ensures .1 new))
 
 pub is-entry-right-spec : {M : Type 1} → statement M
 is-entry-right-spec =
@@ -74,11 +56,10 @@ is-entry-right-spec =
     entry-word-requires
     is-rest-zero-requires
     returns
-    read-entry-requires
-    are-fields-right-requires
-    returns-2
-    is-rest-zero-requires-2
-    returns-3
-    is-body-right-requires
+    is-file-right-requires
     same-length
-    returns-4)
+    returns-2
+    does-differ-requires
+    same-length-2
+    same-length-3
+    returns-3)

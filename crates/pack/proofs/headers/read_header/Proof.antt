@@ -54,13 +54,13 @@ words-requires c κs =
     let m = measured-roomy _ _ _ _ _ (sym (c .before .before .before .before .is-measured .ensures) ∙ not-false _ (c .before .before .before .if2 .left)) in
     omega (arith, m .few, c .segments-of .ensures)
 
-sub-are-words-zero : tie.Need-sub-are-words-zero
-sub-are-words-zero c =
+sub-is-stretch-zero : tie.Need-sub-is-stretch-zero
+sub-is-stretch-zero c =
     let m = measured-roomy _ _ _ _ _ (sym (c .before .before .before .before .before .is-measured .ensures) ∙ not-false _ (c .before .before .before .before .if2 .left)) in
     omega (arith, m .list, c .before .segments-of .ensures, c .words .ensures)
 
-are-words-zero-requires : tie.Need-are-words-zero-requires
-are-words-zero-requires c κs =
+is-stretch-zero-requires : tie.Need-is-stretch-zero-requires
+is-stretch-zero-requires c κs =
     let m = measured-roomy _ _ _ _ _ (sym (c .before .before .before .before .before .is-measured .ensures) ∙ not-false _ (c .before .before .before .before .if2 .left)) in
     omega (arith, m .list, m .block, c .before .segments-of .ensures, c .words .ensures)
 
@@ -72,7 +72,7 @@ returns-4 c =
     (c .before .before .before .before .before .before .before .before .word-at4 .ensures .0)
     (sym (c .before .before .before .before .before .before .before .is-measured .ensures) ∙ not-false _ (c .before .before .before .before .before .before .if2 .left))
     (sym (c .before .before .before .before .before .is-distinct .ensures) ∙ not-false _ (c .before .before .before .before .if3 .left)) _ _
-    (c .before .before .before .segments-of .ensures) (c .before .before .words .ensures) (sym (c .before .are-words-zero .ensures) ∙ not-true _ (c .if4 .taken))
+    (c .before .before .before .segments-of .ensures) (c .before .before .words .ensures) (sym (c .before .is-stretch-zero .ensures) ∙ not-true _ (c .if4 .taken))
 
 bodies-of-requires : tie.Need-bodies-of-requires
 bodies-of-requires c κs =
@@ -89,7 +89,7 @@ returns-5 c =
     (sym (c .before .before .before .before .before .before .before .before .is-measured .ensures) ∙ not-false _ (c .before .before .before .before .before .before .before .if2 .left))
     (sym (c .before .before .before .before .before .before .is-distinct .ensures) ∙ not-false _ (c .before .before .before .before .before .if3 .left)) _ _
     (c .before .before .before .before .segments-of .ensures) (c .before .before .before .words .ensures)
-    (sym (c .before .before .are-words-zero .ensures) ∙ not-false _ (c .before .if4 .left)) _ (c .bodies-of .ensures)
+    (sym (c .before .before .is-stretch-zero .ensures) ∙ not-false _ (c .before .if4 .left)) _ (c .bodies-of .ensures)
 
 pub read-header-spec : {M : Type 1} → statement M
 read-header-spec =
@@ -107,8 +107,8 @@ read-header-spec =
     segments-of-requires
     add-behind
     words-requires
-    sub-are-words-zero
-    are-words-zero-requires
+    sub-is-stretch-zero
+    is-stretch-zero-requires
     returns-4
     bodies-of-requires
     returns-5)
