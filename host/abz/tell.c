@@ -1,11 +1,14 @@
 /* A refusal in words: what each code means to a technician, for each command. */
+#define _POSIX_C_SOURCE 200809L
 #include "tell.h"
 
 #include "abezolit.h"
+#include "visible.h"
 
 #include <errno.h>
 #include <stdarg.h>
 #include <stdio.h>
+#include <stdlib.h>
 #include <string.h>
 
 typedef struct {
@@ -83,14 +86,21 @@ static const char *words_of(const char *command, size_t code)
 void complain(const char *format, ...)
 {
     va_list arguments;
+    char *message = NULL;
+    size_t length;
+    FILE *const stream = open_memstream(&message, &length);
 
     /* What was printed before is to be seen before, also where both go to one terminal. */
     fflush(stdout);
     fputs("abz: ", stderr);
     va_start(arguments, format);
-    vfprintf(stderr, format, arguments);
+    if (stream && vfprintf(stream, format, arguments) >= 0 && fclose(stream) == 0)
+        show_visible(message, stderr);
+    else
+        fputs("no memory is left to say what is wrong", stderr);
     va_end(arguments);
     fputc('\n', stderr);
+    free(message);
 }
 
 bool complain_of(const char *file)
