@@ -5,6 +5,7 @@
  */
 #include "commands.h"
 #include "files.h"
+#include "names.h"
 #include "show.h"
 #include "tell.h"
 
@@ -126,10 +127,18 @@ static int show_help(void)
     return show_end() ? STATUS_DONE : STATUS_FAILED;
 }
 
+/* PACK is the first argument that is no option, in every command that takes one. */
+static bool has_pack(const command *it, char **arguments)
+{
+    while (*arguments && strncmp(*arguments, "--", 2) == 0)
+        arguments++;
+    return strstr(it->arguments, "PACK") == NULL || *arguments == NULL || read_path("PACK", *arguments);
+}
+
 static int run(const command *it, int count, char **arguments)
 {
     if (count >= it->least && count <= it->most)
-        return it->run(arguments);
+        return has_pack(it, arguments) ? it->run(arguments) : STATUS_USAGE;
     fprintf(stderr, "usage: abz %s %s\n", it->name, it->arguments);
     return STATUS_USAGE;
 }

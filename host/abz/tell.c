@@ -25,12 +25,6 @@ typedef struct {
 static const cause causes[] = {
     { ABZ_INCONSISTENT, NULL, "the file is not a consistent pack; abz report tells what is wrong with it" },
     { ABZ_NAME, NULL, "a name is 1 to 6 of A-Z and 0-9, an extension 0 to 3 of them" },
-    { ABZ_ARGUMENT, "format", "BLOCKS is 16 to 1024, CONTENTS 1 to 8; at most 64 UICs, none twice and none [0,0]" },
-    { ABZ_ARGUMENT, "alloc", "SEGMENTS is at least 1, and PROTECT at most 377" },
-    { ABZ_ARGUMENT, "put", "PROTECT is at most 377" },
-    { ABZ_ARGUMENT, "enter", "PROTECT is at most 377" },
-    { ABZ_ARGUMENT, "rename", "PROTECT is at most 377" },
-    { ABZ_ARGUMENT, "append", "a file cannot be appended to itself" },
     { ABZ_ARGUMENT, NULL, "an argument is not one that the request takes" },
     { ABZ_NO_USER, NULL, "the owner is not in the pack's list of UICs" },
     { ABZ_EXISTENCE, "alloc", "there is such a file already" },

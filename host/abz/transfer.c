@@ -68,7 +68,8 @@ int command_put(char **arguments)
     size_t caller, code, protect = PROTECT_USUAL;
     file_name file;
 
-    if (!read_uic(arguments[1], &caller) || !read_name(arguments[2], &file) || !read_protect(arguments[4], &protect))
+    if (!read_uic(arguments[1], &caller) || !read_name(arguments[2], &file) || !read_path("HOSTFILE", arguments[3])
+        || !read_protect(arguments[4], &protect))
         return STATUS_USAGE;
     if (!read_host(arguments[3]) || !pack_take(&pack, arguments[0])) /* in this order: nobody waits for what is typed */
         return STATUS_FAILED;
@@ -122,7 +123,7 @@ int command_get(char **arguments)
     size_t caller, code;
     file_name file;
 
-    if (!read_uic(arguments[1], &caller) || !read_name(arguments[2], &file))
+    if (!read_uic(arguments[1], &caller) || !read_name(arguments[2], &file) || !read_path("HOSTFILE", arguments[3]))
         return STATUS_USAGE;
     if (!pack_read(&pack, arguments[0]))
         return STATUS_FAILED;
