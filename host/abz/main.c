@@ -1,15 +1,17 @@
 /*
  * abz: the files of a pack, at the command line; and an example of a host of the service. How a host calls it is shown
- * in requests.c, finish.c, transfer.c, text.c, reports.c, report.c and reading.c; the rest is what a program with files
- * and arguments needs.
+ * in requests.c, finish.c, transfer.c, text.c, reports.c, report.c and reading.c, and how it replaces a file in
+ * replace.c; the rest is what a program with files and arguments needs.
  */
 #include "commands.h"
 #include "files.h"
+#include "lock.h"
 #include "names.h"
 #include "show.h"
 #include "tell.h"
 
 #include <limits.h>
+#include <stdint.h>
 #include <stdio.h>
 #include <string.h>
 
@@ -79,7 +81,7 @@ enum { COMMANDS = sizeof commands / sizeof *commands };
 
 static const char rest_of_help[] =
     "Arguments:\n"
-    "  PACK      a file of this computer with a pack in it\n"
+    "  PACK      a file of this computer with a pack in it; not a pipe or device\n"
     "  CALLER    for whom it is done: a UIC, whose rights then count\n"
     "  UIC       group and user, each octal and at most 377: 23,10 or [23,10]\n"
     "  FILE, OLD, NEW, FIRST, SECOND\n"
@@ -92,13 +94,24 @@ static const char rest_of_help[] =
     "            first is a sum: 1 leaves the owner himself only reading, 2 keeps\n"
     "            the file at Finish. If left out, a new file gets 033, and a renamed\n"
     "            one has what it had.\n"
-    "  HOSTFILE  a file of this computer; - is standard input or standard output\n"
-    "BLOCKS, CONTENTS and SEGMENTS are decimal.\n"
+    "  HOSTFILE  a file of this computer; - is standard input or standard output.\n"
+    "            get writes into /dev/stdout and /dev/fd/N as into -; any other file\n"
+    "            it replaces, and so takes no pipe or device\n"
+    "  SECONDS   how long a command that changes PACK waits while another program has\n"
+    "            it locked: 0 is not at all; without --wait it waits until it is not.\n"
+    "            After 2 seconds it says for whom.\n"
+    "BLOCKS, CONTENTS, SEGMENTS and SECONDS are decimal.\n"
     "\n"
     "Exit status: 0 if it was done; 1 if the service refused it, which is told with\n"
     "the code (octal), if a file could not be read or written, or if what is entered\n"
-    "is no text; 2 if the arguments are wrong. Unless it is 0, PACK and HOSTFILE are\n"
-    "as they were.\n"
+    "is no text; 2 if the arguments are wrong whatever PACK holds, and then no file\n"
+    "was opened. Unless it is 0, PACK and HOSTFILE are as they were, also if a signal\n"
+    "ended it (HUP, INT, QUIT, TERM and the like). If it is ended by KILL, or the\n"
+    "computer stops, each is as before or as after the command, never in between;\n"
+    "what is then left beside it, .abz-new and numbers, the next command clears away.\n"
+    "\n"
+    "A file that is replaced keeps its owner, group, permissions, ACL and attributes;\n"
+    "if one of them cannot be kept, it is not replaced.\n"
     "\n"
     "Example: a pack of 64 blocks for two users, and a file in it:\n"
     "  abz format station.pack 64 2 23,10 12,4\n"
@@ -118,7 +131,7 @@ static void show_indented(const char *lines)
 
 static int show_help(void)
 {
-    printf("usage: abz COMMAND ARGUMENT...\n\nCommands:\n");
+    printf("usage: abz [--wait SECONDS] COMMAND ARGUMENT...\n\nCommands:\n");
     for (size_t i = 0; i < COMMANDS; i++) {
         printf("  %s %s\n", commands[i].name, commands[i].arguments);
         show_indented(commands[i].does);
@@ -145,9 +158,18 @@ static int run(const command *it, int count, char **arguments)
 
 int main(int count, char **words)
 {
+    size_t seconds;
+
     guard_standard_files();
+    if (count > 2 && strcmp(words[1], "--wait") == 0) {
+        if (!read_decimal("--wait", words[2], 0, SIZE_MAX, &seconds))
+            return STATUS_USAGE;
+        wait_at_most(seconds);
+        words += 2;
+        count -= 2;
+    }
     if (count < 2) {
-        fprintf(stderr, "usage: abz COMMAND ARGUMENT...; abz --help tells all\n");
+        fprintf(stderr, "usage: abz [--wait SECONDS] COMMAND ARGUMENT...; abz --help tells all\n");
         return STATUS_USAGE;
     }
     if (strcmp(words[1], "--help") == 0)

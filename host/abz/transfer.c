@@ -9,6 +9,7 @@
 #include "files.h"
 #include "names.h"
 #include "packfile.h"
+#include "replace.h"
 #include "tell.h"
 
 #include <fcntl.h>
@@ -31,13 +32,13 @@ static bool is_standard(const char *host)
 /* All that the host's file holds; if no pack has room for it, its beginning, which no pack has room for either. */
 static bool read_host(const char *host)
 {
-    int descriptor = is_standard(host) ? STDIN_FILENO : open(host, O_RDONLY);
+    const int given = descriptor_of(host, STDIN_FILENO), descriptor = given >= 0 ? given : open(host, O_RDONLY);
     bool right;
 
     if (descriptor < 0)
         return complain_of(host);
     right = read_bytes(descriptor, is_standard(host) ? "standard input" : host, bytes, sizeof bytes, &length);
-    if (!is_standard(host))
+    if (given < 0)
         close(descriptor);
     return right;
 }
@@ -109,12 +110,14 @@ static size_t get(size_t caller, file_name file)
 
 static bool write_host(const char *host)
 {
-    if (is_standard(host))
-        return write_bytes(STDOUT_FILENO, "standard output", bytes, length);
-    if (pack_is(&pack, host)) { /* who mixes up the two names must not lose the pack */
+    const int given = descriptor_of(host, STDOUT_FILENO);
+
+    if (!is_standard(host) && pack_is(&pack, host)) { /* who mixes up the two names must not lose the pack */
         complain("%s: is the pack itself", host);
         return false;
     }
+    if (given >= 0)
+        return write_bytes(given, is_standard(host) ? "standard output" : host, bytes, length);
     return replace_file(host, bytes, length);
 }
 
