@@ -156,22 +156,28 @@ static int run(const command *it, int count, char **arguments)
     return STATUS_USAGE;
 }
 
+static int show_usage(void)
+{
+    fprintf(stderr, "usage: abz [--wait SECONDS] COMMAND ARGUMENT...; abz --help tells all\n");
+    return STATUS_USAGE;
+}
+
 int main(int count, char **words)
 {
     size_t seconds;
 
     guard_standard_files();
-    if (count > 2 && strcmp(words[1], "--wait") == 0) {
+    if (count > 1 && strcmp(words[1], "--wait") == 0) {
+        if (count < 4)
+            return show_usage();
         if (!read_decimal("--wait", words[2], 0, SIZE_MAX, &seconds))
             return STATUS_USAGE;
         wait_at_most(seconds);
         words += 2;
         count -= 2;
     }
-    if (count < 2) {
-        fprintf(stderr, "usage: abz [--wait SECONDS] COMMAND ARGUMENT...; abz --help tells all\n");
-        return STATUS_USAGE;
-    }
+    if (count < 2)
+        return show_usage();
     if (strcmp(words[1], "--help") == 0)
         return show_help();
     for (size_t i = 0; i < COMMANDS; i++)
