@@ -114,11 +114,14 @@ static bool is_served_by_group(const char *path, const struct stat *old)
 /*
  * Only the superuser can give a file away. Where someone else writes the file, as one of its group, the new one is his
  * own; that is right if it stays in the group and the old owner needs nothing else. Where it would lock him out, or the
- * group, it is not done.
+ * group, it is not done. On some file systems every file has one owner: then there is nothing to give.
  */
 static bool inherit_owner(const char *name, const char *path, const struct stat *old, int descriptor)
 {
-    if (fchown(descriptor, old->st_uid, old->st_gid) == 0)
+    struct stat made;
+
+    if ((fstat(descriptor, &made) == 0 && made.st_uid == old->st_uid && made.st_gid == old->st_gid)
+        || fchown(descriptor, old->st_uid, old->st_gid) == 0)
         return true;
     if (fchown(descriptor, (uid_t)-1, old->st_gid) != 0)
         return is_not_kept(name, "owner and group");
@@ -128,6 +131,16 @@ static bool inherit_owner(const char *name, const char *path, const struct stat 
     return false;
 }
 
+/* ---- Permissions ---- */
+
+static bool inherit_permissions(const char *name, const struct stat *old, int descriptor)
+{
+    struct stat made;
+
+    return (fstat(descriptor, &made) == 0 && ((made.st_mode ^ old->st_mode) & 0777) == 0)
+           || fchmod(descriptor, old->st_mode & 0777) == 0 || is_not_kept(name, "permissions");
+}
+
 /*
  * In this order: rights for a group are given when it is the right group; and behind the ACL, since the mode of a file
  * that has one says no longer what the group may do, but what anyone in the ACL may at most.
@@ -135,5 +148,5 @@ static bool inherit_owner(const char *name, const char *path, const struct stat 
 bool inherit(const char *name, const char *path, const struct stat *old, int descriptor)
 {
     return inherit_owner(name, path, old, descriptor) && inherit_attributes(name, path, descriptor)
-           && (fchmod(descriptor, old->st_mode & 0777) == 0 || is_not_kept(name, "permissions"));
+           && inherit_permissions(name, old, descriptor);
 }

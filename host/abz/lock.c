@@ -30,36 +30,39 @@ static size_t milliseconds(void)
     return (size_t)now.tv_sec * SECOND + (size_t)now.tv_nsec / 1000000;
 }
 
-/* The program that a process runs, in parentheses behind a blank; nothing where the system does not tell. */
-static void name_program(long process, char *text, size_t room)
+/* The name of the program that a process runs, where the system tells. */
+static bool find_program(long process, char *program, int room)
 {
-    char path[64], program[64] = "";
+    char path[64];
     FILE *file;
+    bool found;
 
     snprintf(path, sizeof path, "/proc/%ld/comm", process);
     file = fopen(path, "r");
-    if (file && fgets(program, sizeof program, file))
+    if (file == NULL)
+        return false;
+    found = fgets(program, room, file) != NULL;
+    fclose(file);
+    if (found)
         program[strcspn(program, "\n")] = '\0';
-    if (file)
-        fclose(file);
-    snprintf(text, room, *program ? " (%s)" : "", program);
+    return found;
 }
 
 /* Who has the lock, in words; false if nobody has it now. Of another computer's process the system tells no number. */
-static bool name_holder(int descriptor, char *text, size_t room)
+static bool find_holder(int descriptor, char *words, size_t room)
 {
     struct flock lock = { .l_type = F_WRLCK, .l_whence = SEEK_SET };
-    char program[80];
+    const bool told = fcntl(descriptor, F_GETLK, &lock) == 0;
+    char program[64];
 
-    if (fcntl(descriptor, F_GETLK, &lock) != 0)
-        lock.l_pid = 0;
-    else if (lock.l_type == F_UNLCK)
+    if (told && lock.l_type == F_UNLCK)
         return false;
-    name_program((long)lock.l_pid, program, sizeof program);
-    if (lock.l_pid > 0)
-        snprintf(text, room, "process %ld%s", (long)lock.l_pid, program);
+    if (!told || lock.l_pid <= 0)
+        snprintf(words, room, "another process");
+    else if (find_program((long)lock.l_pid, program, sizeof program))
+        snprintf(words, room, "process %ld (%s)", (long)lock.l_pid, program);
     else
-        snprintf(text, room, "another process");
+        snprintf(words, room, "process %ld", (long)lock.l_pid);
     return true;
 }
 
@@ -70,7 +73,7 @@ static bool is_patient(int descriptor, const char *name, waiting *state)
     const bool over = waited / SECOND >= seconds_most;
     char holder[128];
 
-    if ((!over && (state->told || waited < TOLD_AFTER)) || !name_holder(descriptor, holder, sizeof holder))
+    if ((!over && (state->told || waited < TOLD_AFTER)) || !find_holder(descriptor, holder, sizeof holder))
         return true;
     if (over)
         complain("%s: is locked by %s, and --wait %zu is over", name, holder, seconds_most);

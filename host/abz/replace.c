@@ -131,7 +131,8 @@ static void clear_leftovers(const char *directory)
 
 /*
  * Locks the new file, for clear_leftover. Someone may have come before the lock and cleared it away: then it is no
- * longer under its name, and another must be made. Where there are no locks, nobody clears anything.
+ * longer under its name (or, on another computer, gone at all), and another must be made. Where there are no locks,
+ * nobody clears anything.
  */
 static bool claim_new(const replacement *it)
 {
@@ -139,7 +140,9 @@ static bool claim_new(const replacement *it)
     struct stat made, named;
 
     fcntl(it->descriptor, F_SETLKW, &whole);
-    return fstat(it->descriptor, &made) == 0 && stat(it->new, &named) == 0 && is_same_file(&made, &named);
+    if (fstat(it->descriptor, &made) != 0 || stat(it->new, &named) != 0)
+        return errno != ENOENT && errno != ESTALE;
+    return is_same_file(&made, &named);
 }
 
 /*
@@ -195,6 +198,7 @@ static bool is_undisturbed(const replacement *it, const sigset_t *held)
 {
     sigset_t waiting;
 
+    sigemptyset(&waiting);
     sigpending(&waiting);
     for (size_t i = 0; i < ENDING; i++)
         if (sigismember(held, ending[i]) && sigismember(&waiting, ending[i])) {
