@@ -11,7 +11,7 @@
 #include <string.h>
 #include <unistd.h>
 
-static bool is_not_kept(const char *name, const char *what)
+static bool complain_of_loss(const char *name, const char *what)
 {
     complain("%s: its %s cannot be kept: %s", name, what, strerror(errno));
     return false;
@@ -62,14 +62,14 @@ static bool inherit_attributes(const char *name, const char *path, int descripto
     const ssize_t length = listxattr(path, attributes, sizeof attributes);
 
     if (length < 0 && errno != ENOTSUP && errno != ENOSYS)
-        return is_not_kept(name, "list of attributes");
+        return complain_of_loss(name, "list of attributes");
     for (const char *attribute = attributes; attribute < attributes + length; attribute += strlen(attribute) + 1)
         if (!is_of_bytes(attribute) && !inherit_attribute(path, attribute, descriptor)) {
             complain("%s: its attribute %s cannot be kept: %s", name, attribute, strerror(errno));
             return false;
         }
     if (!has_acl(path) && fgetxattr(descriptor, acl, NULL, 0) > 0 && fremovexattr(descriptor, acl) != 0)
-        return is_not_kept(name, "permissions");
+        return complain_of_loss(name, "permissions");
     return true;
 }
 #else
@@ -124,7 +124,7 @@ static bool inherit_owner(const char *name, const char *path, const struct stat 
         || fchown(descriptor, old->st_uid, old->st_gid) == 0)
         return true;
     if (fchown(descriptor, (uid_t)-1, old->st_gid) != 0)
-        return is_not_kept(name, "owner and group");
+        return complain_of_loss(name, "owner and group");
     if (is_served_by_group(path, old))
         return true;
     complain("%s: its owner cannot be kept, and without that he would be locked out", name);
@@ -138,7 +138,7 @@ static bool inherit_permissions(const char *name, const struct stat *old, int de
     struct stat made;
 
     return (fstat(descriptor, &made) == 0 && ((made.st_mode ^ old->st_mode) & 0777) == 0)
-           || fchmod(descriptor, old->st_mode & 0777) == 0 || is_not_kept(name, "permissions");
+           || fchmod(descriptor, old->st_mode & 0777) == 0 || complain_of_loss(name, "permissions");
 }
 
 /*

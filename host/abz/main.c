@@ -98,7 +98,7 @@ static const char rest_of_help[] =
     "            makes or replaces a regular file; into /dev/stdout and /dev/fd/N,\n"
     "            which somebody else opened, it writes.\n"
     "  SECONDS   how long a command that changes PACK waits while another program has\n"
-    "            it locked; 0 is not at all. Without --wait it waits until it is free.\n"
+    "            it locked; 0 is not at all. Without --wait it waits till it is free.\n"
     "            After 2 seconds it says who has it.\n"
     "BLOCKS, CONTENTS, SEGMENTS and SECONDS are decimal.\n"
     "\n"

@@ -32,7 +32,7 @@ typedef struct {
     int descriptor;         /* of the new file */
 } replacement;
 
-static bool is_not_written(const replacement *it)
+static bool complain_of_new(const replacement *it)
 {
     complain("%s: the new file cannot be written: %s", it->name, strerror(errno));
     return false;
@@ -228,11 +228,11 @@ static bool replace_by_new(replacement *it, const uint8_t *bytes, size_t length,
     clear_leftovers(it->directory); /* before: they may be what fills the disk */
     if (!make_new(it))
         return false;
-    right = (write_all(it->descriptor, bytes, length) || is_not_written(it))
+    right = (write_all(it->descriptor, bytes, length) || complain_of_new(it))
             && (it->old == NULL || inherit(it->name, it->path, it->old, it->descriptor)) /* now that it is whole */
-            && (fsync(it->descriptor) == 0 || is_not_written(it)) /* or the name could lead to bytes not on the disk */
-            && is_undisturbed(it, held)                           /* the last moment to give up */
-            && (rename(it->new, it->path) == 0 || is_not_written(it));
+            && (fsync(it->descriptor) == 0 || complain_of_new(it)) /* or the name could lead to bytes not on the disk */
+            && is_undisturbed(it, held)                            /* the last moment to give up */
+            && (rename(it->new, it->path) == 0 || complain_of_new(it));
     if (right)
         sync_directory(it->directory);
     else
