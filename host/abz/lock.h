@@ -8,7 +8,7 @@
 /* How long a command waits, in seconds; 0 is not at all. If this is not called it waits without end. */
 void wait_at_most(size_t seconds);
 
-/* Since when a command waits, and whether it has said so. It begins with all 0 and serves for all locks of a command. */
+/* Since when a command waits, and whether it has said so. It begins with all 0, and serves for all its locks. */
 typedef struct {
     size_t since;
     bool told;

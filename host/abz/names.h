@@ -16,7 +16,7 @@ typedef struct {
 enum { PROTECT_USUAL = 033 };
 
 /*
- * Each of these says on standard error what is wrong with the text, and returns false, unless the text is what it should
+ * Each of these says on standard error what is wrong with the text, and returns false, unless the text is as it should
  * be. What the service would refuse whatever is in the pack, with 15 or 41, is told here: no pack is opened for it.
  */
 bool read_decimal(const char *what, const char *text, size_t least, size_t most, size_t *number);

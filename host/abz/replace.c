@@ -114,7 +114,7 @@ static void clear_leftover(int directory, const char *name)
     close(descriptor);
 }
 
-/* Where it cannot be done nothing is said. Our own are passed over: a lock does not keep out the process that has it. */
+/* Where it cannot be done nothing is said. Our own are passed over: a lock does not keep out the one that has it. */
 static void clear_leftovers(const char *directory)
 {
     DIR *const stream = opendir(directory);
@@ -146,9 +146,9 @@ static bool claim_new(const replacement *it)
 }
 
 /*
- * It is made in the same directory, since a rename is one step only within a file system; and with O_EXCL, so that it is
- * ours alone. Where it inherits permissions nobody else may open it before; else it has those of every new file, by the
- * umask or by what the directory says.
+ * It is made in the same directory, since a rename is one step only within a file system; and with O_EXCL, so that it
+ * is ours alone. Where it inherits permissions nobody else may open it before; else it has those of every new file, by
+ * the umask or by what the directory says.
  */
 static bool make_new(replacement *it)
 {

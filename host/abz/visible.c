@@ -35,7 +35,7 @@ static size_t length_by(uint8_t first)
     return first < 0340 ? 2 : first < 0360 ? 3 : 4;
 }
 
-/* How many bytes the character here has if it is UTF-8 in its shortest form and seen; else 0. The text ends with a NUL. */
+/* How many bytes the character here has, if it is UTF-8 in its shortest form and seen; else 0. A NUL ends the text. */
 static size_t seen_length(const uint8_t *text)
 {
     static const uint32_t least[] = { 0, ' ', 0x80, 0x800, 0x10000 };
