@@ -1,17 +1,31 @@
-/* Files of the host: read whole, and replaced whole or not at all. */
+/* Files of the host: standard files, and bytes read and written. How a file is replaced stands in replace.h. */
 #ifndef FILES_H
 #define FILES_H
 
 #include <stdbool.h>
 #include <stddef.h>
 #include <stdint.h>
+#include <sys/stat.h>
 #include <sys/types.h>
 
 /*
  * To be called before any file is opened. Where abz is started with a standard file closed, the next file to be opened,
- * a pack perhaps, would get its number, and what is meant for the technician would be written into the pack.
+ * a pack perhaps, would get its number, and what is meant for the technician would be written into the pack. A file at
+ * its limit is from here on an error of write, as a full disk is, and not the end of the program.
  */
 void guard_standard_files(void);
+
+/*
+ * The descriptor that a HOSTFILE stands for: that of the standard file for -, and the one that /dev/stdin, /dev/stdout,
+ * /dev/stderr, /dev/fd/N or /proc/self/fd/N tells. -1 if it is the name of a file. What somebody else opened is read
+ * and written as he opened it, never replaced.
+ */
+int descriptor_of(const char *host, int standard);
+
+bool is_same_file(const struct stat *a, const struct stat *b);
+
+/* Whether all was written; if not, errno tells why. */
+bool write_all(int descriptor, const uint8_t *bytes, size_t length);
 
 /* Each of these says on standard error what went wrong, under this name, where it returns false. */
 
@@ -22,12 +36,5 @@ bool write_bytes(int descriptor, const char *name, const uint8_t *bytes, size_t 
 
 /* Whether a file of this mode is one that can be replaced: a directory, a device or a pipe cannot. */
 bool is_regular(const char *name, mode_t mode);
-
-/*
- * Makes a file hold just these bytes; one that is there keeps its permissions. Whoever opens it finds all of the old
- * bytes or all of the new, also if the machine stops meanwhile. If it returns false, what was there is untouched and
- * nothing new is left.
- */
-bool replace_file(const char *name, const uint8_t *bytes, size_t length);
 
 #endif

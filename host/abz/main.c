@@ -1,14 +1,17 @@
 /*
  * abz: the files of a pack, at the command line; and an example of a host of the service. How a host calls it is shown
- * in requests.c, finish.c, transfer.c, text.c, reports.c, report.c and reading.c; the rest is what a program with files
- * and arguments needs.
+ * in requests.c, finish.c, transfer.c, text.c, reports.c, report.c and reading.c, and how it replaces a file in
+ * replace.c; the rest is what a program with files and arguments needs.
  */
 #include "commands.h"
 #include "files.h"
+#include "lock.h"
+#include "names.h"
 #include "show.h"
 #include "tell.h"
 
 #include <limits.h>
+#include <stdint.h>
 #include <stdio.h>
 #include <string.h>
 
@@ -78,7 +81,7 @@ enum { COMMANDS = sizeof commands / sizeof *commands };
 
 static const char rest_of_help[] =
     "Arguments:\n"
-    "  PACK      a file of this computer with a pack in it\n"
+    "  PACK      a regular file of this computer, with a pack in it\n"
     "  CALLER    for whom it is done: a UIC, whose rights then count\n"
     "  UIC       group and user, each octal and at most 377: 23,10 or [23,10]\n"
     "  FILE, OLD, NEW, FIRST, SECOND\n"
@@ -91,13 +94,25 @@ static const char rest_of_help[] =
     "            first is a sum: 1 leaves the owner himself only reading, 2 keeps\n"
     "            the file at Finish. If left out, a new file gets 033, and a renamed\n"
     "            one has what it had.\n"
-    "  HOSTFILE  a file of this computer; - is standard input or standard output\n"
-    "BLOCKS, CONTENTS and SEGMENTS are decimal.\n"
+    "  HOSTFILE  a file of this computer; - is standard input or standard output. get\n"
+    "            makes or replaces a regular file; into /dev/stdout and /dev/fd/N,\n"
+    "            which somebody else opened, it writes.\n"
+    "  SECONDS   how long a command that changes PACK waits while another program has\n"
+    "            it locked; 0 is not at all. Without --wait it waits till it is free.\n"
+    "            After 2 seconds it says who has it.\n"
+    "BLOCKS, CONTENTS, SEGMENTS and SECONDS are decimal.\n"
+    "\n"
+    "A file that is replaced keeps its owner, group, permissions, ACL and other\n"
+    "attributes, or it is not replaced. Only if its group stays, and has the rights\n"
+    "of the owner, it may become that of another member who writes it.\n"
     "\n"
     "Exit status: 0 if it was done; 1 if the service refused it, which is told with\n"
     "the code (octal), if a file could not be read or written, or if what is entered\n"
-    "is no text; 2 if the arguments are wrong. Unless it is 0, PACK and HOSTFILE are\n"
-    "as they were.\n"
+    "is no text; 2 if the arguments are wrong whatever PACK holds, and then no file\n"
+    "was opened. Unless it is 0, PACK and a HOSTFILE to be replaced are as they were,\n"
+    "also if a signal ended it (HUP, INT, QUIT, TERM and the like). A KILL, or a stop\n"
+    "of the computer, leaves each as before or as after the command, and perhaps a\n"
+    "file .abz-new.* beside it, which the next command there clears away.\n"
     "\n"
     "Example: a pack of 64 blocks for two users, and a file in it:\n"
     "  abz format station.pack 64 2 23,10 12,4\n"
@@ -117,7 +132,7 @@ static void show_indented(const char *lines)
 
 static int show_help(void)
 {
-    printf("usage: abz COMMAND ARGUMENT...\n\nCommands:\n");
+    printf("usage: abz [--wait SECONDS] COMMAND ARGUMENT...\n\nCommands:\n");
     for (size_t i = 0; i < COMMANDS; i++) {
         printf("  %s %s\n", commands[i].name, commands[i].arguments);
         show_indented(commands[i].does);
@@ -126,21 +141,44 @@ static int show_help(void)
     return show_end() ? STATUS_DONE : STATUS_FAILED;
 }
 
+/* PACK is the first argument that is no option, in every command that takes one. */
+static bool has_pack(const command *it, char **arguments)
+{
+    while (*arguments && strncmp(*arguments, "--", 2) == 0)
+        arguments++;
+    return strstr(it->arguments, "PACK") == NULL || *arguments == NULL || read_path("PACK", *arguments);
+}
+
 static int run(const command *it, int count, char **arguments)
 {
     if (count >= it->least && count <= it->most)
-        return it->run(arguments);
+        return has_pack(it, arguments) ? it->run(arguments) : STATUS_USAGE;
     fprintf(stderr, "usage: abz %s %s\n", it->name, it->arguments);
+    return STATUS_USAGE;
+}
+
+static int show_usage(void)
+{
+    fprintf(stderr, "usage: abz [--wait SECONDS] COMMAND ARGUMENT...; abz --help tells all\n");
     return STATUS_USAGE;
 }
 
 int main(int count, char **words)
 {
+    size_t seconds;
+
     guard_standard_files();
-    if (count < 2) {
-        fprintf(stderr, "usage: abz COMMAND ARGUMENT...; abz --help tells all\n");
-        return STATUS_USAGE;
+    if (count > 1 && strcmp(words[1], "--wait") == 0) {
+        if (count < 4)
+            return show_usage();
+        if (!read_decimal("--wait", words[2], 0, SIZE_MAX, &seconds))
+            return STATUS_USAGE;
+        wait_at_most(seconds);
+        words += 2;
+        count -= 2;
     }
+    if (count < 2)
+        return show_usage();
     if (strcmp(words[1], "--help") == 0)
         return show_help();
     for (size_t i = 0; i < COMMANDS; i++)

@@ -7,7 +7,7 @@
 #include <stdint.h>
 #include <string.h>
 
-enum { UIC_PART_MOST = 0377, NAME_MOST = 6 };
+enum { UIC_PART_MOST = 0377, PROTECT_MOST = 0377, NAME_MOST = 6, EXTENSION_MOST = 3 };
 
 /* A text that does not end with a NUL: a part of an argument. */
 typedef struct {
@@ -47,14 +47,26 @@ static bool read_number(const char *what, const char *text, size_t base, size_t 
     return false;
 }
 
-bool read_decimal(const char *what, const char *text, size_t *number)
+bool read_decimal(const char *what, const char *text, size_t least, size_t most, size_t *number)
 {
-    return read_number(what, text, 10, number);
+    if (!read_number(what, text, 10, number))
+        return false;
+    if (*number < least)
+        complain("%s: '%s' is less than %zu", what, text, least);
+    else if (*number > most)
+        complain("%s: '%s' is more than %zu", what, text, most);
+    return *number >= least && *number <= most;
 }
 
 bool read_protect(const char *text, size_t *protect)
 {
-    return text == NULL || read_number("PROTECT", text, 8, protect);
+    if (text == NULL)
+        return true;
+    if (!read_number("PROTECT", text, 8, protect))
+        return false;
+    if (*protect > PROTECT_MOST)
+        complain("PROTECT: '%s' is more than %o", text, PROTECT_MOST);
+    return *protect <= PROTECT_MOST;
 }
 
 /* ---- UICs ---- */
@@ -99,22 +111,24 @@ static part without_blanks_behind(part text)
     return text;
 }
 
-/* The Radix-50 words of up to three characters each; what is missing is blank. */
-static bool words_of(part text, size_t *words, size_t count)
+static bool is_legal(part text, size_t least, size_t most)
 {
-    uint8_t characters[NAME_MOST];
+    static const char legal[] = "ABCDEFGHIJKLMNOPQRSTUVWXYZ0123456789";
 
-    if (text.length > 3 * count)
-        return false;
-    memset(characters, ' ', sizeof characters);
-    memcpy(characters, text.start, text.length);
-    for (size_t i = 0; i < count; i++) {
-        abz_answer word = abz_radpk(characters + 3 * i, 3);
-        if (word.code != ABZ_OK)
+    for (size_t i = 0; i < text.length; i++)
+        if (memchr(legal, text.start[i], sizeof legal - 1) == NULL)
             return false;
-        words[i] = word.number;
-    }
-    return true;
+    return text.length >= least && text.length <= most;
+}
+
+/* The Radix-50 word of three characters of a legal text, from this place on; what is missing is blank. */
+static size_t word_of(part text, size_t place)
+{
+    uint8_t characters[] = { ' ', ' ', ' ' };
+
+    for (size_t i = 0; i < sizeof characters && place + i < text.length; i++)
+        characters[i] = (uint8_t)text.start[place + i];
+    return abz_radpk(characters, sizeof characters).number;
 }
 
 static bool name_of(part text, file_name *file)
@@ -122,12 +136,12 @@ static bool name_of(part text, file_name *file)
     const char *dot = memchr(text.start, '.', text.length), *end = text.start + text.length;
     part name = without_blanks_behind(part_of(text.start, dot ? dot : end));
     part extension = without_blanks_behind(part_of(dot ? dot + 1 : end, end));
-    size_t words[2];
 
-    if (!words_of(name, words, 2) || !words_of(extension, &file->extension, 1))
+    if (!is_legal(name, 1, NAME_MOST) || !is_legal(extension, 0, EXTENSION_MOST))
         return false;
-    file->name1 = words[0];
-    file->name2 = words[1];
+    file->name1 = word_of(name, 0);
+    file->name2 = word_of(name, 3);
+    file->extension = word_of(extension, 0);
     return true;
 }
 
@@ -145,4 +159,13 @@ bool read_name(const char *text, file_name *file)
         return false;
     }
     return true;
+}
+
+/* ---- Files of this computer ---- */
+
+bool read_path(const char *what, const char *text)
+{
+    if (*text == '\0')
+        complain("%s: '' is not the name of a file", what);
+    return *text != '\0';
 }

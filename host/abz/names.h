@@ -16,12 +16,13 @@ typedef struct {
 enum { PROTECT_USUAL = 033 };
 
 /*
- * Each of these says on standard error what is wrong with the text, and returns false, unless the text can be written
- * as numbers. Whether the service likes the numbers is for the service to say.
+ * Each of these says on standard error what is wrong with the text, and returns false, unless the text is as it should
+ * be. What the service would refuse whatever is in the pack, with 15 or 41, is told here: no pack is opened for it.
  */
-bool read_decimal(const char *what, const char *text, size_t *number);
+bool read_decimal(const char *what, const char *text, size_t least, size_t most, size_t *number);
 bool read_protect(const char *text, size_t *protect); /* octal; NULL leaves the number as it is */
 bool read_uic(const char *text, size_t *uic);         /* [23,10] or 23,10 */
 bool read_name(const char *text, file_name *file);    /* FREQ.DAT or FREQ.DAT[23,10] */
+bool read_path(const char *what, const char *text);   /* of a file of this computer: only that it is not empty */
 
 #endif

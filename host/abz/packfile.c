@@ -3,24 +3,56 @@
 #include "packfile.h"
 
 #include "files.h"
+#include "lock.h"
+#include "replace.h"
 #include "tell.h"
 
 #include <fcntl.h>
+#include <stdio.h>
 #include <string.h>
 #include <sys/stat.h>
 #include <unistd.h>
 
-static bool same_file(const struct stat *a, const struct stat *b)
+/* ---- Opening ---- */
+
+static bool leads_to(int descriptor, const struct stat *pack)
 {
-    return a->st_dev == b->st_dev && a->st_ino == b->st_ino;
+    struct stat file;
+
+    return fstat(descriptor, &file) == 0 && is_same_file(&file, pack);
 }
 
-/* Waits until nobody else has the file. The lock goes away when abz ends, however it ends. */
-static bool wait_for_lock(int descriptor)
+/* What is shown or said must not go into the pack. Where messages would, nobody can be told, and the status is all. */
+static bool is_written_to(const struct stat *pack)
 {
-    struct flock whole = { .l_type = F_WRLCK, .l_whence = SEEK_SET };
+    const bool shown = leads_to(STDOUT_FILENO, pack), said = leads_to(STDERR_FILENO, pack);
 
-    return fcntl(descriptor, F_SETLKW, &whole) == 0;
+    if (said && freopen("/dev/null", "w", stderr) == NULL)
+        _exit(STATUS_FAILED);
+    if (shown || said)
+        complain("%s: is the pack itself", shown ? "standard output" : "standard error");
+    return shown || said;
+}
+
+/* A pack is a regular file. Others are not even opened: a device may do something then, and a pipe makes abz wait. */
+static int open_pack(const char *path, int mode, struct stat *opened)
+{
+    int descriptor;
+
+    if (stat(path, opened) != 0) {
+        complain_of(path);
+        return -1;
+    }
+    if (!is_regular(path, opened->st_mode))
+        return -1;
+    descriptor = open(path, mode);
+    if (descriptor < 0 || fstat(descriptor, opened) != 0)
+        complain_of(path);
+    else if (is_regular(path, opened->st_mode) && !is_written_to(opened))
+        return descriptor;
+    if (descriptor >= 0)
+        close(descriptor);
+    return -1;
 }
 
 /*
@@ -28,26 +60,23 @@ static bool wait_for_lock(int descriptor)
  * other the second would undo the first. Whoever had the lock before may have replaced the file, and what was opened
  * is then no longer what stands under the name: so it is opened again.
  */
-static bool open_locked(const char *path, int *descriptor)
+static int open_locked(const char *path)
 {
     struct stat opened, named;
+    waiting state = { 0 };
+    int descriptor;
 
     for (;;) {
-        if (stat(path, &named) != 0)
-            return complain_of(path);
-        if (!is_regular(path, named.st_mode)) /* before it is opened: to open a device or a pipe may do something */
-            return false;
-        *descriptor = open(path, O_RDWR);
-        if (*descriptor < 0)
-            return complain_of(path);
-        if (!wait_for_lock(*descriptor) || fstat(*descriptor, &opened) != 0) {
-            complain_of(path);
-            close(*descriptor);
-            return false;
+        descriptor = open_pack(path, O_RDWR, &opened);
+        if (descriptor < 0)
+            return -1;
+        if (!lock_file(descriptor, path, &state)) {
+            close(descriptor);
+            return -1;
         }
-        if (stat(path, &named) == 0 && same_file(&opened, &named))
-            return true;
-        close(*descriptor);
+        if (stat(path, &named) == 0 && is_same_file(&opened, &named))
+            return descriptor;
+        close(descriptor);
     }
 }
 
@@ -58,12 +87,13 @@ static bool read_image(pack_file *pack, int descriptor)
 
 bool pack_read(pack_file *pack, const char *path)
 {
-    int descriptor = open(path, O_RDONLY);
+    struct stat opened;
+    const int descriptor = open_pack(path, O_RDONLY, &opened);
     bool right;
 
     pack->path = path;
     if (descriptor < 0)
-        return complain_of(path);
+        return false;
     right = read_image(pack, descriptor);
     close(descriptor);
     return right;
@@ -71,29 +101,27 @@ bool pack_read(pack_file *pack, const char *path)
 
 bool pack_take(pack_file *pack, const char *path)
 {
-    int descriptor;
+    const int descriptor = open_locked(path);
 
     pack->path = path;
-    return open_locked(path, &descriptor) && read_image(pack, descriptor); /* not closed: that would end the lock */
+    return descriptor >= 0 && read_image(pack, descriptor); /* not closed: that would end the lock */
 }
 
 bool pack_is(const pack_file *pack, const char *path)
 {
     struct stat ours, other;
 
-    return stat(pack->path, &ours) == 0 && stat(path, &other) == 0 && same_file(&ours, &other);
+    return stat(pack->path, &ours) == 0 && stat(path, &other) == 0 && is_same_file(&ours, &other);
 }
 
 bool pack_begin(pack_file *pack, const char *path, size_t blocks)
 {
     struct stat there;
-    int descriptor;
 
     pack->path = path;
-    /* The service refuses what is more. */
-    pack->length = ABZ_BLOCK_BYTES * (blocks < ABZ_BLOCKS_MOST ? blocks : ABZ_BLOCKS_MOST);
+    pack->length = ABZ_BLOCK_BYTES * blocks;
     memset(pack->image, 0, pack->length);
-    return stat(path, &there) != 0 || open_locked(path, &descriptor);
+    return stat(path, &there) != 0 || open_locked(path) >= 0;
 }
 
 bool pack_write(const pack_file *pack)

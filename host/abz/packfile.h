@@ -1,6 +1,6 @@
 /*
- * Packs that are kept in files. A command reads the pack, lends its bytes to the service, and only where that did all
- * that was asked are they written back.
+ * Packs that are kept in regular files. A command reads the pack, lends its bytes to the service, and only where that
+ * did all that was asked are they written back.
  */
 #ifndef PACKFILE_H
 #define PACKFILE_H
@@ -32,7 +32,7 @@ bool pack_take(pack_file *pack, const char *path);
 /* Whether a name leads to the file that the pack is in. It says nothing. */
 bool pack_is(const pack_file *pack, const char *path);
 
-/* For formatting: so many blocks of 0. There may be a file already or not; if so, no other abz changes it. */
+/* For formatting: so many blocks of 0, ABZ_BLOCKS_MOST at most. If there is a file already, no other abz changes it. */
 bool pack_begin(pack_file *pack, const char *path, size_t blocks);
 
 /* Puts the image into the file. If this returns false, the file is as it was. */

@@ -5,6 +5,7 @@
 #include "commands.h"
 
 #include "abezolit.h"
+#include "contents.h"
 #include "names.h"
 #include "packfile.h"
 #include "show.h"
@@ -25,18 +26,33 @@ static int end_request(const char *command, size_t code)
 
 /* ---- Packs ---- */
 
-/* UICs as words, low byte first. Of more than a pack takes one is enough for the service to see that. */
-static bool read_uics(char **texts, uint8_t uics[2 * (ABZ_UICS_MOST + 1)], size_t *length)
+/* What is wrong with one more UIC behind those that a new pack has already; NULL if nothing is. */
+static const char *fault_of(size_t uic, const uint8_t *uics, size_t length)
+{
+    if (uic == 0)
+        return "no user has the UIC [0,0]";
+    for (size_t at = 0; at < length; at += 2)
+        if (word_at(uics + at) == uic)
+            return "this UIC is given twice";
+    return length == 2 * ABZ_UICS_MOST ? "a pack has at most 64 UICs" : NULL;
+}
+
+/* UICs as words, low byte first. */
+static bool read_uics(char **texts, uint8_t uics[2 * ABZ_UICS_MOST], size_t *length)
 {
     size_t uic;
+    const char *fault;
 
     for (*length = 0; *texts; texts++) {
         if (!read_uic(*texts, &uic))
             return false;
-        if (*length <= 2 * ABZ_UICS_MOST) {
-            uics[(*length)++] = (uint8_t)(uic % 256);
-            uics[(*length)++] = (uint8_t)(uic / 256);
+        fault = fault_of(uic, uics, *length);
+        if (fault) {
+            complain("'%s': %s", *texts, fault);
+            return false;
         }
+        uics[(*length)++] = (uint8_t)(uic % 256);
+        uics[(*length)++] = (uint8_t)(uic / 256);
     }
     return true;
 }
@@ -44,9 +60,10 @@ static bool read_uics(char **texts, uint8_t uics[2 * (ABZ_UICS_MOST + 1)], size_
 int command_format(char **arguments)
 {
     size_t blocks, contents, length;
-    uint8_t uics[2 * (ABZ_UICS_MOST + 1)];
+    uint8_t uics[2 * ABZ_UICS_MOST];
 
-    if (!read_decimal("BLOCKS", arguments[1], &blocks) || !read_decimal("CONTENTS", arguments[2], &contents)
+    if (!read_decimal("BLOCKS", arguments[1], ABZ_BLOCKS_LEAST, ABZ_BLOCKS_MOST, &blocks)
+        || !read_decimal("CONTENTS", arguments[2], ABZ_CONTENTS_LEAST, ABZ_CONTENTS_MOST, &contents)
         || !read_uics(arguments + 3, uics, &length))
         return STATUS_USAGE;
     if (!pack_begin(&pack, arguments[0], blocks))
@@ -96,7 +113,7 @@ int command_alloc(char **arguments)
     abz_answer answer;
 
     if (!read_uic(arguments[1], &caller) || !read_name(arguments[2], &file)
-        || !read_decimal("SEGMENTS", arguments[3], &segments) || !read_protect(arguments[4], &protect))
+        || !read_decimal("SEGMENTS", arguments[3], 1, SIZE_MAX, &segments) || !read_protect(arguments[4], &protect))
         return STATUS_USAGE;
     if (!pack_take(&pack, arguments[0]))
         return STATUS_FAILED;
@@ -163,6 +180,13 @@ int command_rename(char **arguments)
                                            new.extension, protect));
 }
 
+/* Whether two names are of one file, however they are written; it need not be there. */
+static bool same_name(size_t caller, file_name a, file_name b)
+{
+    return a.name1 == b.name1 && a.name2 == b.name2 && a.extension == b.extension
+           && (a.uic ? a.uic : caller) == (b.uic ? b.uic : caller);
+}
+
 int command_append(char **arguments)
 {
     size_t caller;
@@ -170,6 +194,10 @@ int command_append(char **arguments)
 
     if (!read_uic(arguments[1], &caller) || !read_name(arguments[2], &first) || !read_name(arguments[3], &second))
         return STATUS_USAGE;
+    if (same_name(caller, first, second)) {
+        complain("'%s': a file cannot be appended to itself", arguments[3]);
+        return STATUS_USAGE;
+    }
     if (!pack_take(&pack, arguments[0]))
         return STATUS_FAILED;
     return end_request("append", abz_appnd(pack.image, pack.length, caller, FOUR(first), FOUR(second)));

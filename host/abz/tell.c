@@ -1,11 +1,14 @@
 /* A refusal in words: what each code means to a technician, for each command. */
+#define _POSIX_C_SOURCE 200809L
 #include "tell.h"
 
 #include "abezolit.h"
+#include "visible.h"
 
 #include <errno.h>
 #include <stdarg.h>
 #include <stdio.h>
+#include <stdlib.h>
 #include <string.h>
 
 typedef struct {
@@ -22,12 +25,6 @@ typedef struct {
 static const cause causes[] = {
     { ABZ_INCONSISTENT, NULL, "the file is not a consistent pack; abz report tells what is wrong with it" },
     { ABZ_NAME, NULL, "a name is 1 to 6 of A-Z and 0-9, an extension 0 to 3 of them" },
-    { ABZ_ARGUMENT, "format", "BLOCKS is 16 to 1024, CONTENTS 1 to 8; at most 64 UICs, none twice and none [0,0]" },
-    { ABZ_ARGUMENT, "alloc", "SEGMENTS is at least 1, and PROTECT at most 377" },
-    { ABZ_ARGUMENT, "put", "PROTECT is at most 377" },
-    { ABZ_ARGUMENT, "enter", "PROTECT is at most 377" },
-    { ABZ_ARGUMENT, "rename", "PROTECT is at most 377" },
-    { ABZ_ARGUMENT, "append", "a file cannot be appended to itself" },
     { ABZ_ARGUMENT, NULL, "an argument is not one that the request takes" },
     { ABZ_NO_USER, NULL, "the owner is not in the pack's list of UICs" },
     { ABZ_EXISTENCE, "alloc", "there is such a file already" },
@@ -83,14 +80,21 @@ static const char *words_of(const char *command, size_t code)
 void complain(const char *format, ...)
 {
     va_list arguments;
+    char *message = NULL;
+    size_t length;
+    FILE *const stream = open_memstream(&message, &length);
 
     /* What was printed before is to be seen before, also where both go to one terminal. */
     fflush(stdout);
     fputs("abz: ", stderr);
     va_start(arguments, format);
-    vfprintf(stderr, format, arguments);
+    if (stream && vfprintf(stream, format, arguments) >= 0 && fclose(stream) == 0)
+        show_visible(message, stderr);
+    else
+        fputs("no memory is left to say what is wrong", stderr);
     va_end(arguments);
     fputc('\n', stderr);
+    free(message);
 }
 
 bool complain_of(const char *file)

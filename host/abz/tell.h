@@ -8,10 +8,13 @@
 enum {
     STATUS_DONE = 0,
     STATUS_FAILED = 1, /* the service refused, or a file could not be read or written */
-    STATUS_USAGE = 2   /* the arguments are wrong; no file was touched */
+    STATUS_USAGE = 2   /* the arguments are wrong, whatever is in the pack; no file was opened */
 };
 
-/* Says one line on standard error, in printf's way. */
+/*
+ * Says one line on standard error, in printf's way. Whatever an argument or a file's name has in it, the line is one of
+ * visible characters.
+ */
 void complain(const char *format, ...);
 
 /* Says, by errno, why the system did not do what was asked of it with a file. Returns false. */

@@ -9,6 +9,7 @@
 #include "files.h"
 #include "names.h"
 #include "packfile.h"
+#include "replace.h"
 #include "tell.h"
 
 #include <fcntl.h>
@@ -31,13 +32,13 @@ static bool is_standard(const char *host)
 /* All that the host's file holds; if no pack has room for it, its beginning, which no pack has room for either. */
 static bool read_host(const char *host)
 {
-    int descriptor = is_standard(host) ? STDIN_FILENO : open(host, O_RDONLY);
+    const int given = descriptor_of(host, STDIN_FILENO), descriptor = given >= 0 ? given : open(host, O_RDONLY);
     bool right;
 
     if (descriptor < 0)
         return complain_of(host);
     right = read_bytes(descriptor, is_standard(host) ? "standard input" : host, bytes, sizeof bytes, &length);
-    if (!is_standard(host))
+    if (given < 0)
         close(descriptor);
     return right;
 }
@@ -68,7 +69,8 @@ int command_put(char **arguments)
     size_t caller, code, protect = PROTECT_USUAL;
     file_name file;
 
-    if (!read_uic(arguments[1], &caller) || !read_name(arguments[2], &file) || !read_protect(arguments[4], &protect))
+    if (!read_uic(arguments[1], &caller) || !read_name(arguments[2], &file) || !read_path("HOSTFILE", arguments[3])
+        || !read_protect(arguments[4], &protect))
         return STATUS_USAGE;
     if (!read_host(arguments[3]) || !pack_take(&pack, arguments[0])) /* in this order: nobody waits for what is typed */
         return STATUS_FAILED;
@@ -108,12 +110,14 @@ static size_t get(size_t caller, file_name file)
 
 static bool write_host(const char *host)
 {
-    if (is_standard(host))
-        return write_bytes(STDOUT_FILENO, "standard output", bytes, length);
-    if (pack_is(&pack, host)) { /* who mixes up the two names must not lose the pack */
+    const int given = descriptor_of(host, STDOUT_FILENO);
+
+    if (!is_standard(host) && pack_is(&pack, host)) { /* who mixes up the two names must not lose the pack */
         complain("%s: is the pack itself", host);
         return false;
     }
+    if (given >= 0)
+        return write_bytes(given, is_standard(host) ? "standard output" : host, bytes, length);
     return replace_file(host, bytes, length);
 }
 
@@ -122,7 +126,7 @@ int command_get(char **arguments)
     size_t caller, code;
     file_name file;
 
-    if (!read_uic(arguments[1], &caller) || !read_name(arguments[2], &file))
+    if (!read_uic(arguments[1], &caller) || !read_name(arguments[2], &file) || !read_path("HOSTFILE", arguments[3]))
         return STATUS_USAGE;
     if (!pack_read(&pack, arguments[0]))
         return STATUS_FAILED;
