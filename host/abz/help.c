@@ -12,7 +12,7 @@ static const struct {
     const char *are;
 } arguments[] = {
     { "PACK", "a file of this computer with a pack in it" },
-    { "CALLER", "for whom it is done: a UIC, whose rights then count" },
+    { "CALLER", "for whom it is done: a UIC as 23,10 or [23,10], whose rights count" },
     { "UIC", "group and user, each octal and at most 377: 23,10 or [23,10]" },
     { "FILE, OLD, NEW, FIRST, SECOND",
       "a file of the pack: FREQ.DAT is the caller's, 'FREQ.DAT[23,10]' that\n"
