@@ -44,7 +44,7 @@ static const char *behind(const char *synopsis, const char *name)
     const size_t length = strlen(name);
 
     for (; (synopsis = strstr(synopsis, "[--")) != NULL; synopsis++)
-        if (strncmp(synopsis + 1, name, length) == 0 && (synopsis[1 + length] == ']' || synopsis[1 + length] == ' '))
+        if (strcspn(synopsis + 1, "] ") == length && strncmp(synopsis + 1, name, length) == 0)
             return synopsis + 1 + length;
     return NULL;
 }
