@@ -11,7 +11,7 @@ _abz_uics() {
     "$1" info "$2" 2>/dev/null | sed -n 's/^\[0*\([0-7][0-7]*\),0*\([0-7][0-7]*\)\].*/\1,\2/p'
 }
 
-# _abz_files ABZ PACK CALLER: its files, those of the caller by name alone, all others with their owner: FREQ.DAT[23,10].
+# _abz_files ABZ PACK CALLER: its files, those of the caller by name alone, others with their owner: FREQ.DAT[23,10].
 _abz_files() {
     [ -f "$2" ] || return
     "$1" list "$2" 2>/dev/null | sed -n \
@@ -35,7 +35,7 @@ _abz_offer() {
 
 # _abz_argument NAME: what can stand where a synopsis has this name.
 _abz_argument() {
-    local word=${COMP_WORDS[COMP_CWORD]} option=
+    local word=${COMP_WORDS[COMP_CWORD]#[\'\"]} option=
     case $1 in
     PACK | HOSTFILE) option=-f ;;
     DIRECTORY) option=-d ;;
@@ -45,8 +45,8 @@ _abz_argument() {
     COMMAND) _abz_offer "$(_abz_commands "$abz")" ;;
     esac
     [ -n "$option" ] || return
-    compopt -o filenames 2>/dev/null
-    mapfile -t -O "${#COMPREPLY[@]}" COMPREPLY < <(compgen "$option" -- "$word")
+    compopt -o filenames 2>/dev/null # bash then quotes what needs it
+    mapfile -t -O "${#COMPREPLY[@]}" COMPREPLY < <(compgen "$option" -- "${word//\\/}")
 }
 
 # Takes a synopsis apart: options, what goes with them, and the names of arguments, one of which may be repeated.
@@ -69,7 +69,7 @@ _abz_read_synopsis() {
 
 _abz() {
     local abz=${COMP_WORDS[0]/#\~/$HOME} word=${COMP_WORDS[COMP_CWORD]} pack='' caller=''
-    local synopsis='' options=--help line i first=2 count=0 repeated=99 names=()
+    local synopsis='' options=--help line i first=2 count=0 repeated=99 names=() # 99: none
     local -A value=()
     COMPREPLY=()
     if [ "$COMP_CWORD" -eq 1 ]; then

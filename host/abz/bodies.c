@@ -72,7 +72,7 @@ size_t body_load(pack_file *pack, size_t caller, file_name file, const uint8_t *
 
 /* ---- Out of the pack ---- */
 
-/* How a block of each kind of file is read. The requests take and give the same, but for the size of a block's bytes. */
+/* How a block of each kind of file is read. The requests take and give the same, but for how many bytes it has. */
 static const struct {
     size_t (*read)(const uint8_t *image, size_t image_len, size_t caller,
                    size_t name1, size_t name2, size_t extension, size_t uic,

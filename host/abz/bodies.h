@@ -18,8 +18,8 @@ size_t body_put(pack_file *pack, size_t caller, file_name file, size_t protect, 
 size_t body_load(pack_file *pack, size_t caller, file_name file, const uint8_t *bytes, size_t length);
 
 /*
- * Reads the bytes of a file of this kind. There is room for two blocks more than it has, so also for all files of a
- * pack one behind the other.
+ * Reads the bytes of a file of this kind. There must be room for a block more than it has; BODY_ROOM is enough also for
+ * all files of a pack, one behind the other.
  */
 size_t body_read(pack_file *pack, size_t caller, file_name file, size_t kind, uint8_t *bytes, size_t *length);
 

@@ -1,6 +1,6 @@
 /*
- * The command that takes opens of a file away. A pack keeps them until they are closed, also where the program that made
- * them is long gone, and a file that is open is not deleted, renamed or appended.
+ * The command that takes opens of a file away. A pack keeps them until they are closed, also where the program that
+ * made them is long gone, and a file that is open is not deleted, renamed or appended.
  */
 #include "commands.h"
 
@@ -13,7 +13,7 @@
 
 static pack_file pack;
 
-/* The mode in which a file is open, if it is one only. Of a file that is closed or not there CLOSE says so, in any mode. */
+/* The mode in which a file is open, if it is only one. Where it is closed or not there, CLOSE says so in any mode. */
 static bool find_mode(size_t caller, file_name file, size_t *mode)
 {
     const abz_look_answer opens = abz_look(pack.image, pack.length, caller, FOUR(file));
@@ -60,7 +60,8 @@ int command_close(char **arguments)
     size_t caller, mode = ABZ_INPUT;
     file_name file;
 
-    if (!read_uic(arguments[1], &caller) || !read_name(arguments[2], &file) || (!any && !read_mode(arguments[3], &mode)))
+    if (!read_uic(arguments[1], &caller) || !read_name(arguments[2], &file)
+        || (!any && !read_mode(arguments[3], &mode)))
         return STATUS_USAGE;
     if (!pack_take(&pack, arguments[0]))
         return STATUS_FAILED;

@@ -1,7 +1,7 @@
 /*
- * The command that writes several files of a pack into a directory of the host. Files of the host are replaced one by one,
- * so that not all or none can be had; but all of them are read, and every reason that can be seen is looked for, before
- * the first is written.
+ * The command that writes several files of a pack into a directory of the host. Files of the host are replaced one by
+ * one, so that all or none of them cannot be had; but before the first is written all are read, and every cause that
+ * can be seen is looked for.
  */
 #define _POSIX_C_SOURCE 200809L
 #include "commands.h"
@@ -86,7 +86,7 @@ static bool read_chosen(size_t caller)
     for (size_t i = 0; i < count; i++, at += length) {
         code = body_read(&pack, caller, contents_name(&chosen[i].file), chosen[i].file.kind, at, &length);
         if (code != ABZ_OK) {
-            name_text(chosen[i].file.name1, chosen[i].file.name2, chosen[i].file.extension, name);
+            name_text(contents_name(&chosen[i].file), name);
             tell_refusal_of("get", name, code);
             return false;
         }
@@ -102,7 +102,7 @@ static bool path_of(size_t i, const char *directory, char path[PATH_MAX])
 {
     char name[NAME_TEXT];
 
-    name_text(chosen[i].file.name1, chosen[i].file.name2, chosen[i].file.extension, name);
+    name_text(contents_name(&chosen[i].file), name);
     if (snprintf(path, PATH_MAX, "%s/%s", directory, name) < PATH_MAX)
         return true;
     errno = ENAMETOOLONG;

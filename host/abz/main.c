@@ -1,7 +1,7 @@
 /*
  * abz: the files of a pack, at the command line; and an example of a host of the service. How a host calls it is shown
- * in requests.c, closing.c, finish.c, bodies.c, text.c, blocks.c, report.c and reading.c; the rest is what a program with
- * files and arguments needs.
+ * in requests.c, closing.c, finish.c, bodies.c, text.c, blocks.c, report.c and reading.c; the rest is what a program
+ * with files and arguments needs.
  */
 #include "commands.h"
 #include "files.h"
@@ -136,7 +136,7 @@ static int command_help(char **arguments)
                         : show_help(commands, COMMANDS, rest_of_help);
 }
 
-/* The row for these words: that of the form whose option is given, else of the command itself. NULL if there is none. */
+/* The row for these words: that of the form whose option comes first, else the command's own. NULL if there is none. */
 static const command *row_of(char **words)
 {
     const command *found = NULL;

@@ -38,7 +38,7 @@ const char *option(const char *name)
     return place < count ? given[place].value : NULL;
 }
 
-/* What stands in the synopsis behind an option: ], or a blank and the word that goes with it. NULL if it is not there. */
+/* What a synopsis has behind an option: ], or a blank and the word that goes with it. NULL if it has no such option. */
 static const char *behind(const char *synopsis, const char *name)
 {
     const size_t length = strlen(name);

@@ -41,7 +41,7 @@ bool pack_begin(pack_file *pack, const char *path, size_t blocks, bool force);
 /* Puts the image into the file. If this returns false, the file is as it was. */
 bool pack_write(const pack_file *pack);
 
-/* The end of a command that changes the pack, by the code of its requests: a refusal is told, else the pack is written. */
+/* The end of a command that changes the pack, by the code of its requests: a refusal is told, else it is written. */
 int pack_end(const pack_file *pack, const char *command, size_t code);
 
 #endif

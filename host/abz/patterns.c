@@ -56,7 +56,7 @@ bool pattern_matches(const file_pattern *pattern, size_t caller, const contents_
 {
     char name[NAME_TEXT];
 
-    name_text(file->name1, file->name2, file->extension, name);
+    name_text(contents_name(file), name);
     end_name(name);
     return file->uic == (pattern->uic ? pattern->uic : caller) && matches(pattern->text, name);
 }

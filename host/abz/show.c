@@ -81,12 +81,12 @@ static char *copy_word(char *text, const uint8_t *characters, size_t count)
     return text;
 }
 
-void name_text(size_t name1, size_t name2, size_t extension, char text[NAME_TEXT])
+void name_text(file_name file, char text[NAME_TEXT])
 {
     uint8_t name[NAME_CHARACTERS], behind[] = { '?', '?', '?' };
 
-    name_characters(name1, name2, name);
-    abz_radup(extension, behind, WORD_CHARACTERS);
+    name_characters(file.name1, file.name2, name);
+    abz_radup(file.extension, behind, WORD_CHARACTERS);
     text = copy_word(text, name, NAME_CHARACTERS);
     if (behind[0] != ' ')
         *text++ = '.';

@@ -15,7 +15,7 @@ void show_word(size_t name1, size_t name2);                   /* FREQ: without t
 
 /* The name of a file as a technician writes it: FREQ.DAT, or FREQ where it has no extension. */
 enum { NAME_TEXT = 11 };
-void name_text(size_t name1, size_t name2, size_t extension, char text[NAME_TEXT]);
+void name_text(file_name file, char text[NAME_TEXT]);
 
 /* BLOCKS 00016 FREE 00011, and the end of the line */
 void show_totals(size_t blocks, size_t free);

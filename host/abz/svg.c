@@ -1,6 +1,6 @@
 /*
- * The map of a pack as a picture, in SVG: a bar for each run of blocks of one owner, then a list of the owners. Outlines
- * and signs tell owners apart in black and white too. It is drawn in layers, and each says its look once.
+ * The map of a pack as a picture, in SVG: a bar for each run of blocks of one owner, then a list of the owners. Signs
+ * and outlines tell owners apart in black and white too. It is drawn in layers, and each says its look once.
  */
 #define _POSIX_C_SOURCE 200809L
 #include "map.h"
@@ -61,7 +61,7 @@ static owner file_owner(const pack_map *map, size_t number)
     contents_entry file;
 
     contents_read(map->pack.image, map->entry_of[number], &file);
-    name_text(file.name1, file.name2, file.extension, name);
+    name_text(contents_name(&file), name);
     snprintf(it.name, sizeof it.name, "%s [%03zo,%03zo]", name, file.uic / 256, file.uic % 256);
     it.blocks = file.length;
     return it;
@@ -131,7 +131,8 @@ static void print_sign(FILE *out, const owner *it, size_t x, size_t y, size_t bl
 {
     (void)blocks, (void)which;
     if (it->sign[0])
-        fprintf(out, "<text x=\"%zu\" y=\"%zu\" fill=\"%s\">%s</text>\n", x + CELL / 2, y + CELL - 4, it->ink, it->sign);
+        fprintf(out, "<text x=\"%zu\" y=\"%zu\" fill=\"%s\">%s</text>\n", x + CELL / 2, y + CELL - 4, it->ink,
+                it->sign);
 }
 
 /* The block behind those of one owner that begin here, in one row. */
@@ -212,8 +213,9 @@ static void print_heading(FILE *out, const pack_map *map)
 
     fprintf(out, "<text x=\"%d\" y=\"34\" font-size=\"20\" font-weight=\"bold\">", LEFT);
     print_text(out, slash ? slash + 1 : map->pack.path);
-    fprintf(out, "</text>\n<text x=\"%d\" y=\"54\" font-size=\"13\">%zu blocks, %zu free; %zu files with blocks</text>\n",
-            LEFT, map->blocks.count, blocks_count(&map->blocks, ABZ_FREE), map->files);
+    fprintf(out, "</text>\n<text x=\"%d\" y=\"54\" font-size=\"13\">", LEFT);
+    fprintf(out, "%zu blocks, %zu free; %zu file%s with blocks</text>\n", map->blocks.count,
+            blocks_count(&map->blocks, ABZ_FREE), map->files, map->files == 1 ? "" : "s");
 }
 
 /* ---- The picture ---- */
@@ -223,8 +225,8 @@ static void print_picture(FILE *out, const pack_map *map)
     const size_t width = LEFT + ROW_BLOCKS * CELL + RIGHT, height = item_y(map, lines(map) - 1) + LINE + RIGHT;
 
     fprintf(out, "<svg xmlns=\"http://www.w3.org/2000/svg\" width=\"%zu\" height=\"%zu\" viewBox=\"0 0 %zu %zu\" "
-                 "font-family=\"DejaVu Sans, Verdana, Arial, sans-serif\">\n<title>Map of a pack</title>\n", width, height,
-            width, height);
+                 "font-family=\"DejaVu Sans, Verdana, Arial, sans-serif\">\n<title>Map of a pack</title>\n",
+            width, height, width, height);
     fprintf(out, "<rect width=\"%zu\" height=\"%zu\" fill=\"#ffffff\"/>\n", width, height);
     print_heading(out, map);
     print_numbers(out, map);

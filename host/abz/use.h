@@ -1,6 +1,6 @@
 /*
- * How many bytes of a file are in use: those up to the last that is not NUL. For this a file is read as by its owner, who
- * may always do so. It is not known of a file that is open for output, or as often as can be.
+ * How many bytes of a file are in use: those up to the last that is not NUL. For this a file is read as by its owner,
+ * who may always do so. It is not known of a file that is open for output, or as often as can be.
  */
 #ifndef USE_H
 #define USE_H
