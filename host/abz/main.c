@@ -66,10 +66,10 @@ static const command commands[] = {
       "have 100 in their protect code; lists them first, as list does, and\n"
       "how many they are. With --dry-run it only lists them." },
     { "close", "[--all] PACK CALLER FILE [MODE]", 3, 4, command_close,
-      "take an open of a file away that a program left, whoever opened it:\n"
-      "the one of MODE, of input one reader. MODE may be missing where the\n"
-      "file is open in one way only. With --all every open of MODE goes, or\n"
-      "every open where MODE is missing." },
+      "take an open away from a file, whoever made it: a program may have\n"
+      "left it behind. MODE says which; of input one reader goes. It may be\n"
+      "missing where the file is open in one way only. With --all every open\n"
+      "of MODE goes, or every open where MODE is missing." },
     { "put", "PACK CALLER FILE HOSTFILE [PROTECT]", 4, 5, command_put,
       "make a linked file with the bytes of HOSTFILE. It has 510 bytes in\n"
       "each block; the last is filled up with NUL." },
