@@ -1,20 +1,38 @@
 /* What an image says of itself, read from its words. */
 #include "contents.h"
 
-#include "abezolit.h"
-
-/* The word of block 0, and the words of an entry. */
-enum { CONTENTS = 2 };
-enum { NAME1, NAME2, EXTENSION, UIC, PROTECT, KIND, FIRST, LENGTH };
+/* The words of block 0, and those of an entry. */
+enum { FORM, BLOCKS, CONTENTS, UICS, FIRST_UIC };
+enum { NAME1, NAME2, EXTENSION, UIC, PROTECT, KIND, FIRST, LENGTH, LAST, WRITER, READERS };
 
 size_t word_at(const uint8_t *bytes)
 {
     return bytes[0] + (size_t)256 * bytes[1];
 }
 
+size_t contents_form(const uint8_t *image)
+{
+    return word_at(image + 2 * FORM);
+}
+
+size_t contents_blocks(const uint8_t *image)
+{
+    return word_at(image + 2 * CONTENTS);
+}
+
+size_t contents_uics(const uint8_t *image)
+{
+    return word_at(image + 2 * UICS);
+}
+
+size_t contents_uic(const uint8_t *image, size_t number)
+{
+    return word_at(image + 2 * (FIRST_UIC + number));
+}
+
 size_t contents_entries(const uint8_t *image)
 {
-    return ABZ_BLOCK_ENTRIES * word_at(image + 2 * CONTENTS);
+    return ABZ_BLOCK_ENTRIES * contents_blocks(image);
 }
 
 bool contents_read(const uint8_t *image, size_t number, contents_entry *entry)
@@ -28,5 +46,23 @@ bool contents_read(const uint8_t *image, size_t number, contents_entry *entry)
     entry->protect = word_at(start + 2 * PROTECT);
     entry->kind = word_at(start + 2 * KIND);
     entry->length = word_at(start + 2 * LENGTH);
+    entry->writer = word_at(start + 2 * WRITER);
+    entry->readers = word_at(start + 2 * READERS);
     return entry->name1 != 0; /* in a consistent pack every file's is: it has a legal name */
+}
+
+bool contents_find(const uint8_t *image, file_name file, contents_entry *entry)
+{
+    for (size_t number = 0; number < contents_entries(image); number++)
+        if (contents_read(image, number, entry) && entry->name1 == file.name1 && entry->name2 == file.name2
+            && entry->extension == file.extension && entry->uic == file.uic)
+            return true;
+    return false;
+}
+
+file_name contents_name(const contents_entry *entry)
+{
+    const file_name file = { FOUR(*entry) };
+
+    return file;
 }

@@ -4,6 +4,7 @@
 #include "abezolit.h"
 #include "contents.h"
 #include "names.h"
+#include "options.h"
 #include "packfile.h"
 #include "show.h"
 #include "tell.h"
@@ -20,24 +21,19 @@ static void show_gone(size_t number)
     contents_entry file, left;
 
     for (size_t entry = 0; entry < contents_entries(before); entry++)
-        if (contents_read(before, entry, &file) && !contents_read(pack.image, entry, &left))
+        if (contents_read(before, entry, &file) && !contents_read(pack.image, entry, &left)) {
             show_file(&file);
-    printf("files ");
-    show_count(number);
-    putchar('\n');
+            putchar('\n');
+        }
+    show_files(number);
 }
 
 int command_finish(char **arguments)
 {
-    const bool dry = arguments[2] != NULL;
+    const bool dry = option("--dry-run");
     size_t caller;
     abz_answer answer;
 
-    if (dry && strcmp(arguments[0], "--dry-run") != 0) {
-        complain("'%s': nothing but --dry-run comes before PACK", arguments[0]);
-        return STATUS_USAGE;
-    }
-    arguments += dry;
     if (!read_uic(arguments[1], &caller))
         return STATUS_USAGE;
     if (!(dry ? pack_read(&pack, arguments[0]) : pack_take(&pack, arguments[0])))

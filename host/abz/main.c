@@ -1,13 +1,14 @@
 /*
  * abz: the files of a pack, at the command line; and an example of a host of the service. How a host calls it is shown
- * in requests.c, finish.c, transfer.c, text.c, reports.c, report.c and reading.c, and how it replaces a file in
+ * in requests.c, closing.c, finish.c, bodies.c, text.c, blocks.c, report.c and reading.c, and how it replaces a file in
  * replace.c; the rest is what a program with files and arguments needs.
  */
 #include "commands.h"
 #include "files.h"
+#include "help.h"
 #include "lock.h"
 #include "names.h"
-#include "show.h"
+#include "options.h"
 #include "tell.h"
 
 #include <limits.h>
@@ -15,31 +16,41 @@
 #include <stdio.h>
 #include <string.h>
 
-typedef struct {
-    const char *name;
-    const char *arguments; /* in brackets what may be left out */
-    int least, most;       /* how many arguments it takes */
-    int (*run)(char **arguments);
-    const char *does; /* lines of the help */
-} command;
+static int command_help(char **arguments);
 
+/* A form stands behind its command. */
 static const command commands[] = {
-    { "format", "PACK BLOCKS CONTENTS [UIC]...", 3, INT_MAX, command_format,
+    { "format", "[--force] PACK BLOCKS CONTENTS [UIC]...", 3, INT_MAX, command_format,
       "make an empty pack in the file PACK, also if there is one already:\n"
-      "then all that it held is gone. BLOCKS is 16 to 1024, of 512 bytes\n"
-      "each. CONTENTS, 1 to 8, is how many of them list the files, 16 in\n"
-      "each. Only the UICs given here can own files." },
-    { "list", "PACK", 1, 1, command_list,
+      "then all that it held is gone. A file that is no pack is overwritten\n"
+      "only with --force. BLOCKS is 16 to 1024, of 512 bytes each. CONTENTS,\n"
+      "1 to 8, is how many of them list the files, 16 in each. Only the UICs\n"
+      "given here can own files." },
+    { "list", "[--opens] [--use] PACK", 1, 1, command_list,
       "how many blocks there are and are free; then each file: its name,\n"
-      "C contiguous or L linked, its blocks, owner and protect code" },
+      "C contiguous or L linked, its blocks, owner and protect code. With\n"
+      "--opens only files that are open, with their writer and how many\n"
+      "readers they have; with --use also how many bytes of a file are in\n"
+      "use, which are those up to the last that is not NUL." },
     { "owners", "PACK", 1, 1, command_owners,
       "whose each block is: the pack's own, free, or a file's, and then at\n"
       "which places in the file, from 0" },
+    { "info", "PACK", 1, 1, command_info,
+      "the pack's measures, what is free, and its UICs in the order of their\n"
+      "list: how many files each owns, and blocks in them" },
+    { "map", "[--svg HOSTFILE] [--force] PACK", 1, 1, command_map,
+      "a picture of the pack, a sign for each block, 64 in a row: # the\n"
+      "pack's own, . free, else a file's by the list below it. Of more than\n"
+      "62 files there are several pictures, and each shows the others' blocks\n"
+      "as +. It has colours on a terminal, unless NO_COLOR is set. With --svg\n"
+      "it is an SVG picture in HOSTFILE, for a report; --force overwrites one\n"
+      "that is there." },
     { "report", "PACK", 1, 1, command_report,
       "whether the pack is consistent, and if not the first that is wrong\n"
       "with it: which rule, where, and in words" },
     { "look", "PACK CALLER FILE", 3, 3, command_look,
-      "all that the pack says of a file" },
+      "all that the pack says of a file, and how many of its bytes are in\n"
+      "use, which are those up to the last that is not NUL" },
     { "alloc", "PACK CALLER FILE SEGMENTS [PROTECT]", 4, 5, command_alloc,
       "make a contiguous file, of a block for every 4 SEGMENTS; prints its\n"
       "first block. Its bytes are all 0." },
@@ -53,54 +64,64 @@ static const command commands[] = {
       "the SECOND is then gone" },
     { "keep", "PACK CALLER FILE", 3, 3, command_keep,
       "set 200 in a file's protect code: Finish does not delete it" },
-    { "finish", "[--dry-run] PACK CALLER", 2, 3, command_finish,
+    { "finish", "[--dry-run] PACK CALLER", 2, 2, command_finish,
       "delete the caller's files, but for those that are kept or open, or\n"
       "have 100 in their protect code; lists them first, as list does, and\n"
       "how many they are. With --dry-run it only lists them." },
+    { "close", "[--all] PACK CALLER FILE [MODE]", 3, 4, command_close,
+      "take an open away from a file, whoever made it: a program may have\n"
+      "left it behind. MODE says which; of input one reader goes. It may be\n"
+      "missing where the file is open in one way only. With --all every open\n"
+      "of MODE goes, or every open where MODE is missing." },
     { "put", "PACK CALLER FILE HOSTFILE [PROTECT]", 4, 5, command_put,
       "make a linked file with the bytes of HOSTFILE. It has 510 bytes in\n"
       "each block; the last is filled up with NUL." },
-    { "get", "PACK CALLER FILE HOSTFILE", 4, 4, command_get,
-      "write the bytes of a linked file to HOSTFILE, also if there is one\n"
-      "already; NULs that filled it up are among them" },
+    { "put --all", "[--protect PROTECT] PACK CALLER HOSTFILE...", 3, INT_MAX, command_put_all,
+      "the same for each HOSTFILE, under its own name in capitals, without\n"
+      "its directories: all of them, or none. Lists them, as list --use does,\n"
+      "and how many they are." },
+    { "get", "[--trim] [--force] PACK CALLER FILE HOSTFILE", 4, 4, command_get,
+      "write the bytes of a linked file to HOSTFILE; NULs that filled it up\n"
+      "are among them. With --trim the NULs at the end are left away. --force\n"
+      "overwrites a HOSTFILE that is there and is not empty." },
+    { "get --all", "[--trim] [--force] PACK CALLER PATTERN... DIRECTORY", 4, INT_MAX, command_get_all,
+      "the same for each file that a PATTERN stands for, linked or\n"
+      "contiguous, under its own name in DIRECTORY. Lists them, as list --use\n"
+      "does, and how many they are. If one cannot be read, or is there\n"
+      "already without --force, none is written; then they are written one\n"
+      "after another." },
+    { "load", "PACK CALLER FILE HOSTFILE", 4, 4, command_load,
+      "make the bytes of HOSTFILE those of a contiguous file, with NUL behind\n"
+      "them. A file that is there keeps its size and protect code, and must\n"
+      "be large enough; else one is made that is just large enough." },
+    { "dump", "[--trim] [--force] PACK CALLER FILE HOSTFILE", 4, 4, command_dump,
+      "write the bytes of a contiguous file to HOSTFILE, with --trim without\n"
+      "the NULs at the end. --force overwrites a HOSTFILE that is there and\n"
+      "is not empty." },
     { "type", "PACK CALLER FILE", 3, 3, command_type,
       "write the lines of a linked file to standard output: its text with\n"
       "no NUL and no RUBOUT, and in 7 bits" },
-    { "enter", "[--append] PACK CALLER FILE [PROTECT]", 3, 4, command_enter,
-      "make a linked file of the lines on standard input. With --append, and\n"
-      "then without PROTECT, they go to the end of a file that is there. They\n"
-      "are ASCII without NUL and RUBOUT; the last gets a LINE FEED unless it\n"
-      "ends with that, a VERTICAL TAB or a FORM FEED." },
+    { "enter", "PACK CALLER FILE [PROTECT]", 3, 4, command_enter,
+      "make a linked file of the lines on standard input. They are ASCII\n"
+      "without NUL and RUBOUT; the last gets a LINE FEED unless it ends with\n"
+      "that, a VERTICAL TAB or a FORM FEED." },
+    { "enter --append", "PACK CALLER FILE", 3, 3, command_enter_append,
+      "put such lines at the end of a linked file that is there" },
     { "read", "LINE", 1, 1, command_read,
       "how a command line is understood, or where it goes wrong, or which of\n"
       "its numbers are over their bounds. Put LINE into quotes, for the shell\n"
       "has a use of its own for <." },
+    { "help", "[COMMAND]", 0, 1, command_help,
+      "this; or what a command does and takes, as COMMAND --help. Options\n"
+      "stand before PACK, and -- ends them." },
 };
 
 enum { COMMANDS = sizeof commands / sizeof *commands };
 
 static const char rest_of_help[] =
-    "Arguments:\n"
-    "  PACK      a regular file of this computer, with a pack in it\n"
-    "  CALLER    for whom it is done: a UIC, whose rights then count\n"
-    "  UIC       group and user, each octal and at most 377: 23,10 or [23,10]\n"
-    "  FILE, OLD, NEW, FIRST, SECOND\n"
-    "            a file of the pack: FREQ.DAT is the caller's, 'FREQ.DAT[23,10]' that\n"
-    "            of another UIC. A name is 1 to 6 capitals and digits, an extension\n"
-    "            up to 3 of them; it may be missing, with its period or without.\n"
-    "  PROTECT   three octal digits, at most 377. The last is for everyone, the one\n"
-    "            before it for the owner's group: with 0 they may read, write and\n"
-    "            delete, with 1 read and write, with 2 or 3 read, else nothing. The\n"
-    "            first is a sum: 1 leaves the owner himself only reading, 2 keeps\n"
-    "            the file at Finish. If left out, a new file gets 033, and a renamed\n"
-    "            one has what it had.\n"
-    "  HOSTFILE  a file of this computer; - is standard input or standard output. get\n"
-    "            makes or replaces a regular file; into /dev/stdout and /dev/fd/N,\n"
-    "            which somebody else opened, it writes.\n"
-    "  SECONDS   how long a command that changes PACK waits while another program has\n"
-    "            it locked; 0 is not at all. Without --wait it waits till it is free.\n"
-    "            After 2 seconds it says who has it.\n"
-    "BLOCKS, CONTENTS, SEGMENTS and SECONDS are decimal.\n"
+    "Numbers: UICs, protect codes, units and the codes of refusals are octal, as the\n"
+    "handbook writes them: [023,010], 033, 001, refused 40. All others are decimal,\n"
+    "and have five digits or stand beside their word: 00013, line 3, 1013 bytes.\n"
     "\n"
     "A file that is replaced keeps its owner, group, permissions, ACL and other\n"
     "attributes, or it is not replaced. Only if its group stays, and has the rights\n"
@@ -119,41 +140,46 @@ static const char rest_of_help[] =
     "  abz put station.pack 23,10 FREQ.DAT readings.txt\n"
     "  abz list station.pack\n";
 
-/* Text of several lines, each of them indented. */
-static void show_indented(const char *lines)
+static int command_help(char **arguments)
 {
-    size_t length;
-
-    for (; *lines; lines += length + (lines[length] == '\n')) {
-        length = strcspn(lines, "\n");
-        printf("      %.*s\n", (int)length, lines);
-    }
+    return arguments[0] ? show_help_of(commands, COMMANDS, arguments[0])
+                        : show_help(commands, COMMANDS, rest_of_help);
 }
 
-static int show_help(void)
+/* The row for these words: that of the form whose option comes first, else the command's own. NULL if there is none. */
+static const command *row_of(char **words)
 {
-    printf("usage: abz [--wait SECONDS] COMMAND ARGUMENT...\n\nCommands:\n");
-    for (size_t i = 0; i < COMMANDS; i++) {
-        printf("  %s %s\n", commands[i].name, commands[i].arguments);
-        show_indented(commands[i].does);
-    }
-    printf("\n%s", rest_of_help);
-    return show_end() ? STATUS_DONE : STATUS_FAILED;
+    const command *found = NULL;
+
+    for (size_t i = 0; i < COMMANDS; i++)
+        if (is_of_command(&commands[i], words[0])) {
+            const char *option = strchr(commands[i].name, ' ');
+            if (option == NULL || (words[1] && strcmp(option + 1, words[1]) == 0))
+                found = &commands[i];
+        }
+    return found;
 }
 
-/* PACK is the first argument that is no option, in every command that takes one. */
-static bool has_pack(const command *it, char **arguments)
+/* PACK is the first argument of every command that takes one. */
+static bool has_pack(const command *row, char **arguments)
 {
-    while (*arguments && strncmp(*arguments, "--", 2) == 0)
-        arguments++;
-    return strstr(it->arguments, "PACK") == NULL || *arguments == NULL || read_path("PACK", *arguments);
+    return strstr(row->synopsis, "PACK") == NULL || read_path("PACK", arguments[0]);
 }
 
-static int run(const command *it, int count, char **arguments)
+static int run(const command *row, char **words)
 {
-    if (count >= it->least && count <= it->most)
-        return has_pack(it, arguments) ? it->run(arguments) : STATUS_USAGE;
-    fprintf(stderr, "usage: abz %s %s\n", it->name, it->arguments);
+    char **arguments = words + (strchr(row->name, ' ') ? 2 : 1);
+    int count = 0;
+
+    if (!options_take(row->name, row->synopsis, &arguments))
+        return STATUS_USAGE;
+    if (option("--help"))
+        return show_help_of(commands, COMMANDS, words[0]);
+    while (arguments[count])
+        count++;
+    if (count >= row->least && count <= row->most)
+        return has_pack(row, arguments) ? row->run(arguments) : STATUS_USAGE;
+    fprintf(stderr, "usage: abz %s %s\n", row->name, row->synopsis);
     return STATUS_USAGE;
 }
 
@@ -165,6 +191,7 @@ static int show_usage(void)
 
 int main(int count, char **words)
 {
+    const command *row;
     size_t seconds;
 
     guard_standard_files();
@@ -179,11 +206,11 @@ int main(int count, char **words)
     }
     if (count < 2)
         return show_usage();
-    if (strcmp(words[1], "--help") == 0)
-        return show_help();
-    for (size_t i = 0; i < COMMANDS; i++)
-        if (strcmp(words[1], commands[i].name) == 0)
-            return run(&commands[i], count - 2, words + 2);
+    if (strcmp(words[1], "--help") == 0 || strcmp(words[1], "-h") == 0)
+        return show_help(commands, COMMANDS, rest_of_help);
+    row = row_of(words + 1);
+    if (row)
+        return run(row, words + 1);
     complain("'%s' is no command; abz --help lists them", words[1]);
     return STATUS_USAGE;
 }

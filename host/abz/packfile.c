@@ -114,17 +114,35 @@ bool pack_is(const pack_file *pack, const char *path)
     return stat(pack->path, &ours) == 0 && stat(path, &other) == 0 && is_same_file(&ours, &other);
 }
 
-bool pack_begin(pack_file *pack, const char *path, size_t blocks)
+/* Whether what was read is nothing, or a pack. */
+static bool is_pack(const pack_file *pack)
+{
+    if (pack->length == 0 || abz_report(pack->image, pack->length).rule == ABZ_CONSISTENT)
+        return true;
+    complain("%s: is there already and is no pack; with --force it is overwritten", pack->path);
+    return false;
+}
+
+bool pack_begin(pack_file *pack, const char *path, size_t blocks, bool force)
 {
     struct stat there;
 
     pack->path = path;
+    if (stat(path, &there) == 0 && !(pack_take(pack, path) && (force || is_pack(pack))))
+        return false;
     pack->length = ABZ_BLOCK_BYTES * blocks;
     memset(pack->image, 0, pack->length);
-    return stat(path, &there) != 0 || open_locked(path) >= 0;
+    return true;
 }
 
 bool pack_write(const pack_file *pack)
 {
     return replace_file(pack->path, pack->image, pack->length);
+}
+
+int pack_end(const pack_file *pack, const char *command, size_t code)
+{
+    if (code != ABZ_OK)
+        return tell_refusal(command, code);
+    return pack_write(pack) ? STATUS_DONE : STATUS_FAILED;
 }

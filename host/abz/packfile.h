@@ -32,10 +32,16 @@ bool pack_take(pack_file *pack, const char *path);
 /* Whether a name leads to the file that the pack is in. It says nothing. */
 bool pack_is(const pack_file *pack, const char *path);
 
-/* For formatting: so many blocks of 0, ABZ_BLOCKS_MOST at most. If there is a file already, no other abz changes it. */
-bool pack_begin(pack_file *pack, const char *path, size_t blocks);
+/*
+ * For formatting: so many blocks of 0, ABZ_BLOCKS_MOST at most. If there is a file already, no other abz changes it. It
+ * must be empty or, as the service finds, a consistent pack: anything else goes only by force.
+ */
+bool pack_begin(pack_file *pack, const char *path, size_t blocks, bool force);
 
 /* Puts the image into the file. If this returns false, the file is as it was. */
 bool pack_write(const pack_file *pack);
+
+/* The end of a command that changes the pack, by the code of its requests: a refusal is told, else it is written. */
+int pack_end(const pack_file *pack, const char *command, size_t code);
 
 #endif

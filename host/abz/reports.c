@@ -1,61 +1,50 @@
 /* Commands that report on a whole pack: its files, and whose each of its blocks is. */
 #include "commands.h"
 
-#include "abezolit.h"
+#include "blocks.h"
 #include "contents.h"
+#include "modes.h"
+#include "options.h"
 #include "packfile.h"
 #include "show.h"
 #include "tell.h"
+#include "use.h"
 
 #include <stdio.h>
 
 static pack_file pack;
-static abz_owner_answer owners[ABZ_BLOCKS_MOST];
-static size_t blocks;
-
-/*
- * Asks whose each block is, from 0 on until there is none. The first answer also says whether the image is consistent;
- * so after ABZ_OK its contents may be read.
- */
-static size_t ask_owners(void)
-{
-    abz_owner_answer answer;
-
-    for (blocks = 0; blocks < ABZ_BLOCKS_MOST; blocks++) {
-        answer = abz_owner(pack.image, pack.length, blocks);
-        if (answer.code == ABZ_NO_BLOCK)
-            break;
-        if (answer.code != ABZ_OK)
-            return answer.code;
-        owners[blocks] = answer;
-    }
-    return ABZ_OK;
-}
+static pack_blocks blocks;
 
 /* ---- The listing: that of the listing program, but of packs of any size ---- */
 
-static size_t count_free(void)
+static void show_opens(const contents_entry *file)
 {
-    size_t count = 0;
+    printf(" writer %s readers ", mode_word(file->writer));
+    show_count(file->readers);
+}
 
-    for (size_t block = 0; block < blocks; block++)
-        if (owners[block].kind == ABZ_FREE)
-            count++;
-    return count;
+static void show_line(const contents_entry *file)
+{
+    if (option("--opens") && file->writer == 0 && file->readers == 0)
+        return;
+    show_file(file);
+    if (option("--opens"))
+        show_opens(file);
+    if (option("--use")) {
+        printf(" used ");
+        show_use(&pack, contents_name(file), file->kind);
+    }
+    putchar('\n');
 }
 
 static void show_listing(void)
 {
     contents_entry file;
 
-    printf("BLOCKS ");
-    show_count(blocks);
-    printf(" FREE ");
-    show_count(count_free());
-    putchar('\n');
+    show_totals(blocks.count, blocks_count(&blocks, ABZ_FREE));
     for (size_t entry = 0; entry < contents_entries(pack.image); entry++)
         if (contents_read(pack.image, entry, &file))
-            show_file(&file);
+            show_line(&file);
 }
 
 int command_list(char **arguments)
@@ -64,7 +53,7 @@ int command_list(char **arguments)
 
     if (!pack_read(&pack, arguments[0]))
         return STATUS_FAILED;
-    code = ask_owners();
+    code = blocks_ask(&blocks, &pack);
     if (code != ABZ_OK) {
         printf("REFUSED %zo\n", code); /* as the listing program has it; the words go to standard error */
         return tell_refusal("list", code);
@@ -78,9 +67,8 @@ int command_list(char **arguments)
 /* Whether the block behind is of the same owner, with a place that is so much further. */
 static bool goes_on(size_t block, size_t step)
 {
-    const abz_owner_answer *it = &owners[block], *next = it + 1;
-
-    return block + 1 < blocks && next->kind == it->kind && next->entry == it->entry && next->place == it->place + step;
+    return block + 1 < blocks.count && blocks_alike(&blocks, block, block + 1)
+           && blocks.owners[block + 1].place == blocks.owners[block].place + step;
 }
 
 /*
@@ -107,6 +95,7 @@ static void show_range(size_t first, size_t last)
 
 static void show_owner(size_t first, size_t last)
 {
+    const abz_owner_answer *owners = blocks.owners;
     contents_entry file;
 
     if (owners[first].kind != ABZ_HELD) {
@@ -127,10 +116,10 @@ int command_owners(char **arguments)
 
     if (!pack_read(&pack, arguments[0]))
         return STATUS_FAILED;
-    code = ask_owners();
+    code = blocks_ask(&blocks, &pack);
     if (code != ABZ_OK)
         return tell_refusal("owners", code);
-    for (size_t first = 0; first < blocks; first = last + 1) {
+    for (size_t first = 0; first < blocks.count; first = last + 1) {
         last = last_of_run(first);
         show_range(first, last);
         putchar(' ');

@@ -6,23 +6,18 @@
 
 #include "abezolit.h"
 #include "contents.h"
+#include "modes.h"
 #include "names.h"
+#include "options.h"
 #include "packfile.h"
 #include "show.h"
 #include "tell.h"
+#include "use.h"
 
 #include <stdio.h>
 #include <string.h>
 
 static pack_file pack;
-
-/* The end of a request that changes the pack. */
-static int end_request(const char *command, size_t code)
-{
-    if (code != ABZ_OK)
-        return tell_refusal(command, code);
-    return pack_write(&pack) ? STATUS_DONE : STATUS_FAILED;
-}
 
 /* ---- Packs ---- */
 
@@ -66,9 +61,9 @@ int command_format(char **arguments)
         || !read_decimal("CONTENTS", arguments[2], ABZ_CONTENTS_LEAST, ABZ_CONTENTS_MOST, &contents)
         || !read_uics(arguments + 3, uics, &length))
         return STATUS_USAGE;
-    if (!pack_begin(&pack, arguments[0], blocks))
+    if (!pack_begin(&pack, arguments[0], blocks, option("--force")))
         return STATUS_FAILED;
-    return end_request("format", abz_format(pack.image, pack.length, ABZ_FORM, blocks, contents, uics, length));
+    return pack_end(&pack, "format", abz_format(pack.image, pack.length, ABZ_FORM, blocks, contents, uics, length));
 }
 
 /* ---- Files ---- */
@@ -76,7 +71,6 @@ int command_format(char **arguments)
 static void show_look(const abz_look_answer *answer)
 {
     static const char *const kinds[] = { "", "contiguous", "linked" };
-    static const char *const writers[] = { "none", "update", "output", "extension" };
 
     printf("kind     %s\nfirst    ", kinds[answer->kind]);
     show_count(answer->first);
@@ -84,10 +78,10 @@ static void show_look(const abz_look_answer *answer)
     show_count(answer->length);
     printf("\nprotect  ");
     show_octal(answer->protect);
-    printf("\nwriter   %s\nreaders  ", writers[answer->writer]);
+    printf("\nwriter   %s\nreaders  ", mode_word(answer->writer));
     show_count(answer->readers);
-    putchar('\n');
 }
+
 
 int command_look(char **arguments)
 {
@@ -103,6 +97,11 @@ int command_look(char **arguments)
     if (answer.code != ABZ_OK)
         return tell_refusal("look", answer.code);
     show_look(&answer);
+    printf("\nused     ");
+    if (file.uic == 0)
+        file.uic = caller;
+    show_use(&pack, file, answer.kind);
+    putchar('\n');
     return show_end() ? STATUS_DONE : STATUS_FAILED;
 }
 
@@ -125,7 +124,7 @@ int command_alloc(char **arguments)
         if (!show_end()) /* before the pack is written: where abz fails, the pack is to be as it was */
             return STATUS_FAILED;
     }
-    return end_request("alloc", answer.code);
+    return pack_end(&pack, "alloc", answer.code);
 }
 
 /* Requests that take a file and nothing else. */
@@ -141,7 +140,7 @@ static int request_on_file(const char *command, file_request *request, char **ar
         return STATUS_USAGE;
     if (!pack_take(&pack, arguments[0]))
         return STATUS_FAILED;
-    return end_request(command, request(pack.image, pack.length, caller, FOUR(file)));
+    return pack_end(&pack, command, request(pack.image, pack.length, caller, FOUR(file)));
 }
 
 int command_delete(char **arguments)
@@ -176,7 +175,7 @@ int command_rename(char **arguments)
         return STATUS_FAILED;
     if (arguments[4] == NULL)
         protect = present_protect(caller, old);
-    return end_request("rename", abz_renam(pack.image, pack.length, caller, FOUR(old), new.name1, new.name2,
+    return pack_end(&pack, "rename", abz_renam(pack.image, pack.length, caller, FOUR(old), new.name1, new.name2,
                                            new.extension, protect));
 }
 
@@ -200,7 +199,7 @@ int command_append(char **arguments)
     }
     if (!pack_take(&pack, arguments[0]))
         return STATUS_FAILED;
-    return end_request("append", abz_appnd(pack.image, pack.length, caller, FOUR(first), FOUR(second)));
+    return pack_end(&pack, "append", abz_appnd(pack.image, pack.length, caller, FOUR(first), FOUR(second)));
 }
 
 int command_keep(char **arguments)

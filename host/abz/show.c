@@ -73,6 +73,35 @@ void show_word(size_t name1, size_t name2)
     show_characters(name, count);
 }
 
+/* Copies characters up to the first blank; what is behind them. */
+static char *copy_word(char *text, const uint8_t *characters, size_t count)
+{
+    for (size_t i = 0; i < count && characters[i] != ' '; i++)
+        *text++ = (char)characters[i];
+    return text;
+}
+
+void name_text(file_name file, char text[NAME_TEXT])
+{
+    uint8_t name[NAME_CHARACTERS], behind[] = { '?', '?', '?' };
+
+    name_characters(file.name1, file.name2, name);
+    abz_radup(file.extension, behind, WORD_CHARACTERS);
+    text = copy_word(text, name, NAME_CHARACTERS);
+    if (behind[0] != ' ')
+        *text++ = '.';
+    *copy_word(text, behind, WORD_CHARACTERS) = '\0';
+}
+
+void show_totals(size_t blocks, size_t free)
+{
+    printf("BLOCKS ");
+    show_count(blocks);
+    printf(" FREE ");
+    show_count(free);
+    putchar('\n');
+}
+
 void show_file(const contents_entry *file)
 {
     show_name(file->name1, file->name2, file->extension);
@@ -82,6 +111,12 @@ void show_file(const contents_entry *file)
     show_uic(file->uic);
     putchar(' ');
     show_octal(file->protect);
+}
+
+void show_files(size_t number)
+{
+    printf("files ");
+    show_count(number);
     putchar('\n');
 }
 

@@ -25,6 +25,7 @@ typedef struct {
 static const cause causes[] = {
     { ABZ_INCONSISTENT, NULL, "the file is not a consistent pack; abz report tells what is wrong with it" },
     { ABZ_NAME, NULL, "a name is 1 to 6 of A-Z and 0-9, an extension 0 to 3 of them" },
+    { ABZ_ARGUMENT, "load", "HOSTFILE is empty, and a contiguous file has at least a block" },
     { ABZ_ARGUMENT, NULL, "an argument is not one that the request takes" },
     { ABZ_NO_USER, NULL, "the owner is not in the pack's list of UICs" },
     { ABZ_EXISTENCE, "alloc", "there is such a file already" },
@@ -33,6 +34,8 @@ static const cause causes[] = {
     { ABZ_EXISTENCE, "rename", "there is no such file under this UIC, or there is one of the new name already" },
     { ABZ_EXISTENCE, "append", "there is no such file under its UIC, the first or the second" },
     { ABZ_EXISTENCE, "get", "there is no such file under this UIC, or it is still open for output" },
+    { ABZ_EXISTENCE, "dump", "there is no such file under this UIC, or it is still open for output" },
+    { ABZ_EXISTENCE, "load", "the file is still open for output" },
     { ABZ_EXISTENCE, "type", "there is no such file under this UIC, or it is still open for output" },
     { ABZ_EXISTENCE, "enter --append", "there is no such file under this UIC, or it is still open for output" },
     { ABZ_EXISTENCE, NULL, "there is no such file under this UIC" },
@@ -44,22 +47,29 @@ static const cause causes[] = {
     { ABZ_RIGHT, "append", "the caller may not write to the first file, or may not delete the second" },
     { ABZ_RIGHT, "keep", "only its owner may keep a file" },
     { ABZ_RIGHT, "get", "the caller may not read this file" },
+    { ABZ_RIGHT, "dump", "the caller may not read this file" },
+    { ABZ_RIGHT, "load", "the caller may not write to this file; a new one is created by its owner only" },
     { ABZ_RIGHT, "type", "the caller may not read this file" },
     { ABZ_RIGHT, "enter --append", "the caller may not write to this file" },
     { ABZ_RIGHT, NULL, "the caller lacks the right" },
     { ABZ_NOT_LINKED, NULL, "a contiguous file cannot be opened for extension" },
     { ABZ_KIND, "append", "only a linked file can be appended, and only to a linked one" },
     { ABZ_KIND, "get", "the file is contiguous, and only linked ones are read so" },
+    { ABZ_KIND, "dump", "the file is linked, and only contiguous ones are dumped; get writes linked ones" },
+    { ABZ_KIND, "load", "the file is linked, and only contiguous ones are loaded; put makes linked ones" },
     { ABZ_KIND, "type", "the file is contiguous, and only linked ones are read so" },
     { ABZ_KIND, NULL, "the file is of the other kind, contiguous or linked" },
     { ABZ_WRITER, NULL, "the file has a writer already" },
     { ABZ_OPEN, "append", "one of the files is open" },
     { ABZ_OPEN, NULL, "the file is open" },
+    { ABZ_NOT_OPEN, "close", "the file is not open, or not in this way" },
     { ABZ_NOT_OPEN, NULL, "the file is not open as the request needs it" },
+    { ABZ_NO_BLOCK, "load", "HOSTFILE is longer than the file, which keeps its size" },
     { ABZ_NO_BLOCK, NULL, "there is no such block" },
     { ABZ_OPENS, NULL, "the file is open 62 times already" },
     { ABZ_NO_ENTRY, NULL, "the pack's contents have no empty entry" },
     { ABZ_NO_ROOM, "alloc", "nowhere on the pack are so many blocks free in a row" },
+    { ABZ_NO_ROOM, "load", "nowhere on the pack are so many blocks free in a row" },
     { ABZ_NO_ROOM, NULL, "the pack has too few free blocks" },
     { ABZ_GRAMMAR, NULL, "this is no command: the mark is where it goes wrong or stops too soon" },
     { ABZ_NO_SPECIFICATION, NULL, "the line has no such side or specification" },
@@ -106,5 +116,11 @@ bool complain_of(const char *file)
 int tell_refusal(const char *command, size_t code)
 {
     complain("%s: refused %zo: %s", command, code, words_of(command, code));
+    return STATUS_FAILED;
+}
+
+int tell_refusal_of(const char *command, const char *file, size_t code)
+{
+    complain("%s: %s: refused %zo: %s", command, file, code, words_of(command, code));
     return STATUS_FAILED;
 }

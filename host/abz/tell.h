@@ -23,4 +23,7 @@ bool complain_of(const char *file);
 /* Says why the service refused what a command of abz asked of it. Returns STATUS_FAILED. */
 int tell_refusal(const char *command, size_t code);
 
+/* The same of a command on several files, which it was refused for. */
+int tell_refusal_of(const char *command, const char *file, size_t code);
+
 #endif

@@ -74,7 +74,7 @@ static const char *fault_of(uint8_t byte)
         return "a NUL";
     if (byte == 0177)
         return "a RUBOUT";
-    return byte > 0177 ? "a byte above 177" : NULL;
+    return byte > 0177 ? "a byte above 177 octal" : NULL;
 }
 
 /* Lines are counted as the technician's editor counts them, by LINE FEED alone. */
@@ -132,21 +132,26 @@ static size_t enter_at_end(size_t caller, file_name file)
     return code == ABZ_OK ? write_and_close(caller, file, ABZ_EXTEND) : code;
 }
 
-/* Either --append or a protect code makes four arguments of three: a file that is there keeps its code. */
 int command_enter(char **arguments)
 {
-    bool append = arguments[3] != NULL && strcmp(arguments[0], "--append") == 0;
-    size_t caller, code, protect = PROTECT_USUAL;
+    size_t caller, protect = PROTECT_USUAL;
     file_name file;
 
-    if (append)
-        arguments++;
     if (!read_uic(arguments[1], &caller) || !read_name(arguments[2], &file) || !read_protect(arguments[3], &protect))
         return STATUS_USAGE;
     if (!read_text() || !pack_take(&pack, arguments[0])) /* in this order: nobody waits for what is typed */
         return STATUS_FAILED;
-    code = append ? enter_at_end(caller, file) : enter(caller, file, protect);
-    if (code != ABZ_OK)
-        return tell_refusal(append ? "enter --append" : "enter", code);
-    return pack_write(&pack) ? STATUS_DONE : STATUS_FAILED;
+    return pack_end(&pack, "enter", enter(caller, file, protect));
+}
+
+int command_enter_append(char **arguments)
+{
+    size_t caller;
+    file_name file;
+
+    if (!read_uic(arguments[1], &caller) || !read_name(arguments[2], &file))
+        return STATUS_USAGE;
+    if (!read_text() || !pack_take(&pack, arguments[0]))
+        return STATUS_FAILED;
+    return pack_end(&pack, "enter --append", enter_at_end(caller, file));
 }

@@ -1,0 +1,117 @@
+/* The bytes of a file as a whole: put, loaded and read, block after block. */
+#include "bodies.h"
+
+#include <string.h>
+
+/* ---- Into the pack ---- */
+
+/* Takes a block of bytes from the front of those that are left; where they end, NUL fills it up. */
+static void take_block(uint8_t *block, size_t size, const uint8_t **bytes, size_t *left)
+{
+    const size_t count = *left < size ? *left : size;
+
+    memcpy(block, *bytes, count);
+    memset(block + count, 0, size - count);
+    *bytes += count;
+    *left -= count;
+}
+
+static size_t add_all(pack_file *pack, size_t caller, file_name file, const uint8_t *bytes, size_t left)
+{
+    uint8_t payload[ABZ_PAYLOAD_BYTES];
+    size_t code = ABZ_OK;
+
+    while (left > 0 && code == ABZ_OK) {
+        take_block(payload, sizeof payload, &bytes, &left);
+        code = abz_linked_add(pack->image, pack->length, caller, FOUR(file), payload, sizeof payload).code;
+    }
+    return code;
+}
+
+size_t body_put(pack_file *pack, size_t caller, file_name file, size_t protect, const uint8_t *bytes, size_t length)
+{
+    size_t code = abz_openo(pack->image, pack->length, caller, FOUR(file), protect);
+
+    if (code == ABZ_OK)
+        code = add_all(pack, caller, file, bytes, length);
+    if (code == ABZ_OK)
+        code = abz_close(pack->image, pack->length, caller, FOUR(file), ABZ_OUTPUT);
+    return code;
+}
+
+/* The places from 0 on, until the service says that the file has no more; there must be one for every byte. */
+static size_t write_all(pack_file *pack, size_t caller, file_name file, const uint8_t *bytes, size_t left)
+{
+    uint8_t block[ABZ_BLOCK_BYTES];
+    size_t code = ABZ_OK;
+    bool needed = true;
+
+    for (size_t place = 0; code == ABZ_OK; place++) {
+        needed = left > 0;
+        take_block(block, sizeof block, &bytes, &left);
+        code = abz_block_out(pack->image, pack->length, caller, FOUR(file), place, block, sizeof block);
+    }
+    return code == ABZ_NO_BLOCK && !needed ? ABZ_OK : code;
+}
+
+size_t body_load(pack_file *pack, size_t caller, file_name file, const uint8_t *bytes, size_t length)
+{
+    const size_t segment = ABZ_BLOCK_BYTES / ABZ_BLOCK_SEGMENTS, segments = (length + segment - 1) / segment;
+    size_t code = abz_look(pack->image, pack->length, caller, FOUR(file)).code;
+
+    if (code == ABZ_EXISTENCE)
+        code = abz_alloc(pack->image, pack->length, caller, FOUR(file), PROTECT_USUAL, segments).code;
+    if (code == ABZ_OK)
+        code = abz_openu(pack->image, pack->length, caller, FOUR(file));
+    if (code == ABZ_OK)
+        code = write_all(pack, caller, file, bytes, length);
+    if (code == ABZ_OK)
+        code = abz_close(pack->image, pack->length, caller, FOUR(file), ABZ_UPDATE);
+    return code;
+}
+
+/* ---- Out of the pack ---- */
+
+/* How a block of each kind of file is read. The requests take and give the same, but for how many bytes it has. */
+static const struct {
+    size_t (*read)(const uint8_t *image, size_t image_len, size_t caller,
+                   size_t name1, size_t name2, size_t extension, size_t uic,
+                   size_t place, uint8_t *buffer, size_t buffer_len);
+    size_t size;
+} kinds[] = {
+    [ABZ_CONTIGUOUS] = { abz_block_in, ABZ_BLOCK_BYTES },
+    [ABZ_LINKED] = { abz_linked_read, ABZ_PAYLOAD_BYTES },
+};
+
+/* The places from 0 on, until the service says that the file has no more. */
+static size_t read_all(pack_file *pack, size_t caller, file_name file, size_t kind, uint8_t *bytes, size_t *length)
+{
+    const size_t size = kinds[kind].size;
+    size_t code = ABZ_OK;
+
+    *length = 0;
+    for (size_t place = 0; code == ABZ_OK; place++) {
+        code = kinds[kind].read(pack->image, pack->length, caller, FOUR(file), place, bytes + *length, size);
+        if (code == ABZ_OK)
+            *length += size;
+    }
+    return code == ABZ_NO_BLOCK ? ABZ_OK : code;
+}
+
+size_t body_read(pack_file *pack, size_t caller, file_name file, size_t kind, uint8_t *bytes, size_t *length)
+{
+    size_t code = abz_openi(pack->image, pack->length, caller, FOUR(file));
+
+    if (code == ABZ_OK)
+        code = read_all(pack, caller, file, kind, bytes, length);
+    if (code == ABZ_OK)
+        code = abz_close(pack->image, pack->length, caller, FOUR(file), ABZ_INPUT);
+    return code;
+}
+
+size_t trimmed(const uint8_t *bytes, size_t length)
+{
+    while (length > 0 && bytes[length - 1] == 0)
+        length--;
+    return length;
+}

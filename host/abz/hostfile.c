@@ -1,0 +1,63 @@
+/* Files of the host: read, and written unless something would be lost. */
+#define _POSIX_C_SOURCE 200809L
+#include "hostfile.h"
+
+#include "files.h"
+#include "replace.h"
+#include "tell.h"
+
+#include <fcntl.h>
+#include <string.h>
+#include <sys/stat.h>
+#include <unistd.h>
+
+static bool is_standard(const char *host)
+{
+    return strcmp(host, "-") == 0;
+}
+
+bool host_read(const char *host, uint8_t *bytes, size_t room, size_t *length)
+{
+    const int given = descriptor_of(host, STDIN_FILENO), descriptor = given >= 0 ? given : open(host, O_RDONLY);
+    bool right;
+
+    if (descriptor < 0)
+        return complain_of(host);
+    right = read_bytes(descriptor, is_standard(host) ? "standard input" : host, bytes, room, length);
+    if (given < 0)
+        close(descriptor);
+    return right;
+}
+
+/* Who mixes up the two names must not lose the pack. */
+static bool is_pack(const char *host, const pack_file *pack)
+{
+    const bool it_is = !is_standard(host) && pack_is(pack, host);
+
+    if (it_is)
+        complain("%s: is the pack itself", host);
+    return it_is;
+}
+
+bool host_may_write(const char *host, const pack_file *pack, bool force)
+{
+    struct stat there;
+
+    if (is_pack(host, pack))
+        return false;
+    /* An empty file has nothing to lose, and mktemp makes such; what is no regular file is not replaced anyway. */
+    if (!force && stat(host, &there) == 0 && S_ISREG(there.st_mode) && there.st_size > 0) {
+        complain("%s: is there already; with --force it is overwritten", host);
+        return false;
+    }
+    return true;
+}
+
+bool host_write(const char *host, const pack_file *pack, bool force, const uint8_t *bytes, size_t length)
+{
+    const int given = descriptor_of(host, STDOUT_FILENO);
+
+    if (given < 0)
+        return host_may_write(host, pack, force) && replace_file(host, bytes, length);
+    return !is_pack(host, pack) && write_bytes(given, is_standard(host) ? "standard output" : host, bytes, length);
+}
