@@ -1,4 +1,6 @@
-// The check of a whole image: its header, then each entry with its blocks taken on a map, then that files differ.
+// The check of a whole image: its header, then each entry, with its blocks taken on a map and its file unlike those before it.
+mod differing;
+
 ghost use mathlib.Core.Path.{_≡_};
 ghost use mathlib.Core.Bool.{true, _&&_};
 ghost use Prim.Native.Nat.{ℕ, _+_, _<_, _≤_};
@@ -12,7 +14,7 @@ ghost use Rattle.pack.specs.Entry.{entryWord, entryOf, blocksAt};
 ghost use Rattle.pack.specs.Consistent.{held};
 ghost use Rattle.consistency.specs.Walk.{mark, blocksFrom, walkOf, ended, systemSet, SystemTaken};
 ghost use Rattle.consistency.specs.EntryTest.{keyTest, kindTest, opensTest, fieldsTest, bodyTest, restTest, entryTest};
-ghost use Rattle.consistency.specs.DifferTest.{sameTest, remainders, keyRemainder, apartTest, newTest, differTest, Marked};
+ghost use Rattle.consistency.specs.DifferTest.{remainders, newTest, differTest, Marked};
 ghost use Rattle.consistency.specs.ConsistentTest.{scanTest, markAll, UsedEnd, consistent, openedOf};
 use pack::BlockNo;
 use pack::Entry;
@@ -207,62 +209,6 @@ fn is_file_right(img: &[u8], map: &mut [u8], g: Geometry, e: usize) -> bool
     is_body_right(img, map, g, pack::read_entry(img, g, e))
 }
 
-fn is_same_file(img: &[u8], g: Geometry, e: usize, f: usize) -> bool
-    requires { ⌜ Sized (now img) g ⌝ }
-    requires { ⌜ (e < slots g) × (f < slots g) ⌝ }
-    ensures { λ r. ⌜ r ≡ sameTest (now (img .entry)) g e f ⌝ }
-{
-    pack::is_same_key(pack::read_key(img, g, e), pack::read_key(img, g, f))
-}
-
-// Does the file of entry e differ from all before it?
-fn is_new(img: &[u8], g: Geometry, e: usize) -> bool
-    requires { ⌜ Sized (now img) g ⌝ }
-    requires { ⌜ e < slots g ⌝ }
-    ensures { λ r. ⌜ r ≡ apartTest (now (img .entry)) g e 0 e ⌝ }
-{
-    let mut f = 0;
-    while f < e {
-        if is_same_file(img, g, e, f) {
-            return false;
-        }
-        f += 1;
-    }
-    true
-}
-
-// So many numbers stand for name, extension and UIC that of 128 files few have one that another has.
-const REMAINDERS: usize = 1024;
-
-// The same for the same name, extension and UIC, and of other files seldom the same.
-fn key_remainder(img: &[u8], g: Geometry, e: usize) -> usize
-    requires { ⌜ Sized (now img) g ⌝ }
-    requires { ⌜ e < slots g ⌝ }
-    ensures { λ r. ⌜ r ≡ keyRemainder (now (img .entry)) g e ⌝ }
-    ensures { λ r. ⌜ r < remainders ⌝ }
-{
-    let name = pack::entry_word(img, g, e, 0) + pack::entry_word(img, g, e, 1);
-    let rest = pack::entry_word(img, g, e, 2) + pack::entry_word(img, g, e, 3);
-    (name + rest) % REMAINDERS
-}
-
-// The numbers of the files before this one are marked: only where its own is among them can one of them be the same.
-fn does_differ(img: &[u8], marks: &mut [u8], g: Geometry, e: usize) -> bool
-    requires { ⌜ Sized (now img) g ⌝ }
-    requires { ⌜ (e < slots g) × (entryWord (now img) g e 0 ≡ 0 → ⊥) × Marked (now img) g (now marks) e ⌝ }
-    ensures { λ r. ⌜ r ≡ newTest (now (img .entry)) g e ⌝ }
-    ensures { λ r. ⌜ (r ≡ true → Marked (now (img .entry)) g (now (marks .exit)) (e + 1)) ⌝ }
-{
-    let at = key_remainder(img, g, e);
-    if marks[at] != 0 {
-        if !is_new(img, g, e) {
-            return false;
-        }
-    }
-    marks[at] = 1;
-    true
-}
-
 fn is_entry_right(img: &[u8], map: &mut [u8], marks: &mut [u8], g: Geometry, e: usize) -> bool
     requires { ⌜ Sized (now img) g ⌝ }
     requires { ⌜ RightHeader (now img) × (e < slots g) ⌝ }
@@ -277,7 +223,7 @@ fn is_entry_right(img: &[u8], map: &mut [u8], marks: &mut [u8], g: Geometry, e: 
     if !is_file_right(img, map, g, e) {
         return false;
     }
-    does_differ(img, marks, g, e)
+    differing::does_differ(img, marks, g, e)
 }
 
 // Behind the entries that are to be looked at one by one: the first empty one, if nothing but zeros follows, else the end.
@@ -328,7 +274,7 @@ pub fn open_pack(img: &[u8], map: &mut [u8]) -> Opened
         return Opened::Bad;
     };
     set_system(map, g, 1);
-    let mut marks = [0u8; REMAINDERS];
+    let mut marks = [0u8; differing::REMAINDERS];
     if !are_entries_right(img, map, &mut marks, g) {
         return Opened::Bad;
     }

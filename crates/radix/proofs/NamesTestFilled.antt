@@ -6,17 +6,17 @@ use native.Mathlib.Omega.{arith}
 use native.Mathlib.Decide.{ℕ-discrete}
 use lib.Bits.{bitAnd}
 use lib.Dec.{eqb}
-use Rattle.answers.proofs.RefusalsTests.{and-left, and-right, and-both, true-not-false}
-use Rattle.radix.specs.Characters.{table, characterOf}
+use Rattle.answers.proofs.RefusalsTests.{and-left, and-right, true-not-false}
+use Rattle.radix.specs.Characters.{characterOf}
 use Rattle.radix.specs.Packing.{firstCode, secondCode, thirdCode}
 use Rattle.radix.specs.NamesTest.{isLetterOrDigitIn, filled, legalName, legalExtension}
 use Rattle.radix.proofs.NamesTest.{zero-not-in-name, extension-test, three-named, name-long}
 
 -- bit `code` of a number
-abbrev bit : ℕ → ℕ → Bool
+abbrev pub bit : ℕ → ℕ → Bool
 bit number code = eqb (bitAnd (number / 2 ^ code) 1) 1
 
-abbrev alike : Bool → Bool → Bool
+abbrev pub alike : Bool → Bool → Bool
 alike a b = cond a b (not b)
 
 alike-same : (a b : Bool) → alike a b ≡ true → a ≡ b
@@ -25,24 +25,17 @@ alike-same false true is = is
 alike-same false false is = refl
 
 -- the bits of a number below `many` are those of the codes of letters and digits
-abbrev bitsAre : ℕ → ℕ → Bool
+abbrev pub bitsAre : ℕ → ℕ → Bool
 bitsAre number zero = true
 bitsAre number (suc many) = alike (bit number many) (isLetterOrDigitIn (characterOf many)) && bitsAre number many
 
-bit-at : (number many code : ℕ) → bitsAre number many ≡ true → code < many → bit number code ≡ isLetterOrDigitIn (characterOf code)
+pub bit-at : (number many code : ℕ) → bitsAre number many ≡ true → code < many → bit number code ≡ isLetterOrDigitIn (characterOf code)
 bit-at number zero code are low = absurd (omega arith)
 bit-at number (suc many) code are low =
     elim (ℕ-discrete many code) [
       | yes is ↦ subst (λ (n : ℕ). bit number n ≡ isLetterOrDigitIn (characterOf n)) is (alike-same _ _ (and-left _ (bitsAre number many) are))
       | no other ↦ bit-at number many code (and-right (alike (bit number many) (isLetterOrDigitIn (characterOf many))) _ are) (omega (arith, other))
     ]
-
-pub named-bit : (code : ℕ) → code < 64 → bit 0xffc7fffffe code ≡ isLetterOrDigitIn (characterOf code)
-unfolding characterOf table
-named-bit code low = bit-at 0xffc7fffffe 64 code computed low
-  where
-    computed : bitsAre 0xffc7fffffe 64 ≡ true
-    computed = refl
 
 -- a word, by which of its codes are those of letters or digits
 module _ (w : ℕ) {a b c : ℕ} (first : a ≡ firstCode w) (second : b ≡ secondCode w) (third : c ≡ thirdCode w) where

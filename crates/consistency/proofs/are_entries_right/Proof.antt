@@ -1,6 +1,6 @@
 -- Rests on `ConsistentTestScan`: the entries that are left decide for all, on the map that those before them left, and mark what all mark.
 use borrow.Author.Needs.{needs}
-use Prim.Native.Nat.{_-_, _≤_, _<_}
+use Prim.Native.Nat.{_-_, _<_}
 use native.Mathlib.Omega.{arith}
 use mathlib.Core.Path.{_≡_, refl, sym, _∙_}
 use borrow.Author.Tests.{not-true, not-false}

@@ -2,7 +2,7 @@
 use borrow.Author.Needs.{needs}
 use Prim.Native.Nat.{_-_, _≤_}
 use native.Mathlib.Omega.{arith}
-use mathlib.Core.Path.{_≡_, sym, _∙_}
+use mathlib.Core.Path.{sym, _∙_}
 use Rattle.consistency.proofs.EntryTestWhole.{entries-whole, used-stretch, used-all}
 use Rattle.consistency.proofs.used_end.Statement.{statement}
 use Rattle.consistency.proofs.used_end.Tie as tie

@@ -1,6 +1,5 @@
 -- Rests on `NamesTestFilled`: a word by which of its three codes are those of letters or digits.
 use borrow.Author.Needs.{needs}
-use native.Mathlib.Omega.{arith}
 use mathlib.Core.Path.{refl, sym, _∙_}
 use borrow.Author.Tests.{not-true, not-false}
 use Rattle.radix.proofs.NamesTestFilled.{filled-first, filled-second, filled-third}

@@ -1,8 +1,8 @@
 -- Rests on `KeySame`: the test of the two keys that were read is the test of the two entries.
 use borrow.Author.Needs.{needs}
 use Rattle.pack.proofs.KeySame.{same-read}
-use Rattle.consistency.proofs.is_same_file.Statement.{statement}
-use Rattle.consistency.proofs.is_same_file.Tie as tie
+use Rattle.consistency.proofs.differing.is_same_file.Statement.{statement}
+use Rattle.consistency.proofs.differing.is_same_file.Tie as tie
 
 read-key-requires : tie.Need-read-key-requires
 read-key-requires c κs = search needs

@@ -2,8 +2,8 @@
 use borrow.Author.Needs.{needs}
 use native.Mathlib.Omega.{arith}
 use Rattle.consistency.proofs.DifferTest.{remainder-of}
-use Rattle.consistency.proofs.key_remainder.Statement.{statement}
-use Rattle.consistency.proofs.key_remainder.Tie as tie
+use Rattle.consistency.proofs.differing.key_remainder.Statement.{statement}
+use Rattle.consistency.proofs.differing.key_remainder.Tie as tie
 
 entry-word-requires : tie.Need-entry-word-requires
 entry-word-requires c κs = search needs

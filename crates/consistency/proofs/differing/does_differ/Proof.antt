@@ -5,8 +5,8 @@ use mathlib.Core.Logic.{⊎-elim}
 use borrow.Author.Tests.{not-true, not-false}
 use Rattle.answers.proofs.RefusalsTests.{true-not-false}
 use Rattle.consistency.proofs.DifferTest.{new-used, unmarked-new, marked-more}
-use Rattle.consistency.proofs.does_differ.Statement.{statement}
-use Rattle.consistency.proofs.does_differ.Tie as tie
+use Rattle.consistency.proofs.differing.does_differ.Statement.{statement}
+use Rattle.consistency.proofs.differing.does_differ.Tie as tie
 
 key-remainder-requires : tie.Need-key-remainder-requires
 key-remainder-requires c κs = search needs

@@ -1,12 +1,11 @@
 -- Rests on `DifferTest`: an entry that differs from this one leaves it to those that are left.
 use borrow.Author.Needs.{needs}
 use Prim.Native.Nat.{_-_}
-use native.Mathlib.Omega.{arith}
-use mathlib.Core.Path.{_≡_, refl, sym, ap, _∙_}
+use mathlib.Core.Path.{_≡_, sym, _∙_}
 use Rattle.consistency.specs.DifferTest.{apartTest}
 use Rattle.consistency.proofs.DifferTest.{apart-start, apart-step, apart-not, apart-end}
-use Rattle.consistency.proofs.is_new.Statement.{statement}
-use Rattle.consistency.proofs.is_new.Tie as tie
+use Rattle.consistency.proofs.differing.is_new.Statement.{statement}
+use Rattle.consistency.proofs.differing.is_new.Tie as tie
 
 abbrev Inv-loop : tie.InvT-loop
 Inv-loop img g e f₀ f = apartTest img g e 0 e ≡ apartTest img g e f (e - f)
