@@ -95,10 +95,10 @@ fn lay_characters(
     at
 }
 
-// So many characters are copied at once: the compiler does that in a few steps, where it is a number.
+// So many characters are copied at once: a fixed number, for which the compiler needs no loop. It is 32 in the laws.
 const STRIDE: usize = 32;
 
-// Are these a stride of characters that nothing is put after, and is there room for more than they are?
+// May the part be copied as it stands? It is a whole stride, nothing is put after any of its characters, and it leaves room in the buffer.
 fn may_copy(part: &[u8], room: usize) -> bool
     ensures { λ r. ⌜ (r ≡ true → (length (now (part .entry)) < room) × (putAll (now (part .entry)) ≡ now (part .entry))) ⌝ }
 {
