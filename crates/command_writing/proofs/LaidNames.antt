@@ -1,13 +1,13 @@
 -- What is laid of codes, words and octal numbers, and that the words of a name show the name.
 use Prim.Native.Nat.{ℕ, _+_, _/_, _%_, _≤_, _<_}
-use mathlib.Core.Path.{_≡_, refl, sym, _∙_}
+use mathlib.Core.Path.{_≡_, refl, sym, ap, _∙_}
 use mathlib.Core.Bool.{true, false}
-use mathlib.Core.List.{List, [], _∷_, _++_}
+use mathlib.Core.List.{List, [], _∷_, _++_, append-nil}
 use mathlib.Core.Option.{Option, none, some}
 use native.Mathlib.Omega.{arith}
 use borrow.Author.Tests.{eq-eqb, ne-eqb, lt-ltb, le-ltb}
 use lib.ListN.{length, take, drop, length-append, length-replicate, length-take, length-drop, take-append-drop}
-use Rattle.radix.specs.Characters.{characterOf}
+use Rattle.radix.specs.Characters.{characterOf, table}
 use Rattle.radix.specs.Packing.{firstCode, secondCode, thirdCode, charactersOf, threeIf}
 use Rattle.radix.specs.Names.{isLetterOrDigit, blankFilled}
 use Rattle.radix.proofs.Packing.{word-pair}
@@ -18,7 +18,7 @@ use Rattle.command_cursor.specs.FilledWord.{filledWord, firstWord, secondWord}
 use Rattle.command_cursor.proofs.FilledWord.{filled-word, all-take, all-drop}
 use Rattle.command_writing.specs.WrittenLine.{octalDigits, writtenUnit}
 use Rattle.command_writing.specs.LaidText.{Puts, shown, shownWord, shownName}
-use Rattle.command_writing.proofs.LaidPieces.{puts-both}
+use Rattle.command_writing.proofs.LaidPieces.{puts-both, puts-same}
 
 -- codes
 pub shown-none : {o : Option ℕ} → o ≡ none → [] ≡ shown o
@@ -46,6 +46,17 @@ pub name-laid : {before between after : List ℕ} {count middle next : ℕ} (fir
     → Puts between middle after next (shownWord second) → Puts before count after next (shownName first second)
 unfolding shownName
 name-laid first second p q = puts-both p q
+
+-- or its first, where the second is blank
+blanks-shown : shownWord 0 ≡ []
+unfolding shownWord characterOf table
+blanks-shown = refl
+
+pub name-alone : {before after : List ℕ} {count next : ℕ} (first second : ℕ) → second ≡ 0 → Puts before count after next (shownWord first)
+    → Puts before count after next (shownName first second)
+unfolding shownName
+name-alone first second is word =
+    puts-same (sym (append-nil (shownWord first)) ∙ ap (λ (s : List ℕ). shownWord first ++ s) (sym (ap shownWord is ∙ blanks-shown))) word
 
 -- octal digits
 module _ {before after : List ℕ} {count next : ℕ} {number : ℕ} where

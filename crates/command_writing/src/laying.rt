@@ -48,11 +48,14 @@ pub fn put_word(line: &mut [u8], count: usize, word: usize) -> usize
     put_code(line, second, codes.third())
 }
 
-// The characters of two words.
+// The characters of two words; a second of blanks, as a short name has it, is not taken apart.
 pub fn put_name(line: &mut [u8], count: usize, first: usize, second: usize) -> usize
     ensures { λ r. ⌜ Puts (now (line .entry)) count (now (line .exit)) r (shownName first second) ⌝ }
 {
     let next = put_word(line, count, first);
+    if second == Radix50::BLANK {
+        return next;
+    }
     put_word(line, next, second)
 }
 

@@ -6,8 +6,8 @@ use mathlib.Core.List.{List, [], _∷_, _++_, append-assoc}
 use native.Mathlib.Numerals.{add-one}
 use native.Mathlib.Omega.{arith}
 use lib.Dec.{eqb}
-use lib.ListN.{length, take, drop, getD, length-append, List·getD-eq-default}
-use lib.Seq.{drop-cons, take-length, length-take-le, getD-take}
+use lib.ListN.{length, take, drop, getD, length-append, take-append-drop, List·getD-eq-default}
+use lib.Seq.{drop-cons, drop-drop, take-length, length-take-le, getD-take}
 use Rattle.lines.proofs.TextBytes.{through-most}
 use borrow.Author.Tests.{ne-eqb}
 use Rattle.lines.specs.declared.LineMode.{LineMode}
@@ -52,6 +52,35 @@ put-append (x ∷ text) more = rw (put-append text more) (sym (append-assoc (put
 pub put-next : (text : List ℕ) (i : ℕ) → i < length text → putAll (drop i text) ≡ putOf (getD text i 0) ++ putAll (drop (i + 1) text)
 unfolding putAll
 put-next text i inside = rw (add-one i, drop-cons text i 0)
+
+-- the characters up to another place
+pub put-part : (text : List ℕ) (i end : ℕ) → i ≤ end → putAll (drop i text) ≡ putAll (take (end - i) (drop i text)) ++ putAll (drop end text)
+put-part text i end from =
+    let on : i + (end - i) ≡ end = omega arith in
+    ap putAll (sym (take-append-drop (end - i) (drop i text)))
+    ∙ put-append (take (end - i) (drop i text)) (drop (end - i) (drop i text))
+    ∙ ap (λ (s : List ℕ). putAll (take (end - i) (drop i text)) ++ putAll s) (drop-drop (end - i) i text ∙ ap (λ (n : ℕ). drop n text) on)
+
+-- where as many bytes are put as there are characters, nothing is put after any
+put-short : (x : ℕ) → length (putOf x) ≡ 1 → putOf x ≡ x ∷ []
+put-short x short = by (eqb x 9) (eqb x 12) short
+  where
+    by : (tab feed : Bool) → length (cond tab (9 ∷ (127 ∷ [])) (cond feed (12 ∷ (0 ∷ [])) (x ∷ []))) ≡ 1
+        → cond tab (9 ∷ (127 ∷ [])) (cond feed (12 ∷ (0 ∷ [])) (x ∷ [])) ≡ x ∷ []
+    by true feed is = absurd (omega (arith, is))
+    by false true is = absurd (omega (arith, is))
+    by false false is = refl
+
+pub put-same : (text : List ℕ) → length (putAll text) ≡ length text → putAll text ≡ text
+unfolding putAll
+put-same [] same = refl
+put-same (x ∷ text) same =
+    let one = put-one x in
+    let rest = put-bounds text in
+    let both = length-append (putOf x) (putAll text) in
+    let short : length (putOf x) ≡ 1 = omega (arith, same) in
+    let others : length (putAll text) ≡ length text = omega (arith, same) in
+    rw (put-short x short, put-same text others)
 
 -- what is taken, by the first character
 pub taken-nothing : (mode : LineMode) → takenOf mode [] ≡ []

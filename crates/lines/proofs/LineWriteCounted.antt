@@ -6,13 +6,15 @@ use mathlib.Core.List.{List}
 use native.Mathlib.Nat.{zero-add, add-zero, div-eq-of-lt, div-lt-iff-lt-mul}
 use native.Mathlib.Numerals.{add-one}
 use native.Mathlib.Omega.{arith}
-use lib.ListN.{length, take, drop, getD, length-append, length-take, take-append-drop, drop-of-length-le}
-use lib.Seq.{drop-cons, drop-drop, length-take-le}
+use lib.Dec.{eqb}
+use lib.ListN.{length, take, drop, getD, length-append, length-take, drop-of-length-le}
+use lib.Seq.{drop-cons, length-take-le}
+use borrow.Author.Tests.{eqb-true}
 use Rattle.lines.specs.declared.LineMode.the-variants.{Normal, Special}
 use Rattle.lines.specs.TextBytes.{isTerminator, through}
 use Rattle.lines.specs.LineWrite.{putOf, putAll, takenOf}
 use Rattle.lines.proofs.TextBytes.{through-most}
-use Rattle.lines.proofs.LineWrite.{put-bounds, put-append, put-next}
+use Rattle.lines.proofs.LineWrite.{put-bounds, put-next, put-part, put-same}
 
 -- how many are taken; `special` is the code's test of the mode
 abbrev taken : Bool → List ℕ → ℕ
@@ -86,12 +88,8 @@ module _ {text : List ℕ} where
     module _ {end : ℕ} (from : i ≤ end) (inside : end ≤ length text) {put : ℕ} (part : put ≡ length (putAll (take (end - i) (drop i text)))) where
       part-put : length (putAll (drop i text)) ≡ put + length (putAll (drop end text))
       part-put =
-          let on : i + (end - i) ≡ end = omega arith in
-          let rest = drop (end - i) (drop i text) in
-          ap (λ (s : List ℕ). length (putAll s)) (sym (take-append-drop (end - i) (drop i text)))
-          ∙ ap length (put-append (take (end - i) (drop i text)) rest) ∙ length-append (putAll (take (end - i) (drop i text))) (putAll rest)
-          ∙ ap (λ (n : ℕ). n + length (putAll rest)) (sym part)
-          ∙ ap (λ (s : List ℕ). put + length (putAll s)) (drop-drop (end - i) i text ∙ ap (λ (n : ℕ). drop n text) on)
+          ap length (put-part text i end from) ∙ length-append (putAll (take (end - i) (drop i text))) (putAll (drop end text))
+          ∙ ap (λ (n : ℕ). n + length (putAll (drop end text))) (sym part)
 
       pub counting-much : puts + put ≤ 2 * length text
       counting-much = omega (arith, counting .comes, part-put, put-bounds text .1)
@@ -102,6 +100,11 @@ module _ {text : List ℕ} where
 -- a part has few characters
 pub part-few : (text : List ℕ) (i : ℕ) {end : ℕ} → end ≡ min (i + 96) (length text) → length (take (end - i) (drop i text)) ≤ 127
 part-few text i {end} is = omega (arith, length-take (end - i) (drop i text), is)
+
+-- a stride for which as many bytes were counted, by the code's test: it can be laid as it stands
+pub part-alone : {part : List ℕ} {puts room : ℕ} → length part ≡ 32 → 32 < room → puts ≡ length (putAll part) → eqb puts 32 ≡ true
+    → (length part < room) × (putAll part ≡ part)
+part-alone {part} {puts} long more counted is = (omega (arith, long), put-same part (sym counted ∙ eqb-true puts 32 is ∙ sym long))
 
 -- two bytes for each character would fill no block
 pub none-full : (size filled : ℕ) (text : List ℕ) {most : ℕ} → (filled < size → most ≡ (filled + 2 * length text) / size) → most ≡ 0

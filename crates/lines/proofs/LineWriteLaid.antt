@@ -5,15 +5,15 @@ use mathlib.Core.Bool.{Bool, true, false, cond}
 use mathlib.Core.List.{List, [], _∷_, _++_}
 use native.Mathlib.Omega.{arith}
 use lib.Dec.{eqb}
-use lib.ListN.{length, drop, getD, set, replicate, drop-of-length-le}
+use lib.ListN.{length, take, drop, getD, set, replicate, drop-of-length-le}
 use borrow.Author.Tests.{eqb-true}
 use Rattle.answers.proofs.RefusalsTests.{down}
 use Rattle.pack.specs.declared.Geometry.{Geometry}
 use Rattle.stream.specs.declared.Filling.{Filling}
-use Rattle.stream.specs.Filling.{Layable, LaidByte, Writable, Laying}
+use Rattle.stream.specs.Filling.{Layable, LaidByte, Writable, Laying, LaidWithin}
 use Rattle.stream.proofs.FillingLoop.{laying-start, laying-layable, laying-next, part-writable, part-next}
 use Rattle.lines.specs.LineWrite.{putOf, putAll}
-use Rattle.lines.proofs.LineWrite.{put-next}
+use Rattle.lines.proofs.LineWrite.{put-next, put-part}
 
 pub put-tab : (x : ℕ) → x ≡ 9 → putOf x ≡ x ∷ (127 ∷ [])
 put-tab x is = rw is
@@ -55,6 +55,12 @@ module _ (x : ℕ) {g : Geometry} {e : ℕ} {img map gather : List ℕ} {at : Fi
           → Laying g e img map gather at (putOf x) img″ map″ gather″ r′ []
       after-laid again two = laying-next (behind-left (y ∷ []) is) again two
 
+-- a part that is copied
+pub part-copied : {g : Geometry} {e : ℕ} {img map gather : List ℕ} {at : Filling} {part gather′ : List ℕ} {filled : ℕ} → putAll part ≡ part
+    → LaidWithin gather (at .filled) part gather′ filled []
+    → Laying g e img map gather at (putAll part) img map gather′ (record { filled = filled; from = at .from }) []
+part-copied {g} {e} {img} {map} {at} alone laid = rw alone (laid .laying g e img map (at .from))
+
 -- a text, by an index
 module _ (text : List ℕ) {g : Geometry} {e : ℕ} {img₀ map₀ gather₀ : List ℕ} {start : Filling} {img map gather : List ℕ} {at : Filling} {i : ℕ}
     (laying : Laying g e img₀ map₀ gather₀ start (putAll text) img map gather at (putAll (drop i text))) where
@@ -68,6 +74,18 @@ module _ (text : List ℕ) {g : Geometry} {e : ℕ} {img₀ map₀ gather₀ : L
     pub text-next : {img′ map′ gather′ : List ℕ} {r : Filling} → Laying g e img map gather at (putOf (getD text i 0)) img′ map′ gather′ r []
         → Laying g e img₀ map₀ gather₀ start (putAll text) img′ map′ gather′ r (putAll (drop (i + 1) text))
     text-next one = part-next (putOf (getD text i 0)) (putAll (drop (i + 1) text)) at-character one
+
+  -- and by two, where a part of it is laid
+  module _ (end : ℕ) (from : i ≤ end) where
+    at-part : Laying g e img₀ map₀ gather₀ start (putAll text) img map gather at (putAll (take (end - i) (drop i text)) ++ putAll (drop end text))
+    at-part = subst (Laying g e img₀ map₀ gather₀ start (putAll text) img map gather at) (put-part text i end from) laying
+
+    pub text-part-writable : Writable img₀ map₀ g e gather₀ start (putAll text) → Writable img map g e gather at (putAll (take (end - i) (drop i text)))
+    text-part-writable w = part-writable (putAll (take (end - i) (drop i text))) (putAll (drop end text)) at-part w
+
+    pub text-part-next : {img′ map′ gather′ : List ℕ} {r : Filling} → Laying g e img map gather at (putAll (take (end - i) (drop i text))) img′ map′ gather′ r []
+        → Laying g e img₀ map₀ gather₀ start (putAll text) img′ map′ gather′ r (putAll (drop end text))
+    text-part-next one = part-next (putAll (take (end - i) (drop i text))) (putAll (drop end text)) at-part one
 
   pub text-end : length text ≤ i → Laying g e img₀ map₀ gather₀ start (putAll text) img map gather at []
   unfolding putAll

@@ -38,7 +38,7 @@ fn put_length(character: u8) -> u8
 }
 
 // What is put for so few characters is counted in a byte: the compiler then counts sixteen characters at once.
-fn count_part(part: &[u8]) -> u8
+pub fn count_part(part: &[u8]) -> u8
     requires { ⌜ length (now part) ≤ 127 ⌝ }
     ensures { λ r. ⌜ r ≡ length (putAll (now (part .entry))) ⌝ }
 {
@@ -54,14 +54,15 @@ fn count_part(part: &[u8]) -> u8
 // A multiple of 32, so that no character of a whole part is counted alone.
 const PART: usize = 96;
 
-fn part_end(start: usize, end: usize) -> usize
+// The end of the part that starts here and has at most so many characters.
+pub fn part_end(start: usize, end: usize, most: usize) -> usize
     requires { ⌜ start < end ⌝ }
-    ensures { λ r. ⌜ r ≡ min (start + 96) end ⌝ }
+    ensures { λ r. ⌜ r ≡ min (start + most) end ⌝ }
 {
-    if end - start < PART {
+    if end - start < most {
         return end;
     }
-    start + PART
+    start + most
 }
 
 fn count_puts(text: &[u8]) -> usize
@@ -70,7 +71,7 @@ fn count_puts(text: &[u8]) -> usize
     let mut puts = 0;
     let mut i = 0;
     while i < text.len() {
-        let end = part_end(i, text.len());
+        let end = part_end(i, text.len(), PART);
         puts += count_part(&text[i..end]) as usize;
         i = end;
     }

@@ -72,7 +72,8 @@ fn lay_character(
     next
 }
 
-fn lay_text(
+// Character by character.
+fn lay_characters(
     img: &mut [u8],
     map: &mut [u8],
     g: Geometry,
@@ -90,6 +91,71 @@ fn lay_text(
     while i < text.len() {
         at = lay_character(img, map, g, e, gather, at, text[i]);
         i += 1;
+    }
+    at
+}
+
+// So many characters are copied at once: a fixed number, for which the compiler needs no loop. It is 32 in the laws.
+const STRIDE: usize = 32;
+
+// May the part be copied as it stands? It is a whole stride, nothing is put after any of its characters, and it leaves room in the buffer.
+fn may_copy(part: &[u8], room: usize) -> bool
+    ensures { λ r. ⌜ (r ≡ true → (length (now (part .entry)) < room) × (putAll (now (part .entry)) ≡ now (part .entry))) ⌝ }
+{
+    if part.len() != STRIDE {
+        return false;
+    }
+    if room <= STRIDE {
+        return false;
+    }
+    counting::count_part(part) as usize == STRIDE
+}
+
+fn lay_part(
+    img: &mut [u8],
+    map: &mut [u8],
+    g: Geometry,
+    e: usize,
+    gather: &mut [u8],
+    start: Filling,
+    part: &[u8],
+) -> Filling
+    requires { ⌜ Writable (now img) (now map) g e (now gather) start (putAll (now part)) ⌝ }
+    ensures { λ r. ⌜ Laying g e (now (img .entry)) (now (map .entry)) (now (gather .entry)) start (putAll (now (part .entry)))
+        (now (img .exit)) (now (map .exit)) (now (gather .exit)) r [] ⌝ }
+{
+    let filled = start.filled;
+    let from = start.from;
+    if may_copy(part, gather.len() - filled) {
+        stream::lay_within(gather, filled, part);
+        return Filling {
+            filled: filled + part.len(),
+            from,
+        };
+    }
+    lay_characters(img, map, g, e, gather, start, part)
+}
+
+// Part by part, so that most parts can be copied.
+fn lay_text(
+    img: &mut [u8],
+    map: &mut [u8],
+    g: Geometry,
+    e: usize,
+    gather: &mut [u8],
+    start: Filling,
+    text: &[u8],
+) -> Filling
+    requires { ⌜ Writable (now img) (now map) g e (now gather) start (putAll (now text)) ⌝ }
+    ensures { λ r. ⌜ Laying g e (now (img .entry)) (now (map .entry)) (now (gather .entry)) start (putAll (now (text .entry)))
+        (now (img .exit)) (now (map .exit)) (now (gather .exit)) r [] ⌝ }
+{
+    let mut at = start;
+    let mut i = 0;
+    while i < text.len() {
+        let end = counting::part_end(i, text.len(), STRIDE);
+        at = lay_part(img, map, g, e, gather, at, &text[i..end]);
+        i = end;
     }
     at
 }

@@ -6,14 +6,14 @@ use mathlib.Core.List.{List}
 use mathlib.Core.Option.{none, some}
 use native.Mathlib.Omega.{arith}
 use native.Mathlib.Decide.{ℕ-discrete, decLe, decLt}
-use lib.Dec.{eqb, leb}
+use lib.Dec.{eqb, leb, ltb}
 use lib.ListN.{getD}
 use borrow.Author.Tests.{eq-eqb, ne-eqb, lt-ltb, le-ltb, le-leb, lt-leb}
 use Rattle.pack.specs.declared.Geometry.{Geometry}
 use Rattle.pack.specs.Geometry.{geometryOf}
 use Rattle.answers.proofs.RefusalsTests.{and-both}
 use Rattle.room.specs.RoomTest.{isFreeBlock, areFree, runBelow, highestRun}
-use Rattle.room.specs.RoomMap.{Says, isFreeOn, isFreeBody, NoneFrom, areFreeOn, runOn, freeAfter, freeFrom}
+use Rattle.room.specs.RoomMap.{Says, isFreeOn, isFreeBody, HeldFrom, NoneFrom, areFreeOn, runOn, freeAfter, freeFrom}
 
 -- the count behind one block more
 pub after-free : (times free : ℕ) → times ≡ 0 → free + 1 ≡ freeAfter (eqb times 0) free
@@ -33,6 +33,28 @@ after-most false free = omega arith
 pub after-short : (is-free : Bool) (free next length : ℕ) → next ≡ freeAfter is-free free → free < length → (next ≡ length → ⊥) → next < length
 after-short is-free free next length counted short other = omega (arith, counted, after-most is-free free, other)
 
+-- blocks that are held: none yet, one more, and so many more in front
+pub held-none : {map : List ℕ} {from end : ℕ} → end ≡ from → HeldFrom map from end
+held-none is = record { within = omega arith; never = λ b low high. absurd (omega arith) }
+
+pub held-more : {map : List ℕ} {from end next : ℕ} → HeldFrom map from end → (getD map end 0 ≡ 0 → ⊥) → next ≡ end + 1 → HeldFrom map from next
+held-more {map} {from} {end} held here is-next = record {
+  within = omega (arith, held .within);
+  never = λ b low high. elim (ℕ-discrete b end) [
+    | yes is ↦ subst (λ (x : ℕ). getD map x 0 ≡ 0 → ⊥) (sym is) here
+    | no other ↦ held .never b low (omega (arith, other))
+  ];
+}
+
+pub held-front : {map : List ℕ} {from middle b end : ℕ} → HeldFrom map from middle → middle ≡ b → HeldFrom map b end → HeldFrom map from end
+held-front {map} {from} {middle} front is back = record {
+  within = omega (arith, front .within, back .within);
+  never = λ x low high. elim (decLt x middle) [
+    | yes below ↦ front .never x low below
+    | no not ↦ back .never x (omega (arith, not)) high
+  ];
+}
+
 module _ (map : List ℕ) where
   pub from-most : (b k : ℕ) → freeFrom map b k ≤ k
   unfolding freeFrom
@@ -47,9 +69,13 @@ module _ (map : List ℕ) where
   unfolding freeFrom
   from-step b end less = let left : end - b ≡ suc (end - (b + 1)) = omega arith in ap (freeFrom map b) left
 
-  -- at the end of the pack nothing is counted yet
-  pub from-start : (end : ℕ) → 0 ≡ freeFrom map end (end - end)
-  from-start end = let none-left : end - end ≡ 0 = omega arith in sym (from-none end (end - end) none-left)
+  -- where all behind are held nothing is counted yet
+  pub from-held : (b end : ℕ) → HeldFrom map b end → 0 ≡ freeFrom map b (end - b)
+  from-held b end held = by (decLt b end)
+    where
+      by : Dec (b < end) → 0 ≡ freeFrom map b (end - b)
+      by (yes less) = after-held (getD map b 0) _ (held .never b (omega arith) less) ∙ sym (from-step b end less)
+      by (no not) = let none-left : end - b ≡ 0 = omega (arith, not) in sym (from-none b (end - b) none-left)
 
   -- one block down
   pub from-down : (end b free next : ℕ) → 0 < b → b ≤ end → free ≡ freeFrom map b (end - b) → next ≡ freeAfter (isFreeOn map (b - 1)) free
@@ -65,9 +91,14 @@ module _ (map : List ℕ) where
     unfolding isFreeBody
     free-here b above below is = and-both (le-leb low b above) (and-both (lt-ltb b end below) (eq-eqb (getD map b 0) 0 is))
 
-    held-here : (b : ℕ) → low ≤ b → b < end → (getD map b 0 ≡ 0 → ⊥) → isFreeBody map low end b ≡ false
+    held-here : (b : ℕ) → (getD map b 0 ≡ 0 → ⊥) → isFreeBody map low end b ≡ false
     unfolding isFreeBody
-    held-here b above below never = rw (le-leb low b above, lt-ltb b end below, ne-eqb (getD map b 0) 0 never)
+    held-here b never = rw (ne-eqb (getD map b 0) 0 never) (by (leb low b) (ltb b end))
+      where
+        by : (above below : Bool) → (above && (below && false)) ≡ false
+        by true true = refl
+        by true false = refl
+        by false below = refl
 
     past-here : (b : ℕ) → low ≤ b → end ≤ b → isFreeBody map low end b ≡ false
     unfolding isFreeBody
@@ -96,7 +127,7 @@ module _ (map : List ℕ) where
             rw (free-here b above below is)
             (later ∙ (one-more k (freeFrom map (b + 1) (end - (b + 1))) ∙ ap (leb (suc k)) (after-free (getD map b 0) _ is ∙ sym (from-step b end below))))
         by (yes below) (no never) later =
-            rw (held-here b above below never)
+            rw (held-here b never)
             (sym (lt-leb (suc k) (freeFrom map b (end - b)) (omega (arith, from-step b end below, after-held (getD map b 0) (freeFrom map (b + 1) (end - (b + 1))) never))))
         by (no past) d later =
             let none-left : end - b ≡ 0 = omega (arith, past) in
@@ -120,26 +151,40 @@ module _ (map : List ℕ) where
           run-step b (omega arith)
           ∙ rw (free-counted length (b - 1) (omega arith) ∙ lt-leb length (freeFrom map (b - 1) (end - (b - 1))) (omega (arith, is, short)))
 
-      -- below the bodies nothing is free
-      not-before : (b : ℕ) → b < low → 0 < length → areFreeOn map low end b length ≡ false
+      -- a run is not free whose first block is not
+      first-not : (b : ℕ) → isFreeBody map low end b ≡ false → 0 < length → areFreeOn map low end b length ≡ false
       unfolding areFreeOn
-      not-before b below positive =
+      first-not b not positive =
           let one-at-least : length ≡ suc (length - 1) = omega arith in
-          ap (areFreeOn map low end b) one-at-least ∙ rw (before-here b below)
+          ap (areFreeOn map low end b) one-at-least ∙ rw not
 
       pub run-end : (b : ℕ) → b ≤ low → 0 < length → runOn map low end length b ≡ none
       unfolding runOn
       run-end zero below positive = refl
-      run-end (suc b) below positive = rw (not-before b (omega arith) positive) (run-end b (omega arith) positive)
+      run-end (suc b) below positive = rw (first-not b (before-here b (omega arith)) positive) (run-end b (omega arith) positive)
+
+      -- blocks that are held may be passed
+      pub run-held : {b from : ℕ} → HeldFrom map b from → 0 < length → runOn map low end length from ≡ runOn map low end length b
+      run-held {b} {from} held positive =
+          let all : b + (from - b) ≡ from = omega (arith, held .within) in
+          ap (runOn map low end length) (sym all) ∙ by (from - b) (omega (arith, held .within))
+        where
+          by : (k : ℕ) → b + k ≤ from → runOn map low end length (b + k) ≡ runOn map low end length b
+          by zero below = let here : b + 0 ≡ b = omega arith in ap (runOn map low end length) here
+          by (suc k) below =
+              let down : b + suc k - 1 ≡ b + k = omega arith in
+              let not : areFreeOn map low end (b + suc k - 1) length ≡ false =
+              first-not (b + suc k - 1) (held-here (b + suc k - 1) (held .never (b + suc k - 1) (omega arith) (omega arith))) positive in
+              run-step (b + suc k) (omega arith) ∙ rw not (ap (runOn map low end length) down) ∙ by k (omega arith)
 
     -- a run of one block: it starts here, or where the search below finds it
     pub one-here : (b : ℕ) → low < b → b ≤ end → getD map (b - 1) 0 ≡ 0 → runOn map low end 1 b ≡ some (b - 1)
     unfolding areFreeOn
     one-here b above below is = run-step 1 b (omega arith) ∙ rw (free-here (b - 1) (omega arith) (omega arith) is)
 
-    pub one-next : (b : ℕ) → low < b → b ≤ end → (getD map (b - 1) 0 ≡ 0 → ⊥) → runOn map low end 1 b ≡ runOn map low end 1 (b - 1)
+    pub one-next : (b : ℕ) → low < b → (getD map (b - 1) 0 ≡ 0 → ⊥) → runOn map low end 1 b ≡ runOn map low end 1 (b - 1)
     unfolding areFreeOn
-    one-next b above below never = run-step 1 b (omega arith) ∙ rw (held-here (b - 1) (omega arith) (omega arith) never)
+    one-next b above never = run-step 1 b (omega arith) ∙ rw (held-here (b - 1) never)
 
 -- where none is free from a block on, the search may begin there; none is behind the last block
 pub none-above : {map : List ℕ} {g : Geometry} → NoneFrom map g (g .blocks)
@@ -147,24 +192,7 @@ none-above = record { within = omega arith; never = λ b low high. absurd (omega
 
 pub one-from : {map : List ℕ} {g : Geometry} {from : ℕ} → NoneFrom map g from
     → runOn map (g .bodies .0) (g .blocks) 1 from ≡ runOn map (g .bodies .0) (g .blocks) 1 (g .blocks)
-one-from {map} {g} {from} none-free =
-    let all : from + (g .blocks - from) ≡ g .blocks = omega (arith, none-free .within) in
-    sym (by (g .blocks - from) (omega (arith, none-free .within))) ∙ ap (runOn map (g .bodies .0) (g .blocks) 1) all
-  where
-    by : (k : ℕ) → from + k ≤ g .blocks → runOn map (g .bodies .0) (g .blocks) 1 (from + k) ≡ runOn map (g .bodies .0) (g .blocks) 1 from
-    by zero below = let here : from + 0 ≡ from = omega arith in ap (runOn map (g .bodies .0) (g .blocks) 1) here
-    by (suc k) below = at (decLt (g .bodies .0) (from + suc k)) (by k (omega arith))
-      where
-        at : Dec (g .bodies .0 < from + suc k) → runOn map (g .bodies .0) (g .blocks) 1 (from + k) ≡ runOn map (g .bodies .0) (g .blocks) 1 from
-            → runOn map (g .bodies .0) (g .blocks) 1 (from + suc k) ≡ runOn map (g .bodies .0) (g .blocks) 1 from
-        at (yes above) lower =
-            let down : from + suc k - 1 ≡ from + k = omega arith in
-            one-next map (g .bodies .0) (g .blocks) (from + suc k) above below (rw down (none-free .never (from + k) (omega arith) (omega arith)))
-            ∙ ap (runOn map (g .bodies .0) (g .blocks) 1) down
-            ∙ lower
-        at (no low) lower =
-            run-end map (g .bodies .0) (g .blocks) 1 (from + suc k) (omega (arith, low)) (omega arith)
-            ∙ sym (run-end map (g .bodies .0) (g .blocks) 1 from (omega (arith, low)) (omega arith))
+one-from {map} {g} none-free = sym (run-held map (g .bodies .0) (g .blocks) 1 (record { within = none-free .within; never = none-free .never }) (omega arith))
 
 -- a map that says how often each block is held
 module _ (img map : List ℕ) (says : Says map img) where

@@ -34,6 +34,11 @@ pub record FreeOn (map : List ℕ) (g : Geometry) (b : ℕ) : Type 0 where
   pub below : b < g .blocks
   pub nobody : getD map b 0 ≡ 0
 
+-- the blocks from one on and below another are held
+pub record HeldFrom (map : List ℕ) (from end : ℕ) : Type 0 where
+  pub within : from ≤ end
+  pub never : (b : ℕ) → from ≤ b → b < end → getD map b 0 ≡ 0 → ⊥
+
 -- a block from which on no block of the pack is such a one
 pub record NoneFrom (map : List ℕ) (g : Geometry) (from : ℕ) : Type 0 where
   pub within : from ≤ g .blocks

@@ -1,12 +1,13 @@
 // What is free in a pack, on the map that the check of an image fills: the free run with the highest start, how many blocks are free; and the
 // taking of blocks.
 ghost use mathlib.Core.Path.{_≡_};
+ghost use mathlib.Core.Bool.{true};
 ghost use Prim.Native.Nat.{ℕ, _+_, _-_, _≤_, _<_};
 ghost use lib.Dec.{eqb, leb};
 ghost use lib.ListN.{length, set};
 ghost use Rattle.pack.specs.GeometrySized.{mostBlocks, Sized};
 ghost use Rattle.room.specs.Room.{InRun};
-ghost use Rattle.room.specs.RoomMap.{runOn, freeAfter, startIn, freeOn, FreeOn, markedFrom};
+ghost use Rattle.room.specs.RoomMap.{runOn, freeAfter, startIn, freeOn, FreeOn, HeldFrom, markedFrom};
 ghost use Rattle.room.specs.Cleared.{cleared};
 use pack::BlockNo;
 use pack::Geometry;
@@ -20,13 +21,46 @@ pub enum Run {
     Nowhere,
 }
 
+// So many held blocks are passed at once: the compiler looks at sixteen in one step. It is 32 in the contracts.
+const STRIDE: usize = 32;
+
+fn are_held(map: &[u8], from: usize) -> bool
+    requires { ⌜ from + 32 ≤ length (now map) ⌝ }
+    ensures { λ r. ⌜ (r ≡ true → HeldFrom (now (map .entry)) from (from + 32)) ⌝ }
+{
+    let mut held = true;
+    let mut i = 0;
+    while i < STRIDE {
+        if map[from + i] == 0 {
+            held = false;
+        }
+        i += 1;
+    }
+    held
+}
+
+// A block from which on, up to `end`, all are held. It may lie below the bodies: a block that is held there is not sought either.
+fn skip_held(map: &[u8], end: usize) -> usize
+    requires { ⌜ end ≤ length (now map) ⌝ }
+    ensures { λ r. ⌜ HeldFrom (now (map .entry)) r end ⌝ }
+{
+    let mut b = end;
+    while STRIDE <= b {
+        if !are_held(map, b - STRIDE) {
+            return b;
+        }
+        b -= STRIDE;
+    }
+    b
+}
+
 // Downwards, with a count of the free blocks from here on: the first run that is long enough has the highest start.
 pub fn highest_run(map: &[u8], g: Geometry, count: Blocks) -> Run
     requires { ⌜ (length (now map) ≡ mostBlocks) × (g .blocks ≤ mostBlocks) × (0 < count .0) ⌝ }
     ensures { λ r. ⌜ startIn r ≡ runOn (now (map .entry)) (g .bodies .0) (g .blocks) (count .0) (g .blocks) ⌝ }
 {
     let low = g.bodies.0;
-    let mut b = g.blocks;
+    let mut b = skip_held(map, g.blocks);
     let mut free = 0;
     while low < b {
         b -= 1;
@@ -44,7 +78,7 @@ pub fn highest_below(map: &[u8], g: Geometry, from: BlockNo) -> Run
     ensures { λ r. ⌜ startIn r ≡ runOn (now (map .entry)) (g .bodies .0) (g .blocks) 1 (from .0) ⌝ }
 {
     let low = g.bodies.0;
-    let mut b = from.0;
+    let mut b = skip_held(map, from.0);
     while low < b {
         b -= 1;
         if map[b] == 0 {

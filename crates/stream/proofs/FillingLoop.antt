@@ -3,13 +3,15 @@ use Prim.Native.Nat.{ℕ, _+_, _≤_, _<_}
 use mathlib.Core.Path.{_≡_, refl, sym, ap, subst, _∙_}
 use mathlib.Core.List.{List, [], _∷_, _++_, append-assoc, append-nil}
 use native.Mathlib.Numerals.{add-one}
-use lib.ListN.{length, getD, set, drop, drop-of-length-le}
+use native.Mathlib.Omega.{arith}
+use lib.ListN.{length, getD, set, drop, drop-of-length-le, length-set}
 use lib.Seq.{drop-cons}
 use Rattle.pack.specs.declared.Geometry.{Geometry}
 use Rattle.pack.specs.declared.Key.{Key}
 use Rattle.pack.specs.Geometry.{payloadBytes}
 use Rattle.stream.specs.declared.Filling.{Filling}
-use Rattle.stream.specs.Filling.{Layable, LaidByte, Writing, Writable, Laying, written}
+use Rattle.stream.specs.Filling.{Layable, LaidByte, Writing, Writable, Laying, LaidWithin, written}
+use Rattle.stream.specs.Filling.LaidByte.{within}
 use Rattle.stream.proofs.FillingSteps.{writing-layable, writing-next, written-end}
 
 -- who writes these bytes and no more
@@ -50,6 +52,20 @@ module _ {g : Geometry} {e : ℕ} {img₀ map₀ gather₀ : List ℕ} {start : 
     pub index-end : length bytes ≤ i → Laying g e img₀ map₀ gather₀ start bytes img map gather at []
     index-end over = rw (← drop-of-length-le bytes over) laying
 
+-- a loop that lays them in the buffer alone, with room behind each
+pub within-start : {gather : List ℕ} {filled first : ℕ} {bytes : List ℕ} → first ≡ filled → LaidWithin gather filled bytes gather first bytes
+within-start is = record { laying = λ g e img map from. rw is laying-start }
+
+module _ {gather₀ : List ℕ} {filled₀ : ℕ} {bytes gather : List ℕ} {filled i : ℕ} (laid : LaidWithin gather₀ filled₀ bytes gather filled (drop i bytes)) where
+  pub within-next : {next : ℕ} → i < length bytes → filled + 1 < length gather → next ≡ filled + 1
+      → LaidWithin gather₀ filled₀ bytes (set gather filled (getD bytes i 0)) next (drop (i + 1) bytes)
+  within-next inside room is =
+      let other : filled + 1 ≡ length (set gather filled (getD bytes i 0)) → ⊥ = λ full. omega (arith, full, length-set gather filled (getD bytes i 0)) in
+      record { laying = λ g e img map from. rw is (index-next (laid .laying g e img map from) inside refl (within other)) }
+
+  pub within-end : {end : ℕ} → length bytes ≤ i → end ≡ filled → LaidWithin gather₀ filled₀ bytes gather end []
+  within-end over is = record { laying = λ g e img map from. rw is (index-end (laid .laying g e img map from) over) }
+
 -- all bytes are laid
 pub laying-done : {key : Key} {caller : ℕ} {g : Geometry} {e : ℕ} {img map gather : List ℕ} {at : Filling} {bytes img′ map′ gather′ : List ℕ} {at′ : Filling}
     → Writing key caller img map g e gather at bytes → Laying g e img map gather at bytes img′ map′ gather′ at′ []
@@ -59,6 +75,11 @@ laying-done {key} {caller} {g} {e} {img} {map} {gather} {at} {bytes} {img′} {m
     ap (written key caller (payloadBytes g) img gather (at .filled)) (sym (append-nil bytes))
     ∙ laying .same key caller [] (writing-alone writing .writing)
     ∙ written-end key caller (payloadBytes g) img′ gather′ (at′ .filled)
+
+-- the buffer has room for a byte
+pub writable-room : {img map : List ℕ} {g : Geometry} {e : ℕ} {gather : List ℕ} {at : Filling} {bytes : List ℕ} → Writable img map g e gather at bytes
+    → at .filled < length gather
+writable-room w = omega (arith, w .writing .room, w .writing .whole)
 
 -- bytes, and then more
 module _ {g : Geometry} {e : ℕ} {img map gather : List ℕ} {at : Filling} {bytes : List ℕ} (more : List ℕ) where

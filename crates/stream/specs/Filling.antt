@@ -71,3 +71,8 @@ pub record Laying (g : Geometry) (e : ℕ) (img map gather : List ℕ) (at : Fil
   pub same : (key : Key) (caller : ℕ) (behind : List ℕ) → Writing key caller img map g e gather at (bytes ++ behind)
       → written key caller (payloadBytes g) img gather (at .filled) (bytes ++ behind)
       ≡ written key caller (payloadBytes g) img′ gather′ (at′ .filled) (left ++ behind)
+
+-- the same where no block becomes full, of any image and map: bytes laid behind those in the buffer
+pub record LaidWithin (gather : List ℕ) (filled : ℕ) (bytes gather′ : List ℕ) (filled′ : ℕ) (left : List ℕ) : Type 0 where
+  pub laying : (g : Geometry) (e : ℕ) (img map : List ℕ) (from : BlockNo)
+      → Laying g e img map gather (record { filled = filled; from = from }) bytes img map gather′ (record { filled = filled′; from = from }) left

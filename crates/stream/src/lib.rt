@@ -9,6 +9,7 @@ pub use reading::locate;
 pub use reading::step;
 pub use writing::lay;
 pub use writing::lay_all;
+pub use writing::lay_within;
 
 // A place in the payloads: a block and how many blocks there are from this one on; and, where there are any, the place of a byte in the image,
 // and of the end of the block. Going on by a byte is then an addition.

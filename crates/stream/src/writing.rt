@@ -1,8 +1,9 @@
 // Writing bytes into a linked file: laid in a gather buffer, and a block added each time it is full.
 ghost use mathlib.Core.Path.{_≡_};
 ghost use mathlib.Core.List.{[]};
-ghost use lib.ListN.{set};
-ghost use Rattle.stream.specs.Filling.{Layable, LaidByte, Writable, Laying};
+ghost use Prim.Native.Nat.{_+_, _<_};
+ghost use lib.ListN.{length, set};
+ghost use Rattle.stream.specs.Filling.{Layable, LaidByte, LaidWithin, Writable, Laying};
 use crate::Filling;
 use adding::linked_add;
 use pack::Geometry;
@@ -32,6 +33,18 @@ pub fn lay(
     }
     let b = linked_add::add_below(img, map, g, e, from, gather);
     Filling { filled: 0, from: b }
+}
+
+// Bytes that leave room behind them in the gather buffer: no block becomes full.
+pub fn lay_within(gather: &mut [u8], filled: usize, bytes: &[u8])
+    requires { ⌜ filled + length (now bytes) < length (now gather) ⌝ }
+    ensures { λ r. ⌜ LaidWithin (now (gather .entry)) filled (now (bytes .entry)) (now (gather .exit)) (filled + length (now (bytes .entry))) [] ⌝ }
+{
+    let mut i = 0;
+    while i < bytes.len() {
+        gather[filled + i] = bytes[i];
+        i += 1;
+    }
 }
 
 // Bytes laid one after another. Who has more to write goes on with what is given back.

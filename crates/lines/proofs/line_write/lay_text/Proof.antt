@@ -1,4 +1,4 @@
--- Rests on `LineWriteLaid`: what is put for the character at the index is the first part of what is left to lay.
+-- Rests on `LineWriteLaid`: what is put for the part is the first of what is left to lay.
 use Prim.Native.Nat.{_-_}
 use mathlib.Core.Path.{_≡_, refl, _∙_}
 use native.Mathlib.Omega.{arith}
@@ -6,7 +6,7 @@ use lib.ListN.{length, drop}
 use Rattle.stream.specs.Filling.{Laying}
 use Rattle.stream.proofs.FillingLoop.{laying-start}
 use Rattle.lines.specs.LineWrite.{putAll}
-use Rattle.lines.proofs.LineWriteLaid.{text-writable, text-next, text-end}
+use Rattle.lines.proofs.LineWriteLaid.{text-part-writable, text-part-next, text-end}
 use Rattle.lines.proofs.line_write.lay_text.Statement.{statement}
 use Rattle.lines.proofs.line_write.lay_text.Tie as tie
 
@@ -21,28 +21,39 @@ abbrev μ-loop : tie.MeasureT-loop
 loop-holds : tie.Need-loop-holds Inv-loop μ-loop
 loop-holds c = ((refl, refl, refl), laying-start)
 
-shared-slice-read-lay-character : tie.Need-shared-slice-read-lay-character Inv-loop μ-loop
-shared-slice-read-lay-character c = omega arith
+part-end-requires : tie.Need-part-end-requires Inv-loop μ-loop
+part-end-requires c κs = omega arith
 
-lay-character-requires : tie.Need-lay-character-requires Inv-loop μ-loop
-lay-character-requires c κs =
-    let s = c .before .before .before .before .before .before .before .before .before .before in
-    text-writable (s .args .text .now) (c .before .before .before .before .before .loop .inv .1) (c .before .before .before .before .loop-test .taken) (s .pre)
+sub-lay-part : tie.Need-sub-lay-part Inv-loop μ-loop
+sub-lay-part c = omega (arith, c .before .before .before .part-end .ensures, c .before .before .before .before .loop-test .taken)
 
-add-i : tie.Need-add-i Inv-loop μ-loop
-add-i c = omega arith
+part-lay-part-start : tie.Need-part-lay-part-start Inv-loop μ-loop
+part-lay-part-start c = omega (arith, c .before .before .before .part-end .ensures, c .before .before .before .before .loop-test .taken)
+
+part-lay-part-end : tie.Need-part-lay-part-end Inv-loop μ-loop
+part-lay-part-end c = omega (arith, c .before .before .before .part-end .ensures)
+
+lay-part-requires : tie.Need-lay-part-requires Inv-loop μ-loop
+lay-part-requires c κs =
+    let at-end = c .before .before .before .before in
+    let at-loop = at-end .before .before in
+    let s = at-loop .before .before .before .before .before in
+    text-part-writable (s .args .text .now) (at-loop .loop .inv .1) (at-end .part-end .result) (omega (arith, at-end .part-end .ensures, at-end .before .loop-test .taken)) (s .pre)
 
 loop-less : tie.Need-loop-less Inv-loop μ-loop
-loop-less c = omega arith
+loop-less c =
+    let at-end = c .before .before .before .before .before .before .before .before .before .before .before in
+    omega (arith, at-end .part-end .ensures, at-end .before .loop-test .taken)
 
 loop-again : tie.Need-loop-again Inv-loop μ-loop
 loop-again c =
-    let s = c .before .before .before .before .before .before .before .before .before .before .before .before .before .before .before .before .before in
-    let inv = c .before .before .before .before .before .before .before .before .before .before .before .before .loop .inv in
-    let inside = c .before .before .before .before .before .before .before .before .before .before .before .loop-test .taken in
-    let f = c .before .before .before .before .before .before .lay-character in (
+    let f = c .before .before .before .before .before .before .lay-part in
+    let at-end = c .before .before .before .before .before .before .before .before .before .before .before in
+    let at-loop = at-end .before .before in
+    let inv = at-loop .loop .inv in
+    let s = at-loop .before .before .before .before .before in (
       (f .kept .0 ∙ inv .0 .0, f .kept .1 .0 ∙ inv .0 .1, f .kept .1 .1 .1 .1 .0 ∙ inv .0 .2),
-      text-next (s .args .text .now) (inv .1) inside (f .ensures),
+      text-part-next (s .args .text .now) (inv .1) (at-end .part-end .result) (omega (arith, at-end .part-end .ensures, at-end .before .loop-test .taken)) (f .ensures),
     )
 
 same-length : tie.Need-same-length Inv-loop μ-loop
@@ -64,9 +75,11 @@ lay-text-spec =
     Inv-loop
     μ-loop
     loop-holds
-    shared-slice-read-lay-character
-    lay-character-requires
-    add-i
+    part-end-requires
+    sub-lay-part
+    part-lay-part-start
+    part-lay-part-end
+    lay-part-requires
     loop-less
     loop-again
     same-length
