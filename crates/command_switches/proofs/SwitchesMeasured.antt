@@ -62,7 +62,8 @@ module _ (line : List ℕ) (at : ℕ) where
         let o = found-place slash line at a h in
         (omega (arith, o .0, end-behind line (a .at) e q, behind-after line (a .at)), omega (arith, o .0, o .1))
 
-    pub measured-from : {r : ℕ} → ((n : ℕ) → BehindName line e n → r ≡ 6 + n) → (ws : List Switch) (end : ℕ) → from (many (is slash) switch) line at ≡ ok ws end → r ≡ length (encoded ws)
+    pub measured-from : {r : ℕ} → ((n : ℕ) → BehindName line e n → r ≡ 6 + n)
+        → (ws : List Switch) (end : ℕ) → from (many (is slash) switch) line at ≡ ok ws end → r ≡ length (encoded ws)
     measured-from is ws end stand = let m = measured-switch ws end stand in is (m .0) (m .1) ∙ sym (m .2)
 
 -- behind a name

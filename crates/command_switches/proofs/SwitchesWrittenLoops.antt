@@ -11,7 +11,8 @@ use Rattle.command_cursor.specs.declared.Cursor.{Cursor}
 use Rattle.command_cursor.specs.declared.Part.the-variants as P
 use Rattle.command_switches.specs.declared.WrittenValues.{WrittenValues}
 use Rattle.command_switches.specs.SwitchesWritten.{setWords, nameAt, behindName, nameWords, ValuesFit, ValuesWritten, SwitchWritten, SwitchesFit, SwitchesWritten}
-use Rattle.command_switches.proofs.SwitchesWrittenParts.{no-values, value-asked, values-on, values-asked, values-written, no-switches, switches-on, switches-asked, switches-written}
+use Rattle.command_switches.proofs.SwitchesWrittenParts.{no-values, value-asked, values-on, values-asked, values-written}
+use Rattle.command_switches.proofs.SwitchesWrittenParts.{no-switches, values-room, switches-on, switches-asked, switches-written}
 
 pub record ValuesLead (line : List ℕ) (start i first : ℕ) (before : List ℕ) (at place count : ℕ) (buffer : List ℕ) : Type 0 where
   pub few : count ≤ at
@@ -62,6 +63,9 @@ module _ {line : List ℕ} {start i first : ℕ} {before : List ℕ} {at place c
   switches-done p h = so-far .leads count buffer (no-switches line at place count p buffer h)
 
   module _ (a : Cursor) (read : partAt at (oneCharacter (is slash) (drop at line)) ≡ P.Read a) (r : WrittenValues) {after : List ℕ} (set : SwitchWritten line (a .at) place buffer r after) where
+    pub switch-room : 2 * (place + 3 + 2 * r .values) ≤ length buffer
+    switch-room = values-room line at a read place buffer after r set (length buffer) (so-far .fit)
+
     pub switch-on : (at < r .next .at) × (at < length line)
     switch-on = switches-on line at a read place buffer after r set (length buffer) (so-far .fit)
 

@@ -23,7 +23,8 @@ measure-from-requires : tie.Need-measure-from-requires
 measure-from-requires c κs =
     let p = c .before .before in
     let start = p .before .before .before .before in
-    let on = slash-on (start .args .line .now) (start .args .c .at) (p .slash .given .0 .0) (sym (p .before .before .one .ensures) ∙ p .slash .given .1) (c .named .result .at) (c .named .ensures) in
+    let found = sym (p .before .before .one .ensures) ∙ p .slash .given .1 in
+    let on = slash-on (start .args .line .now) (start .args .c .at) (p .slash .given .0 .0) found (c .named .result .at) (c .named .ensures) in
     (start .pre, omega (arith, on .0))
 
 returns : tie.Need-returns

@@ -74,7 +74,8 @@ add-sum-2 c =
     let s = c .before .before in
     let q = s .before .before .before .before in
     let start = q .before .before .before .before in
-    let on = slash-on (start .args .line .now) (q .before .before .loop .here .at) (s .slash .given .0 .0) (sym (s .before .before .one2 .ensures) ∙ s .slash .given .1) _ (c .named2 .ensures) in
+    let found = sym (s .before .before .one2 .ensures) ∙ s .slash .given .1 in
+    let on = slash-on (start .args .line .now) (q .before .before .loop .here .at) (s .slash .given .0 .0) found _ (c .named2 .ensures) in
     record { fits = omega (arith, on .1, q .before .before .loop .inv .few, start .pre .0) }
 
 loop-less-2 : tie.Need-loop-less-2 Inv-loop μ-loop
@@ -82,7 +83,8 @@ loop-less-2 c =
     let s = c .before .before in
     let q = s .before .before .before .before in
     let start = q .before .before .before .before in
-    let on = slash-on (start .args .line .now) (q .before .before .loop .here .at) (s .slash .given .0 .0) (sym (s .before .before .one2 .ensures) ∙ s .slash .given .1) (c .named2 .result .at) (c .named2 .ensures) in
+    let found = sym (s .before .before .one2 .ensures) ∙ s .slash .given .1 in
+    let on = slash-on (start .args .line .now) (q .before .before .loop .here .at) (s .slash .given .0 .0) found (c .named2 .result .at) (c .named2 .ensures) in
     omega (arith, on .0, on .1)
 
 loop-again-2 : tie.Need-loop-again-2 Inv-loop μ-loop

@@ -4,8 +4,8 @@ use mathlib.Core.Path.{sym, _∙_}
 use native.Mathlib.Omega.{arith}
 use borrow.Author.Needs.{needs}
 use lib.ListN.{length}
-use Rattle.command_switches.proofs.SwitchesWrittenParts.{switch-asked, values-room, all-asked, all-written}
-use Rattle.command_switches.proofs.SwitchesWrittenLoops.{SwitchesLead, switches-start, switches-done, switch-on, switch-more}
+use Rattle.command_switches.proofs.SwitchesWrittenParts.{switch-asked, all-asked, all-written}
+use Rattle.command_switches.proofs.SwitchesWrittenLoops.{SwitchesLead, switches-start, switches-done, switch-room, switch-on, switch-more}
 use Rattle.command_switches.proofs.write_switches.Statement.{statement}
 use Rattle.command_switches.proofs.write_switches.Tie as tie
 
@@ -46,8 +46,7 @@ add-i c =
     let w = c .before .before .before .write-switch in
     let p = c .before .before .before .before .before .before in
     let q = p .before .before in
-    let start = q .before .before .before .before in
-    let room = values-room (start .args .line .now) (q .before .loop .here .at) (p .slash .given .0 .0) (sym (q .one .ensures) ∙ p .slash .given .1) (q .before .loop .i) _ _ (w .result) (w .ensures) _ (q .before .loop .inv .fit) in
+    let room = switch-room (q .before .loop .inv) _ (sym (q .one .ensures) ∙ p .slash .given .1) (w .result) (w .ensures) in
     omega (arith, room)
 
 mul-i : tie.Need-mul-i Inv-loop μ-loop
@@ -55,8 +54,7 @@ mul-i c =
     let w = c .before .before .before .before .write-switch in
     let p = c .before .before .before .before .before .before .before in
     let q = p .before .before in
-    let start = q .before .before .before .before in
-    let room = values-room (start .args .line .now) (q .before .loop .here .at) (p .slash .given .0 .0) (sym (q .one .ensures) ∙ p .slash .given .1) (q .before .loop .i) _ _ (w .result) (w .ensures) _ (q .before .loop .inv .fit) in
+    let room = switch-room (q .before .loop .inv) _ (sym (q .one .ensures) ∙ p .slash .given .1) (w .result) (w .ensures) in
     omega (arith, room)
 
 add-i-2 : tie.Need-add-i-2 Inv-loop μ-loop
@@ -64,8 +62,7 @@ add-i-2 c =
     let w = c .before .before .before .before .write-switch in
     let p = c .before .before .before .before .before .before .before in
     let q = p .before .before in
-    let start = q .before .before .before .before in
-    let room = values-room (start .args .line .now) (q .before .loop .here .at) (p .slash .given .0 .0) (sym (q .one .ensures) ∙ p .slash .given .1) (q .before .loop .i) _ _ (w .result) (w .ensures) _ (q .before .loop .inv .fit) in
+    let room = switch-room (q .before .loop .inv) _ (sym (q .one .ensures) ∙ p .slash .given .1) (w .result) (w .ensures) in
     omega (arith, room)
 
 add-count : tie.Need-add-count Inv-loop μ-loop

@@ -55,7 +55,8 @@ loop-again : tie.Need-loop-again Inv-loop μ-loop
 loop-again c =
     let p = c .before .before in
     p .before .before .loop .inv
-    ∙ span-on _ _ _ _ (p .before .loop-test .taken) (p .if1 .left) (⊎-elim (λ w. high-named _ (w .0 .taken) (w .1 .left)) (λ w. low-named _ (w .0 .left) (w .1 .ensures) (not-false _ (w .2 .left))) (c .if2 .came))
+    ∙ span-on _ _ _ _ (p .before .loop-test .taken) (p .if1 .left)
+    (⊎-elim (λ w. high-named _ (w .0 .taken) (w .1 .left)) (λ w. low-named _ (w .0 .left) (w .1 .ensures) (not-false _ (w .2 .left))) (c .if2 .came))
 
 returns-4 : tie.Need-returns-4 Inv-loop μ-loop
 returns-4 c = sym (c .before .loop .inv ∙ span-zero _ _ _ _ (c .loop-test .left))
