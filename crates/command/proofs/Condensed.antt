@@ -5,10 +5,15 @@ use mathlib.Core.List.{List, [], _∷_, _++_, append-assoc, append-nil}
 use mathlib.Core.Bool.{Bool, true, false, cond}
 use native.Mathlib.Numerals.{add-one}
 use native.Mathlib.Omega.{arith}
+use borrow.Author.Tests.{ne-eqb}
 use lib.ListN.{length, take, drop, getD, set, drop-of-length-le}
 use lib.Seq.{drop-cons, take-suc-set, length-take-le}
 use Rattle.command.specs.Condensed.{isDropped, condensed}
 use Rattle.command.specs.Laid.{LaidOne, CondensedTo}
+
+pub between-kept : (x : ℕ) → 33 ≤ x → x ≤ 126 → false ≡ isDropped x
+between-kept x low high =
+    rw (ne-eqb x 32 (λ is. omega arith), ne-eqb x 9 (λ is. omega arith), ne-eqb x 0 (λ is. omega arith), ne-eqb x 127 (λ is. omega arith))
 
 -- one character and the rest
 by-character : (x : ℕ) (line : List ℕ) → condensed (x ∷ line) ≡ condensed (x ∷ []) ++ condensed line

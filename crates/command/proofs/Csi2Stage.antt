@@ -21,7 +21,7 @@ use Rattle.command_sides.specs.declared.Located.the-variants as L
 use Rattle.command.specs.Condensed.{lineLimit}
 use Rattle.command.specs.Csi2.{FoundAt, Csi2}
 use Rattle.command.specs.Csi2 as Two
-use Rattle.command.specs.GivenAt.{SpecificationGiven, GivenAt}
+use Rattle.command.specs.GivenAt.{SpecificationGiven, GivenAt, SpecificationAt}
 use Rattle.command.specs.GivenAt as R
 use Rattle.command.specs.declared.csi2.Asking.{Asking}
 use Rattle.command.specs.declared.csi2.Asking.the-variants as A
@@ -65,6 +65,16 @@ by-given : {line : List ℕ} {side k : ℕ} {buffer : List ℕ} (said : Parsed) 
 by-given said v few saying bounded is (R.SpecificationGiven.short less) = Two.Csi2.short few (found-at saying bounded is) less
 by-given {side} {k} said v few saying bounded is (R.SpecificationGiven.given room) =
     rw (specification-whole v (specification-bounded side k said v bounded is)) (Two.Csi2.given few (found-at saying bounded is) room)
+
+-- where one is located, it stands
+pub standing : {line : List ℕ} {side k : ℕ} {start : Cursor} {located : Located} → LocatedIn line side k located → located ≡ L.At start → SpecificationAt line (start .at)
+standing (S.LocatedIn.refused is) same = let z : _≡_ {A = ℕ} 0 1 = cc in absurd (omega arith)
+standing (S.LocatedIn.large is fails) same = let z : _≡_ {A = ℕ} 0 1 = cc in absurd (omega arith)
+standing (S.LocatedIn.missing is keeps none-at) same = let z : _≡_ {A = ℕ} 0 1 = cc in absurd (omega arith)
+standing {line} {start} (S.LocatedIn.located {start = at} {end} {v} is keeps some-at begins) same =
+    let cursor : _≡_ {A = Cursor} (record { at = at }) start = cc in
+    let z : at ≡ start .at = ap (λ (c : Cursor). c .at) cursor in
+    record { what = v; end = end; stands = ap (from specification line) (sym z) ∙ begins }
 
 pub one-there : {line : List ℕ} {side k : ℕ} {buffer : List ℕ} {start : Cursor} {located : Located} {answer : Asking} {after : List ℕ}
     → length line ≤ lineLimit → LocatedIn line side k located → located ≡ L.At start → GivenAt line (start .at) buffer answer after

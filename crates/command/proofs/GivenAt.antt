@@ -1,54 +1,31 @@
--- The answer for a specification that was read: the room that its switches need, and what is given.
-use Prim.Native.Nat.{ℕ, _+_, _*_, _≤_, _<_}
-use mathlib.Core.Path.{_≡_, ap, subst}
+-- The answer for the specification that stands at a place: the room that its switches need, and what is given.
+use Prim.Native.Nat.{ℕ, _*_, _≤_}
+use mathlib.Core.Path.{_≡_, sym, ap, _∙_, subst}
+use mathlib.Core.Bool.{Bool, true, false}
 use mathlib.Core.List.{List, _++_}
 use native.Mathlib.Omega.{arith}
+use borrow.Author.Tests.{le-ltb, ltb-true, ltb-false}
+use lib.Dec.{ltb}
 use lib.ListN.{length, take, drop, length-drop}
 use lib.Seq.{length-take-le}
-use Rattle.command_cursor.specs.declared.Cursor.{Cursor}
 use Rattle.command_grammar.specs.LineCharacters.{slash}
 use Rattle.command_grammar.specs.Parsed.{Switch, Specification}
 use Rattle.command_grammar.specs.Grammar.{IsSpecification}
-use Rattle.command_grammar.specs.Reader.{is, Res, ok, no, many, switch, specification, moved, from, valuesIn}
+use Rattle.command_grammar.specs.Reader.{is, Res, ok, no, many, switch, specification, moved, from}
 use Rattle.command_grammar.proofs.ReaderTheory.{Sound}
 use Rattle.command_grammar.proofs.ReaderLines.{specification-reads}
 use Rattle.command_parts.specs.CappedParts.{cappedSpecification}
 use Rattle.command_parts.specs.Numbers.{numbersOf}
-use Rattle.command_parts.specs.Specified.{PartsAt}
-use Rattle.command_parts.specs.Specified as P
+use Rattle.command_parts.specs.Specified.{withSwitches, PartsAt}
 use Rattle.command_parts.specs.declared.Numbers.{Numbers}
-use Rattle.command_parts.specs.declared.Specified.{Specified}
-use Rattle.command_parts.specs.declared.PartsRead.{PartsRead}
-use Rattle.command_parts.specs.declared.PartsRead.the-variants.{Read, Refused}
+use Rattle.command_parts.specs.declared.Parts.{Parts}
 use Rattle.command_switches.specs.Encoded.{encoded}
 use Rattle.command_switches.specs.SwitchesWritten.{SwitchesWritable}
-use Rattle.command_switches.proofs.EncodedLength.{encoded-length}
-use Rattle.command.specs.Condensed.{lineLimit}
-use Rattle.command.specs.GivenAt.{GivenAt}
-use Rattle.command.specs.GivenAt as Q
-use Rattle.command.specs.declared.csi2.Asking.{Asking}
-use Rattle.command.specs.declared.csi2.Asking.the-variants as A
 use Rattle.command_switches.proofs.EncodedRoom.{specification-short}
-
--- the specification that stands at a place, and what was read of it
-pub record StandingAt (line : List ℕ) (at : ℕ) (x : Specified) : Type 0 where
-  pub v : Specification
-  pub end : ℕ
-  pub stands : from specification line at ≡ ok v end
-  pub numbers : x .numbers ≡ numbersOf (cappedSpecification v)
-  pub values : x .values ≡ valuesIn (v .switches)
-  pub switches : from (many (is slash) switch) line (x .start .at) ≡ ok (v .switches) end
-
-pub found : {line : List ℕ} {at : ℕ} {parts : PartsRead} {x : Specified} {next : Cursor} → PartsAt line at parts → parts ≡ Read x next → StandingAt line at x
-found (P.PartsAt.refused is) same = let z : _≡_ {A = ℕ} 0 1 = cc in absurd (omega arith)
-found {line} {at} {x} (P.PartsAt.read {v} {end} {x = y} stands numbers values switches) same =
-    let z : y ≡ x = cc in
-    subst (StandingAt line at) z (record { v = v; end = end; stands = stands; numbers = numbers; values = values; switches = switches })
-
--- what stands there is one specification
-one-standing : {line : List ℕ} {at : ℕ} {x : Specified} (f : StandingAt line at x) (v : Specification) (end : ℕ) → from specification line at ≡ ok v end
-    → f .v ≡ v
-one-standing f v end is = let a = f .stands in cc
+use Rattle.command.specs.Condensed.{lineLimit}
+use Rattle.command.specs.GivenAt.{GivenAt, SpecificationAt, SwitchesAt, LacksRoom}
+use Rattle.command.specs.GivenAt as Q
+use Rattle.command.specs.declared.csi2.Asking.the-variants as A
 
 moved-back : (at : ℕ) (r : Res Specification) (v : Specification) (end : ℕ) → moved at r ≡ ok v end → (n : ℕ) × (r ≡ ok v n)
 moved-back at (ok w n) v end is = (n, let z : w ≡ v = cc in ap (λ (u : Specification). ok u n) z)
@@ -68,37 +45,59 @@ stands-short line at v end is =
       length-drop at line,
     )
 
-module _ {line : List ℕ} {at : ℕ} {x : Specified} (f : StandingAt line at x) where
-  switch-count : x .numbers .switches ≡ length (f .v .switches)
-  unfolding numbersOf
-  switch-count = ap (λ (n : Numbers). n .switches) (f .numbers)
+-- whether there is room for the switches: three bytes for each character are enough
+module _ {line : List ℕ} {start : ℕ} where
+  pub room-enough : (room : ℕ) → SwitchesAt line start → 3 * length line ≤ room → LacksRoom line start room false
+  room-enough room s wide = record {
+    tells = λ ws end stand.
+        let told = sym (s .stand) ∙ stand in
+        let same : s .what .what .switches ≡ ws = cc in
+        let short = stands-short line (s .at) (s .what .what) (s .what .end) (s .what .stands) in
+        sym (le-ltb room (length (encoded ws)) (omega (arith, short, ap (λ (l : List Switch). length (encoded l)) same)));
+  }
 
-  pub needed : 6 * x .numbers .switches + 4 * x .values ≡ length (encoded (f .v .switches))
-  needed = omega (arith, switch-count, f .values, encoded-length (f .v .switches))
+  pub room-measured : (room : ℕ) {bytes : ℕ} → ((ws : List Switch) (end : ℕ) → from (many (is slash) switch) line start ≡ ok ws end → bytes ≡ length (encoded ws))
+      → LacksRoom line start room (ltb room bytes)
+  room-measured room measured = record { tells = λ ws end stand. ap (ltb room) (measured ws end stand) }
 
-  pub needed-few : length line ≤ lineLimit → 6 * x .numbers .switches + 4 * x .values ≤ 384
-  needed-few few = omega (arith, needed, stands-short line at (f .v) (f .end) (f .stands))
+-- the specification that stands at a place, its parts, and whether there is room for its switches
+module _ {line : List ℕ} {at : ℕ} (s : SpecificationAt line at) {x : Parts} (parts : PartsAt line at x) where
+  its-switches : from (many (is slash) switch) line (x .next .at) ≡ ok (s .what .switches) (s .end)
+  its-switches = parts .behind (s .what) (s .end) (s .stands)
 
-  pub give-short : (buffer : List ℕ) → length buffer < 6 * x .numbers .switches + 4 * x .values → GivenAt line at buffer A.NoRoom buffer
-  give-short buffer few =
+  pub switches-begin : SwitchesAt line (x .next .at)
+  switches-begin = record { at = at; what = s; stand = its-switches }
+
+  module _ {room : ℕ} {lacks : Bool} (r : LacksRoom line (x .next .at) room lacks) where
+    told : lacks ≡ ltb room (length (encoded (s .what .switches)))
+    told = r .tells (s .what .switches) (s .end) its-switches
+
+    fits : lacks ≡ false → length (encoded (s .what .switches)) ≤ room
+    fits enough = omega (arith, ltb-false room (length (encoded (s .what .switches))) (sym told ∙ enough))
+
+    pub give-writable : length line ≤ lineLimit → lacks ≡ false → SwitchesWritable line (x .next .at) room
+    give-writable few enough = record { switches = s .what .switches; end = s .end; stand = its-switches; fits = fits enough; short = omega arith }
+
+  -- what stands there is one specification
+  only : (P : Specification → Type 0) → P (s .what) → (v : Specification) (end : ℕ) → from specification line at ≡ ok v end → P v
+  only P holds v end stands =
+      let e = sym (s .stands) ∙ stands in
+      let same : s .what ≡ v = cc in
+      subst P same holds
+
+  pub give-short : {buffer : List ℕ} {lacks : Bool} → LacksRoom line (x .next .at) (length buffer) lacks → lacks ≡ true → GivenAt line at buffer A.NoRoom buffer
+  give-short {buffer} r short = record {
+    gives = only (λ (v : Specification). Q.SpecificationGiven v buffer A.NoRoom buffer)
+        (Q.SpecificationGiven.short (ltb-true (length buffer) (length (encoded (s .what .switches))) (sym (told r) ∙ short)));
+  }
+
+  pub give-given : {buffer after : List ℕ} {lacks : Bool} → LacksRoom line (x .next .at) (length buffer) lacks → lacks ≡ false → {count : ℕ}
+      → ((ws : List Switch) (end : ℕ) → from (many (is slash) switch) line (x .next .at) ≡ ok ws end
+      → (after ≡ encoded ws ++ drop (length (encoded ws)) buffer) × (count ≡ length ws))
+      → {numbers : Numbers} → numbers ≡ withSwitches x count → GivenAt line at buffer (A.Given numbers) after
+  give-given {buffer} {after} r enough written {numbers} made =
+      let w = written (s .what .switches) (s .end) its-switches in
+      let whole : numbers ≡ numbersOf (cappedSpecification (s .what)) = made ∙ ap (withSwitches x) (w .1) ∙ parts .numbers (s .what) (s .end) (s .stands) in
       record {
-        gives = λ v end is. subst (λ (w : Specification). Q.SpecificationGiven w buffer A.NoRoom buffer) (one-standing f v end is) (Q.SpecificationGiven.short (omega (arith, needed)));
+        gives = only (λ (v : Specification). Q.SpecificationGiven v buffer (A.Given numbers) after) (rw (whole, w .0) (Q.SpecificationGiven.given (fits r enough)));
       }
-
-  pub give-writable : (room : ℕ) → length line ≤ lineLimit → 6 * x .numbers .switches + 4 * x .values ≤ room → SwitchesWritable line (x .start .at) room
-  give-writable room few fits =
-      record { switches = f .v .switches; end = f .end; stand = f .switches; fits = omega (arith, needed); short = omega arith }
-
-  pub give-given : {buffer after : List ℕ} → 6 * x .numbers .switches + 4 * x .values ≤ length buffer
-      → ((ws : List Switch) (end : ℕ) → from (many (is slash) switch) line (x .start .at) ≡ ok ws end → after ≡ encoded ws ++ drop (length (encoded ws)) buffer)
-      → GivenAt line at buffer (A.Given (x .numbers)) after
-  give-given {buffer} {after} fits written =
-      record {
-        gives = λ v end is. subst (λ (w : Specification). Q.SpecificationGiven w buffer (A.Given (x .numbers)) after) (one-standing f v end is)
-            (rw (f .numbers, written (f .v .switches) (f .end) (f .switches)) (Q.SpecificationGiven.given (omega (arith, needed))));
-      }
-
-pub give-none : {line : List ℕ} {at : ℕ} {parts : PartsRead} (buffer : List ℕ) {place : ℕ} {answer : Asking} → PartsAt line at parts → parts ≡ Refused place
-    → GivenAt line at buffer answer buffer
-give-none buffer (P.PartsAt.refused is) same = record { gives = λ v end stands. let z : _≡_ {A = ℕ} 0 1 = cc in absurd (omega arith) }
-give-none buffer (P.PartsAt.read stands numbers values switches) same = let z : _≡_ {A = ℕ} 0 1 = cc in absurd (omega arith)

@@ -5,10 +5,13 @@ ghost use lib.ListN.{length};
 ghost use Rattle.command.specs.Condensed.{isDropped};
 ghost use Rattle.command.specs.Laid.{LaidOne, CondensedTo};
 
-// "blank, TAB, NUL and RUBOUT"
+// "blank, TAB, NUL and RUBOUT". The many that lie between blank and RUBOUT are told first.
 fn is_dropped(character: u8) -> bool
     ensures { λ r. ⌜ r ≡ isDropped character ⌝ }
 {
+    if 33 <= character && character <= 126 {
+        return false;
+    }
     if character == 32 {
         return true;
     }

@@ -4,12 +4,11 @@ ghost use Prim.Native.Nat.{_≤_};
 ghost use lib.ListN.{length};
 ghost use Rattle.command.specs.Condensed.{lineLimit};
 ghost use Rattle.command.specs.Csi2.{refusal, askingAnswer, Csi2};
-ghost use Rattle.command.specs.GivenAt.{GivenAt};
+ghost use Rattle.command.specs.GivenAt.{SpecificationAt, SwitchesAt, LacksRoom, GivenAt};
 ghost use Rattle.command.specs.declared.csi2.Asking.the-variants.{Given};
 use crate::LINE_LIMIT;
 use command_cursor::Cursor;
 use command_parts::Numbers;
-use command_parts::PartsRead;
 use command_sides::Located;
 
 // What CSI2 answers: the numbers of a specification, or why it is refused.
@@ -38,20 +37,32 @@ pub struct SpecificationAnswer {
     pub switches: usize,
 }
 
-// The specification at the cursor. Where none stands nothing is promised of the answer: the line was read, so one does.
+// Whether the switches at the cursor take more room than there is. A character takes 3 bytes at most, so that they need only be counted where there is
+// less room than that.
+fn lacks_room(line: &[u8], start: Cursor, room: usize) -> bool
+    requires { ⌜ length (now line) ≤ lineLimit ⌝ }
+    requires { ⌜ SwitchesAt (now line) (start .at) ⌝ }
+    ensures { λ r. ⌜ LacksRoom (now (line .entry)) (start .at) room r ⌝ }
+{
+    if 3 * line.len() <= room {
+        return false;
+    }
+    room < command_switches::measure(line, start)
+}
+
+// The specification that stands at the cursor.
 fn give(line: &[u8], c: Cursor, buffer: &mut [u8]) -> Asking
     requires { ⌜ length (now line) ≤ lineLimit ⌝ }
+    requires { ⌜ SpecificationAt (now line) (c .at) ⌝ }
     ensures { λ r. ⌜ GivenAt (now (line .entry)) (c .at) (now (buffer .entry)) r (now (buffer .exit)) ⌝ }
 {
-    let PartsRead::Read(found, _) = command_parts::read_parts(line, c) else {
-        return Asking::Missing;
-    };
-    let numbers = found.numbers;
-    if buffer.len() < 6 * numbers.switches + 4 * found.values {
+    let parts = command_parts::read_parts(line, c);
+    let start = parts.next;
+    if lacks_room(line, start, buffer.len()) {
         return Asking::NoRoom;
     }
-    command_switches::write_switches(line, found.start, buffer);
-    Asking::Given(numbers)
+    let switches = command_switches::write_switches(line, start, buffer);
+    Asking::Given(command_parts::with_switches(parts, switches))
 }
 
 // "Order: 53, over 128; 50; 51, no such side or specification; 52, switch buffer too short.", and "54, a number over its bound, after 50", which "51 and

@@ -1,14 +1,11 @@
--- An octal number as far as 256, digit by digit; and that it keeps a bound below 256 exactly when the whole number does.
-use Prim.Native.Nat.{ℕ, suc, _+_, _-_, _*_, _≤_, _<_}
+-- A number as far as 256: what digits behind it make of it; and that it keeps a bound below 256 exactly when the whole number does.
+use Prim.Native.Nat.{ℕ, _+_, _-_, _*_, _≤_, _<_}
 use mathlib.Core.Path.{_≡_, sym, ap, _∙_}
 use mathlib.Core.List.{List, [], _∷_}
 use native.Mathlib.Decide.{decLt}
-use native.Mathlib.Numerals.{add-one}
 use native.Mathlib.Omega.{arith}
 use borrow.Author.Tests.{lt-ltb, le-ltb, lt-leb}
 use lib.Dec.{leb}
-use lib.ListN.{length, take, drop, getD}
-use lib.Seq.{drop-cons}
 use Rattle.numerals.specs.Digits.{valueFrom}
 use Rattle.command_cursor.specs.Capped.{capped}
 
@@ -30,7 +27,7 @@ capped-most n = by (decLt n 256)
 pub capped-within : (n : ℕ) {m : ℕ} → m ≡ capped n → m ≤ 256
 capped-within n is = omega (arith, is, capped-most n)
 
-capped-whole : (n : ℕ) → n ≤ 256 → capped n ≡ n
+pub capped-whole : (n : ℕ) → n ≤ 256 → capped n ≡ n
 capped-whole n few = by (decLt n 256)
   where
     by : Dec (n < 256) → capped n ≡ n
@@ -55,22 +52,9 @@ capped-digit a x = by (decLt a 256)
         let cap = capped-high a (omega arith) in
         capped-high (a * 8 + x) (omega arith) ∙ sym (capped-high (capped a * 8 + x) (omega (arith, cap)))
 
-capped-from : (a : ℕ) (ds : List ℕ) → capped (valueFrom 8 a ds) ≡ capped (valueFrom 8 (capped a) ds)
+pub capped-from : (a : ℕ) (ds : List ℕ) → capped (valueFrom 8 a ds) ≡ capped (valueFrom 8 (capped a) ds)
 capped-from a [] = sym (capped-whole (capped a) (capped-most a))
 capped-from a (d ∷ ds) =
     capped-from (a * 8 + (d - 48)) ds
     ∙ ap (λ (m : ℕ). capped (valueFrom 8 m ds)) (capped-digit a (d - 48))
     ∙ sym (capped-from (capped a * 8 + (d - 48)) ds)
-
-part-cons : (i e : ℕ) (s : List ℕ) → i < e → e ≤ length s → take (e - i) (drop i s) ≡ getD s i 0 ∷ take (e - suc i) (drop (suc i) s)
-part-cons i e s h l =
-    let lt : i < length s = omega arith in
-    let q : e - i ≡ suc (e - suc i) = omega arith in
-    rw (drop-cons s i 0 lt, q)
-
-pub octal-on : (v : ℕ) (s : List ℕ) (i e d : ℕ) → i < e → e ≤ length s → d ≡ getD s i 0 - 48 → {next : ℕ} → next ≡ capped (v * 8 + d)
-    → capped (valueFrom 8 v (take (e - i) (drop i s))) ≡ capped (valueFrom 8 next (take (e - (i + 1)) (drop (i + 1) s)))
-octal-on v s i e d h l q is = rw (is, part-cons i e s h l, add-one, q) (capped-from (v * 8 + (getD s i 0 - 48)) (take (e - suc i) (drop (suc i) s)))
-
-pub octal-done : (v : ℕ) (s : List ℕ) (i e : ℕ) → v ≤ 256 → i ≡ e → capped (valueFrom 8 v (take (e - i) (drop i s))) ≡ v
-octal-done v s i e few q = let z : e - i ≡ 0 = omega arith in rw z (capped-whole v few)

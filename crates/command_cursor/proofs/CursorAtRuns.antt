@@ -1,4 +1,4 @@
--- What `run` and `one` found, as the readers of a line say it: the laws that the users of a cursor cite.
+-- What `letters`, `named` and `one` found, as the readers of a line say it: the laws that the users of a cursor cite.
 use Prim.Native.Nat.{ℕ, _+_, _-_, _≤_, _<_}
 use mathlib.Core.Path.{_≡_, refl, sym, ap, _∙_, subst}
 use mathlib.Core.Bool.{Bool, true}
@@ -9,9 +9,9 @@ use lib.ListN.{length, take, drop, length-drop}
 use lib.Seq.{length-take-le}
 use Rattle.radix.specs.Names.{isLetter, isLetterOrDigit}
 use Rattle.command_grammar.specs.Grammar.{All, Between}
-use Rattle.command_grammar.specs.Reader.{is, Res, ok, no, moved, from, oneCharacter, word, span, spanAll}
+use Rattle.command_grammar.specs.Reader.{is, Res, ok, no, moved, from, oneCharacter, word, span}
 use Rattle.command_grammar.proofs.ReaderLeaves.{Word, of, run-reads, span-within}
-use Rattle.command_grammar.proofs.ReaderPlaces.{from-word, from-word-no, span-long, one-place}
+use Rattle.command_grammar.proofs.ReaderPlaces.{from-word, from-word-no, one-place}
 use Rattle.command_cursor.specs.CursorAt.{partAt}
 use Rattle.command_cursor.specs.declared.Cursor.{Cursor}
 use Rattle.command_cursor.specs.declared.Part.the-variants as P
@@ -47,7 +47,7 @@ module _ (c : ℕ) (s : List ℕ) (i : ℕ) where
 of-word : {P : List ℕ → Type 0} {u v : List ℕ} → Word P u v → P v
 of-word (of p) = p
 
--- `run` with a bound: the characters from `i` to `e`
+-- a run with a bound: the characters from `i` to `e`
 module _ (t : ℕ → Bool) (m : ℕ) (s : List ℕ) (i e : ℕ) (ends : e ≡ i + span t m (drop i s)) where
   abbrev pub part : List ℕ
   part = take (e - i) (drop i s)
@@ -92,26 +92,6 @@ module _ (t : ℕ → Bool) (m : ℕ) (s : List ℕ) (i e : ℕ) (ends : e ≡ i
   run-most w has =
       let long : length part ≡ e - i = length-take-le (e - i) (drop i s) (simp length-drop (omega (arith, inside))) in
       omega (arith, run-run w has .most, long)
-
--- `run` with a bound that is no bound
-module _ (t : ℕ → Bool) (s : List ℕ) (i e : ℕ) (ends : e ≡ i + span t (length s) (drop i s)) where
-  all-spanned : spanAll t (drop i s) ≡ e - i
-  all-spanned =
-      let same : span t (length s) (drop i s) ≡ spanAll t (drop i s) = span-long t (length s) (drop i s) (simp length-drop (omega arith)) in
-      omega arith
-
-  all-ends : e ≡ i + spanAll t (drop i s)
-  all-ends = let up : i ≤ e = omega arith in omega (arith, all-spanned)
-
-  pub whole-read : (a : ℕ) → a ≤ e - i → from (word a (spanAll t)) s i ≡ ok (take (e - i) (drop i s)) e
-  whole-read a h =
-      let least : a ≤ spanAll t (drop i s) = omega (arith, all-spanned) in
-      from-word a (spanAll t) s i least ∙ ap (λ (n : ℕ). ok (take n (drop i s)) (i + spanAll t (drop i s))) all-spanned ∙ ap (ok (take (e - i) (drop i s))) (sym all-ends)
-
-  pub whole-short : (a : ℕ) → e - i < a → from (word a (spanAll t)) s i ≡ no e
-  whole-short a h =
-      let few : spanAll t (drop i s) < a = omega (arith, all-spanned) in
-      from-word-no a (spanAll t) s i few ∙ ap no (sym all-ends)
 
 -- the characters that a run passed over have words
 pub named-run : (m : ℕ) (s : List ℕ) (i e : ℕ) → e ≡ i + span isLetterOrDigit m (drop i s) → All isLetterOrDigit (take (e - i) (drop i s))

@@ -1,9 +1,9 @@
 -- The words of what stands between two places of a line: code by code, and a name in its two halves.
 use Prim.Native.Nat.{ℕ, suc, zero, _+_, _-_, _≤_, _<_}
 use mathlib.Core.Path.{_≡_, refl, sym, ap, _∙_, subst}
-use mathlib.Core.Bool.{Bool}
+use mathlib.Core.Bool.{Bool, true}
 use mathlib.Core.List.{List, [], _∷_}
-use mathlib.Core.Option.{none, some}
+use mathlib.Core.Option.{some}
 use native.Mathlib.Omega.{arith}
 use native.Mathlib.Decide.{decLt}
 use native.Mathlib.Nat.{add-zero}
@@ -14,7 +14,7 @@ use Rattle.answers.specs.Missing.{orElse}
 use Rattle.radix.specs.Characters.{codeOf}
 use Rattle.radix.specs.Packing.{packed, wordOf}
 use Rattle.radix.specs.Names.{isLetterOrDigit, blank, blankFilled}
-use Rattle.radix.proofs.Characters.{code-blank, code-bound}
+use Rattle.radix.proofs.Characters.{code-blank}
 use Rattle.command_grammar.specs.Grammar.{All, nil, cons}
 use Rattle.command_cursor.specs.CursorAt.{characterAt}
 use Rattle.command_cursor.specs.FilledWord.{filledWord, firstWord, secondWord}
@@ -26,13 +26,9 @@ module _ (s : List ℕ) (place end : ℕ) where
   unfolding characterAt
   code-behind h = (rw (le-ltb place end h, code-blank 32 refl), omega arith)
 
-  pub code-here : (code : ℕ) → place < end → codeOf (getD s place 0) ≡ some code → (code ≡ orElse 0 (codeOf (characterAt s place end))) × (code < 40)
+  pub code-here : {code : ℕ} → place < end → (codeOf (getD s place 0) ≡ some code) × (code < 40) → (code ≡ orElse 0 (codeOf (characterAt s place end))) × (code < 40)
   unfolding characterAt
-  code-here code h is = (rw (lt-ltb place end h, is), code-bound (getD s place 0) code is)
-
-  pub code-missing : place < end → codeOf (getD s place 0) ≡ none → (0 ≡ orElse 0 (codeOf (characterAt s place end))) × (0 < 40)
-  unfolding characterAt
-  code-missing h is = (rw (lt-ltb place end h, is), omega arith)
+  code-here h known = (rw (lt-ltb place end h, known .0), known .1)
 
 -- the code at a place of a name, where blanks stand behind it
 abbrev codeIn : List ℕ → ℕ → ℕ
@@ -62,6 +58,11 @@ no-characters = rw (code-blank 32 refl)
 getD-any : (s : List ℕ) (j d d′ : ℕ) → j < length s → getD s j d ≡ getD s j d′
 getD-any s j d d′ h = let same : getD s j d ∷ drop (suc j) s ≡ getD s j d′ ∷ drop (suc j) s = sym (drop-cons s j d h) ∙ drop-cons s j d′ h in cc
 
+all-at : {t : ℕ → Bool} (s : List ℕ) → All t s → (k : ℕ) → k < length s → t (getD s k 0) ≡ true
+all-at s nil k below = absurd (omega arith)
+all-at s (cons p all) zero below = p
+all-at s (cons {s = rest} p all) (suc k) below = all-at rest all k (omega arith)
+
 -- from `i` to `e`
 module _ (s : List ℕ) (i e : ℕ) (up : i ≤ e) (within : e ≤ length s) where
   pub part-length : length (take (e - i) (drop i s)) ≡ e - i
@@ -82,6 +83,14 @@ module _ (s : List ℕ) (i e : ℕ) (up : i ≤ e) (within : e ≤ length s) whe
           rw (le-ltb (i + k) e behind) (sym (List·getD-eq-default (take (e - i) (drop i s)) blank over))
 
   module _ (all : All isLetterOrDigit (take (e - i) (drop i s))) where
+    pub named-at : (k : ℕ) → i ≤ k → k < e → isLetterOrDigit (getD s k 0) ≡ true
+    named-at k from to =
+        let below : k - i < e - i = omega arith in
+        let place : i + (k - i) ≡ k = omega arith in
+        let is : getD (take (e - i) (drop i s)) (k - i) 0 ≡ getD s k 0 =
+        getD-take (e - i) (drop i s) (k - i) 0 below ∙ getD-drop i s (k - i) 0 ∙ ap (λ (n : ℕ). getD s n 0) place in
+        ap isLetterOrDigit (sym is) ∙ all-at (take (e - i) (drop i s)) all (k - i) (rw part-length below)
+
     pub word-given : {a b c word : ℕ} → e ≤ i + 3
         → (a ≡ orElse 0 (codeOf (characterAt s i e))) × (a < 40)
         → (b ≡ orElse 0 (codeOf (characterAt s (i + 1) e))) × (b < 40)

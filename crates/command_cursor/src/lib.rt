@@ -2,32 +2,30 @@
 pub mod characters;
 
 ghost use mathlib.Core.Path.{_≡_};
+ghost use mathlib.Core.Bool.{true};
 ghost use Prim.Native.Nat.{_+_, _-_, _<_, _≤_};
-ghost use lib.ListN.{length, take, drop};
+ghost use lib.ListN.{length, take, drop, getD};
 ghost use Rattle.answers.specs.Missing.{orElse};
 ghost use Rattle.radix.specs.Characters.{codeOf};
-ghost use Rattle.radix.specs.Names.{isLetter, isLetterOrDigit};
-ghost use Rattle.numerals.specs.Digits.{valueOf};
+ghost use Rattle.radix.specs.Names.{isLetter, isDigit, isLetterOrDigit};
+ghost use Rattle.command_grammar.specs.LineCharacters.{isOctal};
 ghost use Rattle.command_grammar.specs.Grammar.{All};
 ghost use Rattle.command_grammar.specs.Reader.{is, span, oneCharacter};
 ghost use Rattle.command_cursor.specs.Capped.{capped};
-ghost use Rattle.command_cursor.specs.Classes.{classOf};
 ghost use Rattle.command_cursor.specs.CursorAt.{partAt, standsAt, characterAt};
+ghost use Rattle.command_cursor.specs.NumberAt.{NumberAt};
 ghost use Rattle.command_cursor.specs.FilledWord.{filledWord, firstWord, secondWord};
-use radix::Code;
 use radix::Radix50;
-use radix::code_of;
-
-// The classes of characters that a cursor passes over.
-pub enum Class {
-    Letter,
-    Octal,
-    LetterOrDigit,
-}
 
 // A place of a line.
 pub struct Cursor {
     pub at: usize,
+}
+
+// A number, and the place behind it.
+pub struct Number {
+    pub value: usize,
+    pub next: Cursor,
 }
 
 // Where the cursor stands then, or the place of the refusal.
@@ -42,23 +40,22 @@ fn is_letter(character: u8) -> bool
     65 <= character && character <= 90
 }
 
-fn is_letter_or_digit(character: u8) -> bool
-    ensures { λ r. ⌜ r ≡ isLetterOrDigit character ⌝ }
+fn is_digit(character: u8) -> bool
+    ensures { λ r. ⌜ r ≡ isDigit character ⌝ }
 {
-    if is_letter(character) {
-        return true;
-    }
     48 <= character && character <= 57
 }
 
-pub fn belongs(class: Class, character: u8) -> bool
-    ensures { λ r. ⌜ r ≡ classOf class character ⌝ }
+fn is_octal(character: u8) -> bool
+    ensures { λ r. ⌜ r ≡ isOctal character ⌝ }
 {
-    match class {
-        Class::Letter => is_letter(character),
-        Class::Octal => 48 <= character && character <= 55,
-        Class::LetterOrDigit => is_letter_or_digit(character),
-    }
+    48 <= character && character <= 55
+}
+
+fn capped(number: usize) -> usize
+    ensures { λ r. ⌜ r ≡ capped number ⌝ }
+{
+    if number < 256 { number } else { 256 }
 }
 
 // Whether a character stands at a place of the line.
@@ -72,9 +69,9 @@ fn stands(line: &[u8], place: usize, character: u8) -> bool
 }
 
 impl Cursor {
-    // Behind the characters of a class that stand here, at most so many.
-    pub fn run(self, line: &[u8], class: Class, most: usize) -> Self
-        ensures { λ r. ⌜ r .at ≡ self .at + span (classOf class) most (drop (self .at) (now (line .entry))) ⌝ }
+    // Behind the letters that stand here, at most so many.
+    pub fn letters(self, line: &[u8], most: usize) -> Self
+        ensures { λ r. ⌜ r .at ≡ self .at + span isLetter most (drop (self .at) (now (line .entry))) ⌝ }
     {
         let mut i = self.at;
         let mut left = most;
@@ -82,13 +79,63 @@ impl Cursor {
             if line.len() <= i {
                 return Cursor { at: i };
             }
-            if !belongs(class, line[i]) {
+            if !is_letter(line[i]) {
                 return Cursor { at: i };
             }
             i += 1;
             left -= 1;
         }
         Cursor { at: i }
+    }
+
+    // Behind the letters and digits that stand here, at most so many. The tests stand here, letters first, and not in a function of their own: joined to
+    // one answer they cost twice as much.
+    pub fn named(self, line: &[u8], most: usize) -> Self
+        ensures { λ r. ⌜ r .at ≡ self .at + span isLetterOrDigit most (drop (self .at) (now (line .entry))) ⌝ }
+    {
+        let mut i = self.at;
+        let mut left = most;
+        while 0 < left {
+            if line.len() <= i {
+                return Cursor { at: i };
+            }
+            let character = line[i];
+            if 65 <= character {
+                if 90 < character {
+                    return Cursor { at: i };
+                }
+            } else {
+                if !is_digit(character) {
+                    return Cursor { at: i };
+                }
+            }
+            i += 1;
+            left -= 1;
+        }
+        Cursor { at: i }
+    }
+
+    // The octal number that stands here, as far as 256: digits of any length are read, and a number that keeps its bound is whole.
+    pub fn number(self, line: &[u8]) -> Number
+        ensures { λ r. ⌜ NumberAt (now (line .entry)) (self .at) r ⌝ }
+    {
+        let mut value = 0;
+        let mut i = self.at;
+        while i < line.len() {
+            let character = line[i];
+            if !is_octal(character) {
+                return Number {
+                    value,
+                    next: Cursor { at: i },
+                };
+            }
+            value = capped(value * 8 + (character - 48) as usize);
+            i += 1;
+        }
+        Number {
+            value,
+            next: Cursor { at: i },
+        }
     }
 
     // Behind the character, if it stands here.
@@ -104,48 +151,21 @@ impl Cursor {
     }
 }
 
-fn digit(character: u8) -> usize
-    ensures { λ r. ⌜ r ≡ character - 48 ⌝ }
-{
-    if character < 48 {
-        0
-    } else {
-        (character - 48) as usize
-    }
-}
-
-fn capped(number: usize) -> usize
-    ensures { λ r. ⌜ r ≡ capped number ⌝ }
-{
-    if number < 256 { number } else { 256 }
-}
-
-// The octal number that stands from one place to another, as far as 256: digits of any length are read, and a number that keeps its bound is whole.
-pub fn octal(line: &[u8], first: usize, end: usize) -> usize
-    requires { ⌜ (first ≤ end) × (end ≤ length (now line)) ⌝ }
-    ensures { λ r. ⌜ r ≡ capped (valueOf 8 (take (end - first) (drop first (now (line .entry))))) ⌝ }
-{
-    let mut number = 0;
-    let mut i = first;
-    while i < end {
-        number = capped(number * 8 + digit(line[i]));
-        i += 1;
-    }
-    number
-}
-
-// The code of the character at a place; that of a blank from the end on.
+// The code of the letter or digit at a place; that of a blank from the end on.
 fn code_at(line: &[u8], place: usize, end: usize) -> usize
     requires { ⌜ end ≤ length (now line) ⌝ }
+    requires { ⌜ (place < end → isLetterOrDigit (getD (now line) place 0) ≡ true) ⌝ }
     ensures { λ r. ⌜ r ≡ orElse 0 (codeOf (characterAt (now (line .entry)) place end)) ⌝ }
     ensures { λ r. ⌜ r < 40 ⌝ }
 {
     if end <= place {
         return 0;
     }
-    match code_of(line[place]) {
-        Code::Of(code) => code,
-        Code::Nothing => 0,
+    let character = line[place];
+    if 65 <= character {
+        (character - 64) as usize
+    } else {
+        (character - 18) as usize
     }
 }
 

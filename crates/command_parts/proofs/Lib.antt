@@ -7,6 +7,7 @@ pub mod PassedHead
 pub mod PassedUic
 pub mod MadeFront
 pub mod MadeUic
-pub mod CountedValues
-pub mod CountedSwitches
-pub mod Ends
+pub mod PassedValues
+pub mod PassedSwitches
+pub mod PassedParts
+pub mod Specified

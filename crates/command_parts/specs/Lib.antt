@@ -4,5 +4,3 @@ pub mod Specified
 pub mod Passed
 pub mod CappedParts
 pub mod Made
-pub mod Counted
-pub mod Ends

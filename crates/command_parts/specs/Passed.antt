@@ -1,15 +1,14 @@
 -- Means: where a reader of a line ends, and whether what it read there passes a test; or the place of the refusal.
 use Prim.Native.Nat.{ℕ}
-use mathlib.Core.Path.{_≡_}
 use mathlib.Core.Bool.{Bool, true, _&&_}
-use mathlib.Core.List.{List}
+use mathlib.Core.List.{List, _∷_}
 use mathlib.Core.Option.{Option, some}
-use Rattle.radix.specs.Names.{isLetterOrDigit}
+use Rattle.radix.specs.Names.{isLetter, isLetterOrDigit}
 use Rattle.numerals.specs.Digits.{valueOf}
-use Rattle.command_grammar.specs.LineCharacters.{isOctal, comma, period, slash, opening, closing}
+use Rattle.command_grammar.specs.LineCharacters.{isOctal, comma, period, slash, colon, opening, closing}
 use Rattle.command_grammar.specs.Parsed.{Device, Uic, Switch}
 use Rattle.command_grammar.specs.Keeps.{octetKeeps, deviceKeeps}
-use Rattle.command_grammar.specs.Reader.{is, Res, ok, no, from, seq, opt, many, oneCharacter, word, span, spanAll, first, second, uic, switch, mkTail, Tail}
+use Rattle.command_grammar.specs.Reader.{is, Res, ok, no, seq, opt, many, oneCharacter, word, span, spanAll, first, second, uic, mkSwitch, switchValue, switch, mkTail, Tail}
 use Rattle.command_cursor.specs.declared.Part.{Part}
 use Rattle.command_cursor.specs.declared.Part.the-variants.{Read, Refused}
 use Rattle.command_parts.specs.declared.passing.Passing.{Passing}
@@ -38,11 +37,6 @@ abbrev pub keepsOf : Passing → Bool
 keepsOf (W.Read next keeps) = keeps
 keepsOf (W.Refused place) = true
 
--- what the reader reads stands from one place of the line to another
-pub record Stands {A : Type 0} (reader : List ℕ → Res A) (line : List ℕ) (at end : ℕ) : Type 0 where
-  pub what : A
-  pub stands : from reader line at ≡ ok what end
-
 -- what stands behind a name
 abbrev pub extension : List ℕ → Res (Option (List ℕ))
 extension = opt (is period) (seq second (oneCharacter (is period)) (word 1 (span isLetterOrDigit 3)))
@@ -53,6 +47,11 @@ user = seq second (oneCharacter (is comma)) (seq first (word 1 (spanAll isOctal)
 
 abbrev pub brackets : List ℕ → Res (Option Uic)
 brackets = opt (is opening) uic
+
+-- a switch behind its slash
+unfoldable pub behindSlash : List ℕ → Res Switch
+unfolding word span oneCharacter many switchValue
+behindSlash = seq mkSwitch (seq _∷_ (oneCharacter isLetter) (word 0 (span isLetterOrDigit 5))) (many (is colon) switchValue)
 
 abbrev pub switches : List ℕ → Res (List Switch)
 switches = many (is slash) switch

@@ -2,20 +2,30 @@
 use Prim.Native.Nat.{ℕ}
 use mathlib.Core.Path.{_≡_}
 use mathlib.Core.List.{List}
-use Rattle.command_grammar.specs.LineCharacters.{slash}
+use lib.ListN.{length}
 use Rattle.command_grammar.specs.Parsed.{Specification}
-use Rattle.command_grammar.specs.Reader.{is, ok, no, many, switch, specification, from, valuesIn}
+use Rattle.command_grammar.specs.Reader.{ok, specification, from}
 use Rattle.command_parts.specs.CappedParts.{cappedSpecification}
 use Rattle.command_parts.specs.Numbers.{numbersOf}
-use Rattle.command_parts.specs.declared.Specified.{Specified}
-use Rattle.command_parts.specs.declared.PartsRead.{PartsRead}
-use Rattle.command_parts.specs.declared.PartsRead.the-variants.{Read, Refused}
+use Rattle.command_parts.specs.Passed.{switches}
+use Rattle.command_parts.specs.declared.Numbers.{Numbers}
+use Rattle.command_parts.specs.declared.Parts.{Parts}
 
--- its numbers, as far as 256; how many values its switches have, and where they begin; and where it ends. Or the place of the refusal.
-pub data PartsAt (line : List ℕ) (at : ℕ) : PartsRead → Type 0 where
-  refused : {place : ℕ} → from specification line at ≡ no place → PartsAt line at (Refused place)
-  read : {v : Specification} {end : ℕ} {x : Specified} → from specification line at ≡ ok v end
-      → x .numbers ≡ numbersOf (cappedSpecification v)
-      → x .values ≡ valuesIn (v .switches)
-      → from (many (is slash) switch) line (x .start .at) ≡ ok (v .switches) end
-      → PartsAt line at (Read x (record { at = end }))
+abbrev pub withSwitches : Parts → ℕ → Numbers
+withSwitches x n =
+    record {
+      present = x .present;
+      device = x .device;
+      unit = x .unit;
+      name1 = x .name1;
+      name2 = x .name2;
+      extension = x .extension;
+      group = x .group;
+      user = x .user;
+      switches = n;
+    }
+
+-- its numbers, as far as 256, and where its switches begin
+pub record PartsAt (line : List ℕ) (at : ℕ) (x : Parts) : Type 0 where
+  pub numbers : (v : Specification) (end : ℕ) → from specification line at ≡ ok v end → withSwitches x (length (v .switches)) ≡ numbersOf (cappedSpecification v)
+  pub behind : (v : Specification) (end : ℕ) → from specification line at ≡ ok v end → from switches line (x .next .at) ≡ ok (v .switches) end

@@ -1,20 +1,19 @@
 // What stands in brackets: a group and a user.
 ghost use mathlib.Core.Path.{_≡_};
 ghost use mathlib.Core.Option.{Option};
+ghost use Prim.Native.Nat.{ℕ};
 ghost use Rattle.command_grammar.specs.Parsed.{Uic};
 ghost use Rattle.command_grammar.specs.Keeps.{uicKeeps};
 ghost use Rattle.command_grammar.specs.Reader.{ok, from};
-ghost use Rattle.command_parts.specs.Made.{uicNumbers};
-ghost use Rattle.command_parts.specs.Passed.{user, userBehind, brackets, passing, Stands};
+ghost use Rattle.command_parts.specs.Made.{uicFound};
+ghost use Rattle.command_parts.specs.Passed.{user, userBehind, brackets, passing};
 use crate::passing::Passing;
 use crate::passing::pass_one;
-use command_cursor::Class;
 use command_cursor::Cursor;
 use command_cursor::Part;
 use command_cursor::characters::CLOSING;
 use command_cursor::characters::COMMA;
 use command_cursor::characters::OPENING;
-use command_cursor::octal;
 
 // What stands behind the group: the comma, the user's digits and the closing bracket.
 fn pass_user(line: &[u8], c: Cursor, group: bool) -> Passing
@@ -25,13 +24,13 @@ fn pass_user(line: &[u8], c: Cursor, group: bool) -> Passing
         Part::Refused(place) => Passing::Refused(place),
         Part::Read(a) => {
             let start = a.at;
-            let digits = a.run(line, Class::Octal, line.len());
+            let user = a.number(line);
+            let digits = user.next;
             let end = digits.at;
             if end == start {
                 return Passing::Refused(end);
             }
-            let keeps = octal(line, start, end) <= 0o377;
-            pass_one(line, digits, CLOSING, group & keeps)
+            pass_one(line, digits, CLOSING, group & (user.value <= 0o377))
         }
     }
 }
@@ -45,45 +44,49 @@ pub fn pass_uic(line: &[u8], c: Cursor) -> Passing
         Part::Refused(_) => Passing::Read(c, true),
         Part::Read(a) => {
             let start = a.at;
-            let digits = a.run(line, Class::Octal, line.len());
+            let group = a.number(line);
+            let digits = group.next;
             let end = digits.at;
             if end == start {
                 return Passing::Refused(end);
             }
-            let keeps = octal(line, start, end) <= 0o377;
-            pass_user(line, digits, keeps)
+            pass_user(line, digits, group.value <= 0o377)
         }
     }
 }
 
+// The numbers of a group and a user, whether there are any, and the place behind them.
 pub struct UicNumbers {
     pub present: bool,
     pub group: usize,
     pub user: usize,
+    pub next: Cursor,
 }
 
-// The numbers of the group and the user that stand from one place to another, if any do.
-pub fn read_uic(line: &[u8], c: Cursor, next: Cursor) -> UicNumbers
-    requires { ⌜ Stands brackets (now line) (c .at) (next .at) ⌝ }
-    ensures { λ r. ⌜ ((u : Option Uic) → from brackets (now (line .entry)) (c .at) ≡ ok u (next .at) → r ≡ uicNumbers u) ⌝ }
+// The group and the user at the cursor, of which it is known that they are in the grammar.
+pub fn read_uic(line: &[u8], c: Cursor) -> UicNumbers
+    ensures { λ r. ⌜ ((u : Option Uic) (end : ℕ) → from brackets (now (line .entry)) (c .at) ≡ ok u end → r ≡ uicFound u end) ⌝ }
 {
-    let start = c.at;
-    let end = next.at;
-    if end == start {
-        return UicNumbers {
+    let p = c.one(line, OPENING);
+    match p {
+        Part::Refused(_) => UicNumbers {
             present: false,
             group: 0,
             user: 0,
-        };
-    }
-    let first = Cursor { at: start + 1 };
-    let digits = first.run(line, Class::Octal, line.len());
-    let comma = digits.at;
-    let group = octal(line, start + 1, comma);
-    let user = octal(line, comma + 1, end - 1);
-    UicNumbers {
-        present: true,
-        group,
-        user,
+            next: c,
+        },
+        Part::Read(a) => {
+            let group = a.number(line);
+            let comma = group.next.at;
+            let b = Cursor { at: comma + 1 };
+            let user = b.number(line);
+            let closing = user.next.at;
+            UicNumbers {
+                present: true,
+                group: group.value,
+                user: user.value,
+                next: Cursor { at: closing + 1 },
+            }
+        }
     }
 }

@@ -1,25 +1,22 @@
-// What stands in front: a device and a file. Of the many specifications of a line only the one that is asked for is read for its numbers; the
-// others are passed over. So where a part ends is found first, and its numbers are made where it stands.
+// What stands in front: a device and a file. All specifications of a line are passed over, for the grammar and the bounds of their numbers; only the one
+// that is asked for is then read for its numbers, and of that one it is known that it is in the grammar.
 ghost use mathlib.Core.Path.{_≡_};
 ghost use mathlib.Core.Option.{Option};
 ghost use mathlib.Core.List.{List};
 ghost use Prim.Native.Nat.{ℕ, _+_};
 ghost use lib.ListN.{drop};
 ghost use Rattle.radix.specs.Names.{isLetterOrDigit};
-ghost use Rattle.command_grammar.specs.Parsed.{Device, FileName};
-ghost use Rattle.command_grammar.specs.Reader.{ok, span, device, file, head, from, Head};
-ghost use Rattle.command_parts.specs.Numbers.{extensionIn};
-ghost use Rattle.command_parts.specs.Made.{deviceNumbers, fileNumbers, headNumbers};
-ghost use Rattle.command_parts.specs.Passed.{extension, passed, passing, unitOfDevice, Stands};
+ghost use Rattle.command_grammar.specs.Parsed.{FileName};
+ghost use Rattle.command_grammar.specs.Reader.{ok, span, device, file, head, from};
+ghost use Rattle.command_parts.specs.Made.{deviceFound, extensionFound, fileFound};
+ghost use Rattle.command_parts.specs.Passed.{extension, passed, passing, unitOfDevice};
 use crate::passing::Passing;
 use crate::passing::pass_one;
-use command_cursor::Class;
 use command_cursor::Cursor;
 use command_cursor::Part;
 use command_cursor::characters::COLON;
 use command_cursor::characters::PERIOD;
 use command_cursor::name_words;
-use command_cursor::octal;
 use command_cursor::word_of;
 
 // "A unit must be at most 7, .. leading zeros allowed"
@@ -27,15 +24,14 @@ pub fn pass_device(line: &[u8], c: Cursor) -> Passing
     ensures { λ r. ⌜ r ≡ passing unitOfDevice (from device (now (line .entry)) (c .at)) ⌝ }
 {
     let start = c.at;
-    let letters = c.run(line, Class::Letter, 3);
+    let letters = c.letters(line, 3);
     let middle = letters.at;
     if middle - start < 2 {
         return Passing::Refused(middle);
     }
-    let digits = letters.run(line, Class::Octal, line.len());
-    let end = digits.at;
-    let keeps = octal(line, middle, end) <= 7;
-    pass_one(line, digits, COLON, keeps)
+    let unit = letters.number(line);
+    let digits = unit.next;
+    pass_one(line, digits, COLON, unit.value <= 7)
 }
 
 // What stands behind a name: a period and an extension, or neither.
@@ -47,7 +43,7 @@ fn pass_extension(line: &[u8], c: Cursor) -> Part
         Part::Refused(_) => Part::Read(c),
         Part::Read(a) => {
             let start = a.at;
-            let characters = a.run(line, Class::LetterOrDigit, 3);
+            let characters = a.named(line, 3);
             let end = characters.at;
             if end == start {
                 return Part::Refused(end);
@@ -76,11 +72,11 @@ pub fn pass_head(line: &[u8], c: Cursor, d: Passing) -> Part
 {
     match d {
         Passing::Read(next, _) => {
-            let name = next.run(line, Class::LetterOrDigit, 6);
+            let name = next.named(line, 6);
             pass_named(line, next, name)
         }
         Passing::Refused(place) => {
-            let name = c.run(line, Class::LetterOrDigit, 6);
+            let name = c.named(line, 6);
             let end = name.at;
             if end < place {
                 return Part::Refused(place);
@@ -90,52 +86,94 @@ pub fn pass_head(line: &[u8], c: Cursor, d: Passing) -> Part
     }
 }
 
+// The numbers of a device, whether there is one, and the place behind it.
 pub struct DeviceNumbers {
+    pub present: bool,
     pub word: usize,
     pub unit: usize,
+    pub next: Cursor,
 }
 
-// The numbers of the device that stands from one place to another: its first two characters are letters.
-fn read_device(line: &[u8], c: Cursor, next: Cursor) -> DeviceNumbers
-    requires { ⌜ Stands device (now line) (c .at) (next .at) ⌝ }
-    ensures { λ r. ⌜ ((d : Device) → from device (now (line .entry)) (c .at) ≡ ok d (next .at) → r ≡ deviceNumbers d) ⌝ }
+pub fn read_device(line: &[u8], c: Cursor) -> DeviceNumbers
+    ensures { λ r. ⌜ r ≡ deviceFound (c .at) (from device (now (line .entry)) (c .at)) ⌝ }
 {
     let start = c.at;
-    let third = Cursor { at: start + 2 };
-    let letters = third.run(line, Class::Letter, 1);
+    let letters = c.letters(line, 3);
     let middle = letters.at;
-    let end = next.at - 1;
-    let word = word_of(line, start, middle);
-    let unit = octal(line, middle, end);
-    DeviceNumbers { word, unit }
-}
-
-// The word of the extension behind a name; 0 where none stands.
-fn read_extension(line: &[u8], end: usize, next: usize) -> usize
-    requires { ⌜ Stands extension (now line) end next ⌝ }
-    ensures { λ r. ⌜ ((e : Option (List ℕ)) → from extension (now (line .entry)) end ≡ ok e next → r ≡ extensionIn e) ⌝ }
-{
-    if next == end {
-        return 0;
+    if middle - start < 2 {
+        return DeviceNumbers {
+            present: false,
+            word: 0,
+            unit: 0,
+            next: c,
+        };
     }
-    word_of(line, end + 1, next)
+    let unit = letters.number(line);
+    let digits = unit.next;
+    let p = digits.one(line, COLON);
+    match p {
+        Part::Refused(_) => DeviceNumbers {
+            present: false,
+            word: 0,
+            unit: 0,
+            next: c,
+        },
+        Part::Read(next) => DeviceNumbers {
+            present: true,
+            word: word_of(line, start, middle),
+            unit: unit.value,
+            next,
+        },
+    }
 }
 
-// A file's numbers, and whether it has a name, and an extension.
+// The word of an extension, 0 where there is none, whether there is one, and the place behind it.
+pub struct ExtensionNumbers {
+    pub present: bool,
+    pub word: usize,
+    pub next: Cursor,
+}
+
+// The extension behind a name, of which it is known that it is in the grammar.
+fn read_extension(line: &[u8], c: Cursor) -> ExtensionNumbers
+    ensures { λ r. ⌜ ((e : Option (List ℕ)) (end : ℕ) → from extension (now (line .entry)) (c .at) ≡ ok e end → r ≡ extensionFound e end) ⌝ }
+{
+    let p = c.one(line, PERIOD);
+    match p {
+        Part::Refused(_) => ExtensionNumbers {
+            present: false,
+            word: 0,
+            next: c,
+        },
+        Part::Read(a) => {
+            let start = a.at;
+            let next = a.named(line, 3);
+            let end = next.at;
+            ExtensionNumbers {
+                present: true,
+                word: word_of(line, start, end),
+                next,
+            }
+        }
+    }
+}
+
+// A file's numbers, whether it has a name, and an extension, and the place behind it.
 pub struct FileNumbers {
     pub present: bool,
     pub extended: bool,
     pub name1: usize,
     pub name2: usize,
     pub extension: usize,
+    pub next: Cursor,
 }
 
-fn read_file(line: &[u8], c: Cursor, next: Cursor) -> FileNumbers
-    requires { ⌜ Stands file (now line) (c .at) (next .at) ⌝ }
-    ensures { λ r. ⌜ ((f : Option FileName) → from file (now (line .entry)) (c .at) ≡ ok f (next .at) → r ≡ fileNumbers f) ⌝ }
+// The file at the cursor, of which it is known that it is in the grammar.
+pub fn read_file(line: &[u8], c: Cursor) -> FileNumbers
+    ensures { λ r. ⌜ ((f : Option FileName) (end : ℕ) → from file (now (line .entry)) (c .at) ≡ ok f end → r ≡ fileFound f end) ⌝ }
 {
     let start = c.at;
-    let name = c.run(line, Class::LetterOrDigit, 6);
+    let name = c.named(line, 6);
     let end = name.at;
     if end == start {
         return FileNumbers {
@@ -144,52 +182,18 @@ fn read_file(line: &[u8], c: Cursor, next: Cursor) -> FileNumbers
             name1: 0,
             name2: 0,
             extension: 0,
+            next: c,
         };
     }
-    let last = next.at;
     let words = name_words(line, start, end);
-    let extension = read_extension(line, end, last);
+    let extension = read_extension(line, name);
+    let next = extension.next;
     FileNumbers {
         present: true,
-        extended: end < last,
+        extended: extension.present,
         name1: words.first,
         name2: words.second,
-        extension,
-    }
-}
-
-// A device's numbers and whether there is one, and those of a file.
-pub struct HeadNumbers {
-    pub present: bool,
-    pub word: usize,
-    pub unit: usize,
-    pub file: FileNumbers,
-}
-
-pub fn read_head(line: &[u8], c: Cursor, d: Passing, next: Cursor) -> HeadNumbers
-    requires { ⌜ d ≡ passing unitOfDevice (from device (now line) (c .at)) ⌝ }
-    requires { ⌜ Stands head (now line) (c .at) (next .at) ⌝ }
-    ensures { λ r. ⌜ ((h : Head) → from head (now (line .entry)) (c .at) ≡ ok h (next .at) → r ≡ headNumbers h) ⌝ }
-{
-    match d {
-        Passing::Read(behind, _) => {
-            let device = read_device(line, c, behind);
-            let file = read_file(line, behind, next);
-            HeadNumbers {
-                present: true,
-                word: device.word,
-                unit: device.unit,
-                file,
-            }
-        }
-        Passing::Refused(_) => {
-            let file = read_file(line, c, next);
-            HeadNumbers {
-                present: false,
-                word: 0,
-                unit: 0,
-                file,
-            }
-        }
+        extension: extension.word,
+        next,
     }
 }

@@ -7,15 +7,13 @@ mod switch;
 ghost use mathlib.Core.Path.{_≡_};
 ghost use Prim.Native.Nat.{_≤_};
 ghost use Rattle.command_grammar.specs.Keeps.{specificationKeeps};
-ghost use Rattle.command_grammar.specs.Reader.{device, head, specification, from};
+ghost use Rattle.command_grammar.specs.Reader.{specification, from};
 ghost use Rattle.command_parts.specs.Numbers.{bit, presentBits};
-ghost use Rattle.command_parts.specs.Specified.{PartsAt};
-ghost use Rattle.command_parts.specs.Ends.{EndsAt, NumbersAt};
-ghost use Rattle.command_parts.specs.Passed.{brackets, passing, unitOfDevice, keepsOf, Stands};
+ghost use Rattle.command_parts.specs.Specified.{withSwitches, PartsAt};
+ghost use Rattle.command_parts.specs.Passed.{passing, keepsOf};
 use command_cursor::Cursor;
 use command_cursor::Part;
 use passing::Passing;
-use switch::SwitchesRead;
 
 // A specification in the paper's numbers; those of absent parts are 0.
 pub struct Numbers {
@@ -30,16 +28,17 @@ pub struct Numbers {
     pub switches: usize,
 }
 
-// A specification that was read: its numbers, where its switches begin, and how many values they have in all.
-pub struct Specified {
-    pub numbers: Numbers,
-    pub start: Cursor,
-    pub values: usize,
-}
-
-pub enum PartsRead {
-    Read(Specified, Cursor),
-    Refused(usize),
+// The numbers of a specification but for how many switches it has, and where its switches begin.
+pub struct Parts {
+    pub present: usize,
+    pub device: usize,
+    pub unit: usize,
+    pub name1: usize,
+    pub name2: usize,
+    pub extension: usize,
+    pub group: usize,
+    pub user: usize,
+    pub next: Cursor,
 }
 
 fn bit(present: bool) -> usize
@@ -55,21 +54,6 @@ fn present_bits(device: bool, name: bool, extension: bool, uic: bool) -> usize
     bit(device) + (2 * bit(name) + (4 * bit(extension) + 8 * bit(uic)))
 }
 
-// Where the parts of a specification end, and how many switches there are, with how many values in all; and whether its numbers keep their bounds.
-pub struct PartEnds {
-    pub device: Passing,
-    pub head: Cursor,
-    pub brackets: Cursor,
-    pub switches: usize,
-    pub values: usize,
-    pub keeps: bool,
-}
-
-pub enum EndsRead {
-    Read(PartEnds, Cursor),
-    Refused(usize),
-}
-
 // Whether the unit of a device that was passed over keeps its bound, if there is one.
 fn unit_keeps(device: Passing) -> bool
     ensures { λ r. ⌜ r ≡ keepsOf device ⌝ }
@@ -80,32 +64,23 @@ fn unit_keeps(device: Passing) -> bool
     }
 }
 
-fn find_parts(line: &[u8], c: Cursor) -> EndsRead
-    ensures { λ r. ⌜ EndsAt (now (line .entry)) (c .at) r ⌝ }
+// Where the specification ends, and whether its numbers keep their bounds, for those who ask nothing else of it.
+pub fn pass_parts(line: &[u8], c: Cursor) -> Passing
+    ensures { λ r. ⌜ r ≡ passing specificationKeeps (from specification (now (line .entry)) (c .at)) ⌝ }
 {
     let device = front::pass_device(line, c);
     let h = front::pass_head(line, c, device);
     match h {
-        Part::Refused(place) => EndsRead::Refused(place),
+        Part::Refused(place) => Passing::Refused(place),
         Part::Read(head) => {
             let u = bracket::pass_uic(line, head);
             match u {
-                Passing::Refused(place) => EndsRead::Refused(place),
+                Passing::Refused(place) => Passing::Refused(place),
                 Passing::Read(brackets, keeps) => {
-                    let w = switch::read_switches(line, brackets, 0, 0);
+                    let w = switch::pass_switches(line, brackets);
                     match w {
-                        SwitchesRead::Refused(place) => EndsRead::Refused(place),
-                        SwitchesRead::Read(counts, next) => EndsRead::Read(
-                            PartEnds {
-                                device,
-                                head,
-                                brackets,
-                                switches: counts.switches,
-                                values: counts.values,
-                                keeps: unit_keeps(device) & keeps,
-                            },
-                            next,
-                        ),
+                        Part::Refused(place) => Passing::Refused(place),
+                        Part::Read(next) => Passing::Read(next, unit_keeps(device) & keeps),
                     }
                 }
             }
@@ -113,57 +88,42 @@ fn find_parts(line: &[u8], c: Cursor) -> EndsRead
     }
 }
 
-// Where the specification ends, and whether its numbers keep their bounds, for those who ask nothing else of it.
-pub fn pass_parts(line: &[u8], c: Cursor) -> Passing
-    ensures { λ r. ⌜ r ≡ passing specificationKeeps (from specification (now (line .entry)) (c .at)) ⌝ }
+// The parts of the specification at the cursor, of which it is known that it is in the grammar.
+pub fn read_parts(line: &[u8], c: Cursor) -> Parts
+    ensures { λ r. ⌜ PartsAt (now (line .entry)) (c .at) r ⌝ }
 {
-    let found = find_parts(line, c);
-    match found {
-        EndsRead::Refused(place) => Passing::Refused(place),
-        EndsRead::Read(ends, next) => Passing::Read(next, ends.keeps),
-    }
-}
-
-fn make_numbers(line: &[u8], c: Cursor, ends: PartEnds) -> Numbers
-    requires { ⌜ ends .device ≡ passing unitOfDevice (from device (now line) (c .at)) ⌝ }
-    requires { ⌜ Stands head (now line) (c .at) (ends .head .at) × Stands brackets (now line) (ends .head .at) (ends .brackets .at) ⌝ }
-    ensures { λ r. ⌜ NumbersAt (now (line .entry)) (c .at) ends r ⌝ }
-{
-    let device = ends.device;
-    let middle = ends.head;
-    let head = front::read_head(line, c, device, middle);
-    let file = head.file;
-    let uic = bracket::read_uic(line, middle, ends.brackets);
-    Numbers {
-        present: present_bits(head.present, file.present, file.extended, uic.present),
-        device: head.word,
-        unit: head.unit,
+    let device = front::read_device(line, c);
+    let behind = device.next;
+    let file = front::read_file(line, behind);
+    let head = file.next;
+    let uic = bracket::read_uic(line, head);
+    let next = uic.next;
+    Parts {
+        present: present_bits(device.present, file.present, file.extended, uic.present),
+        device: device.word,
+        unit: device.unit,
         name1: file.name1,
         name2: file.name2,
         extension: file.extension,
         group: uic.group,
         user: uic.user,
-        switches: ends.switches,
+        next,
     }
 }
 
-pub fn read_parts(line: &[u8], c: Cursor) -> PartsRead
-    ensures { λ r. ⌜ PartsAt (now (line .entry)) (c .at) r ⌝ }
+// The numbers of a specification with so many switches.
+pub fn with_switches(parts: Parts, switches: usize) -> Numbers
+    ensures { λ r. ⌜ r ≡ withSwitches parts switches ⌝ }
 {
-    let found = find_parts(line, c);
-    match found {
-        EndsRead::Refused(place) => PartsRead::Refused(place),
-        EndsRead::Read(ends, next) => {
-            let numbers = make_numbers(line, c, ends);
-            let start = ends.brackets;
-            PartsRead::Read(
-                Specified {
-                    numbers,
-                    start,
-                    values: ends.values,
-                },
-                next,
-            )
-        }
+    Numbers {
+        present: parts.present,
+        device: parts.device,
+        unit: parts.unit,
+        name1: parts.name1,
+        name2: parts.name2,
+        extension: parts.extension,
+        group: parts.group,
+        user: parts.user,
+        switches,
     }
 }

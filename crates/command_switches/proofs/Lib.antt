@@ -4,4 +4,6 @@ pub mod SwitchesWrittenWords
 pub mod SwitchesWrittenNames
 pub mod SwitchesWrittenStanding
 pub mod SwitchesWrittenParts
+pub mod SwitchesWrittenLoops
 pub mod EncodedRoom
+pub mod SwitchesMeasured

@@ -101,10 +101,11 @@ module _ (line : List ℕ) (at : ℕ) (next : Cursor) (behind : next .at ≡ beh
 
 -- Switches.
 
-pub no-switches : (line : List ℕ) (at i p : ℕ) (before : List ℕ) → partAt at (oneCharacter (is slash) (drop at line)) ≡ P.Refused p → SwitchesWritten line at i before before
+pub no-switches : (line : List ℕ) (at i count p : ℕ) (before : List ℕ) → partAt at (oneCharacter (is slash) (drop at line)) ≡ P.Refused p
+    → SwitchesWritten line at i count before count before
 unfolding setWords allSwitchWords
-no-switches line at i p before refused = record {
-  done = λ switches end stand. let n = switches-none line at switches end stand p (missed slash line at p refused) in rw (n .0);
+no-switches line at i count p before refused = record {
+  done = λ switches end stand. let n = switches-none line at switches end stand p (missed slash line at p refused) in (rw (n .0), rw (n .0) (omega arith));
 }
 
 module _ (line : List ℕ) (at : ℕ) (a : Cursor) (read : partAt at (oneCharacter (is slash) (drop at line)) ≡ P.Read a) where
@@ -155,17 +156,20 @@ module _ (line : List ℕ) (at : ℕ) (a : Cursor) (read : partAt at (oneCharact
           short = fit .short;
         }
 
-    pub switches-written : (after : List ℕ) → SwitchesWritten line (r .next .at) (i + 3 + 2 * r .values) first after → SwitchesWritten line at i before after
+    pub switches-written : (count r′ : ℕ) (after : List ℕ) → SwitchesWritten line (r .next .at) (i + 3 + 2 * r .values) (count + 1) first r′ after
+        → SwitchesWritten line at i count before r′ after
     unfolding allSwitchWords
-    switches-written after rest = record {
+    switches-written count r′ after rest = record {
       done = λ switches end stand.
           let m = more-switches switches end stand in
           let w = mkSwitch (nameAt line (a .at)) (m .values) in
           let d = set .done (m .values) (m .middle) (m .behind) in
           let e = rest .done (m .rest) end (rw (d .2) (m .then)) in
-          let next : i + 3 + 2 * r .values ≡ i + length (switchWords w) = omega (arith, d .1, switch-length w) in
-          words-joined (switchWords w) (allSwitchWords (m .rest)) before first after i (i + 3 + 2 * r .values) next (d .0) e
-          ∙ ap (λ (l : List Switch). setWords before i (allSwitchWords l)) (sym (m .all));
+          let next : i + 3 + 2 * r .values ≡ i + length (switchWords w) = omega (arith, d .1, switch-length w) in (
+            words-joined (switchWords w) (allSwitchWords (m .rest)) before first after i (i + 3 + 2 * r .values) next (d .0) (e .0)
+                ∙ ap (λ (l : List Switch). setWords before i (allSwitchWords l)) (sym (m .all)),
+            omega (arith, e .1, ap (λ (l : List Switch). length l) (m .all)),
+          );
     }
 
 -- The whole: from the start of the buffer.
@@ -175,10 +179,11 @@ module _ (line : List ℕ) (at : ℕ) where
   unfolding encoded
   all-asked room w = record { switches = w .switches; end = w .end; stand = w .stand; fits = omega (arith, w .fits, bytes-length (allSwitchWords (w .switches))); short = w .short }
 
-  pub all-written : (before after : List ℕ) → SwitchesWritable line at (length before) → SwitchesWritten line at 0 before after
-      → (ws : List Switch) (end : ℕ) → from (many (is slash) switch) line at ≡ ok ws end → after ≡ encoded ws ++ drop (length (encoded ws)) before
+  pub all-written : (before : List ℕ) (r : ℕ) (after : List ℕ) → SwitchesWritable line at (length before) → SwitchesWritten line at 0 0 before r after
+      → (ws : List Switch) (end : ℕ) → from (many (is slash) switch) line at ≡ ok ws end → (after ≡ encoded ws ++ drop (length (encoded ws)) before) × (r ≡ length ws)
   unfolding encoded
-  all-written before after w written ws end stand =
+  all-written before r after w written ws end stand =
       let e = sym (w .stand) ∙ stand in
       let same : w .switches ≡ ws = cc in
-      written .done ws end stand ∙ from-start (allSwitchWords ws) before (rw (← same) (w .fits))
+      let d = written .done ws end stand in
+      (d .0 ∙ from-start (allSwitchWords ws) before (rw (← same) (w .fits)), omega (arith, d .1))

@@ -53,8 +53,10 @@ pub record SwitchesFit (line : List ℕ) (at i room : ℕ) : Type 0 where
   pub fits : 2 * (i + length (allSwitchWords switches)) ≤ room
   pub short : length line ≤ 65535
 
-pub record SwitchesWritten (line : List ℕ) (at i : ℕ) (before after : List ℕ) : Type 0 where
-  pub done : (switches : List Switch) (end : ℕ) → from (many (is slash) switch) line at ≡ ok switches end → after ≡ setWords before i (allSwitchWords switches)
+-- `count` switches stood before these
+pub record SwitchesWritten (line : List ℕ) (at i count : ℕ) (before : List ℕ) (r : ℕ) (after : List ℕ) : Type 0 where
+  pub done : (switches : List Switch) (end : ℕ) → from (many (is slash) switch) line at ≡ ok switches end
+      → (after ≡ setWords before i (allSwitchWords switches)) × (r ≡ count + length switches)
 
 -- What the writing of switches counts on: they stand at a place of the line, and there is room for their bytes.
 -- A value takes two characters or more, so that in a line of up to 65535 the number of values is a word.

@@ -1,5 +1,4 @@
 // The bytes of a specification's switches, written into a lent buffer.
-use command_cursor::Class;
 use command_cursor::Cursor;
 use command_cursor::Part;
 use command_cursor::characters::COLON;
@@ -14,12 +13,56 @@ ghost use Rattle.command_grammar.specs.LineCharacters.{slash};
 ghost use Rattle.command_grammar.specs.Parsed.{Switch};
 ghost use Rattle.command_grammar.specs.Reader.{is, ok, many, switch, from};
 ghost use Rattle.command_switches.specs.Encoded.{encoded};
-ghost use Rattle.command_switches.specs.SwitchesWritten.{SwitchesWritable, setWords, nameAt, behindName, nameWords, ValuesFit, ValuesWritten, SwitchWritten, SwitchesFit, SwitchesWritten};
+ghost use Rattle.command_switches.specs.SwitchesMeasured.{BehindName};
+ghost use Rattle.command_switches.specs.SwitchesWritten.{SwitchesWritable, setWords, nameAt, behindName, nameWords, ValuesFit, ValuesWritten, SwitchWritten};
 
 // How many values were written, and where the cursor stands then.
 pub struct WrittenValues {
     pub values: usize,
     pub next: Cursor,
+}
+
+// The bytes of the values at the cursor and of the switches behind them, on top of so many: 4 for each value, 6 for each switch.
+fn measure_from(line: &[u8], c: Cursor, bytes: usize) -> usize
+    requires { ⌜ (length (now line) ≤ 65535) × (bytes ≤ 6 * c .at) ⌝ }
+    ensures { λ r. ⌜ ((n : ℕ) → BehindName (now (line .entry)) (c .at) n → r ≡ bytes + n) ⌝ }
+{
+    let mut here = c;
+    let mut sum = bytes;
+    loop {
+        let colon = here.one(line, COLON);
+        match colon {
+            Part::Read(start) => {
+                here = start.named(line, 6);
+                sum += 4;
+            }
+            Part::Refused(_) => {
+                let slash = here.one(line, SLASH);
+                match slash {
+                    Part::Refused(_) => return sum,
+                    Part::Read(start) => {
+                        here = start.named(line, 6);
+                        sum += 6;
+                    }
+                }
+            }
+        }
+    }
+}
+
+// How many bytes the switches at the cursor take.
+pub fn measure(line: &[u8], c: Cursor) -> usize
+    requires { ⌜ length (now line) ≤ 65535 ⌝ }
+    ensures { λ r. ⌜ ((ws : List Switch) (end : ℕ) → from (many (is slash) switch) (now (line .entry)) (c .at) ≡ ok ws end → r ≡ length (encoded ws)) ⌝ }
+{
+    let slash = c.one(line, SLASH);
+    match slash {
+        Part::Refused(_) => 0,
+        Part::Read(start) => {
+            let name = start.named(line, 6);
+            measure_from(line, name, 6)
+        }
+    }
 }
 
 // "two name words", "two words per value": the name or value at the cursor, as the words i and i + 1.
@@ -29,7 +72,7 @@ fn write_name(line: &[u8], c: Cursor, buffer: &mut [u8], i: usize) -> Cursor
     ensures { λ r. ⌜ now (buffer .exit) ≡ setWords (now (buffer .entry)) i (nameWords (nameAt (now (line .entry)) (c .at))) ⌝ }
 {
     let first = c.at;
-    let next = c.run(line, Class::LetterOrDigit, 6);
+    let next = c.named(line, 6);
     let end = next.at;
     let words = name_words(line, first, end);
     set_word(buffer, i, words.first);
@@ -37,20 +80,28 @@ fn write_name(line: &[u8], c: Cursor, buffer: &mut [u8], i: usize) -> Cursor
     next
 }
 
-// The values at the cursor, from word i on; `count` values of the switch stand before them.
-fn write_values(line: &[u8], c: Cursor, buffer: &mut [u8], i: usize, count: usize) -> WrittenValues
-    requires { ⌜ (count ≤ c .at) × (c .at ≤ length (now line)) × ValuesFit (now line) (c .at) i (length (now buffer)) ⌝ }
-    ensures { λ r. ⌜ ValuesWritten (now (line .entry)) (c .at) i count (now (buffer .entry)) r (now (buffer .exit)) ⌝ }
+// The values at the cursor, from word i on.
+fn write_values(line: &[u8], c: Cursor, buffer: &mut [u8], i: usize) -> WrittenValues
+    requires { ⌜ (c .at ≤ length (now line)) × ValuesFit (now line) (c .at) i (length (now buffer)) ⌝ }
+    ensures { λ r. ⌜ ValuesWritten (now (line .entry)) (c .at) i 0 (now (buffer .entry)) r (now (buffer .exit)) ⌝ }
 {
-    let colon = c.one(line, COLON);
-    match colon {
-        Part::Refused(_) => WrittenValues {
-            values: count,
-            next: c,
-        },
-        Part::Read(start) => {
-            let next = write_name(line, start, buffer, i);
-            write_values(line, next, buffer, i + 2, count + 1)
+    let mut here = c;
+    let mut place = i;
+    let mut count = 0;
+    loop {
+        let colon = here.one(line, COLON);
+        match colon {
+            Part::Refused(_) => {
+                return WrittenValues {
+                    values: count,
+                    next: here,
+                };
+            }
+            Part::Read(start) => {
+                here = write_name(line, start, buffer, place);
+                place += 2;
+                count += 1;
+            }
         }
     }
 }
@@ -61,31 +112,31 @@ fn write_switch(line: &[u8], c: Cursor, buffer: &mut [u8], i: usize) -> WrittenV
     ensures { λ r. ⌜ SwitchWritten (now (line .entry)) (c .at) i (now (buffer .entry)) r (now (buffer .exit)) ⌝ }
 {
     let next = write_name(line, c, buffer, i + 1);
-    let written = write_values(line, next, buffer, i + 3, 0);
+    let written = write_values(line, next, buffer, i + 3);
     set_word(buffer, i, written.values);
     written
 }
 
-// The switches at the cursor, from word i of the buffer on.
-fn write_from(line: &[u8], c: Cursor, buffer: &mut [u8], i: usize)
-    requires { ⌜ SwitchesFit (now line) (c .at) i (length (now buffer)) ⌝ }
-    ensures { λ r. ⌜ SwitchesWritten (now (line .entry)) (c .at) i (now (buffer .entry)) (now (buffer .exit)) ⌝ }
-{
-    let slash = c.one(line, SLASH);
-    match slash {
-        Part::Refused(_) => {}
-        Part::Read(start) => {
-            let written = write_switch(line, start, buffer, i);
-            write_from(line, written.next, buffer, i + 3 + 2 * written.values)
-        }
-    }
-}
-
 // "writes per switch a word with the number of values, two name words, two words per value, each word as two bytes, low first. The bytes behind stay."
-pub fn write_switches(line: &[u8], c: Cursor, buffer: &mut [u8])
+// Answers how many switches there are.
+pub fn write_switches(line: &[u8], c: Cursor, buffer: &mut [u8]) -> usize
     requires { ⌜ SwitchesWritable (now line) (c .at) (length (now buffer)) ⌝ }
     ensures { λ r. ⌜ ((ws : List Switch) (end : ℕ) → from (many (is slash) switch) (now (line .entry)) (c .at) ≡ ok ws end
-        → now (buffer .exit) ≡ encoded ws ++ drop (length (encoded ws)) (now (buffer .entry))) ⌝ }
+        → (now (buffer .exit) ≡ encoded ws ++ drop (length (encoded ws)) (now (buffer .entry))) × (r ≡ length ws)) ⌝ }
 {
-    write_from(line, c, buffer, 0)
+    let mut here = c;
+    let mut count = 0;
+    let mut i = 0;
+    loop {
+        let slash = here.one(line, SLASH);
+        match slash {
+            Part::Refused(_) => return count,
+            Part::Read(start) => {
+                let written = write_switch(line, start, buffer, i);
+                here = written.next;
+                i = i + 3 + 2 * written.values;
+                count += 1;
+            }
+        }
+    }
 }

@@ -1,23 +1,30 @@
 -- Rests on `FilledWord`: the three codes that `code_at` gives are those of the characters, filled up with blanks; packed they are the word.
 use borrow.Author.Needs.{needs}
-use Rattle.command_cursor.proofs.FilledWord.{word-given}
+use native.Mathlib.Omega.{arith}
+use Rattle.command_cursor.proofs.FilledWord.{named-at, word-given}
 use Rattle.command_cursor.proofs.word_of.Statement.{statement}
 use Rattle.command_cursor.proofs.word_of.Tie as tie
 
 code-at-requires : tie.Need-code-at-requires
-code-at-requires c κs = search needs
+code-at-requires c κs =
+    let pre = c .before .pre in
+    (pre .0 .1, λ below. named-at _ _ _ (pre .0 .0) (pre .0 .1) (pre .1 .1) _ (omega arith) below)
 
 add-code-at : tie.Need-add-code-at
 add-code-at c = search needs
 
 code-at-requires-2 : tie.Need-code-at-requires-2
-code-at-requires-2 c κs = search needs
+code-at-requires-2 c κs =
+    let pre = c .before .before .pre in
+    (pre .0 .1, λ below. named-at _ _ _ (pre .0 .0) (pre .0 .1) (pre .1 .1) _ (omega arith) below)
 
 add-code-at-2 : tie.Need-add-code-at-2
 add-code-at-2 c = search needs
 
 code-at-requires-3 : tie.Need-code-at-requires-3
-code-at-requires-3 c κs = search needs
+code-at-requires-3 c κs =
+    let pre = c .before .before .before .pre in
+    (pre .0 .1, λ below. named-at _ _ _ (pre .0 .0) (pre .0 .1) (pre .1 .1) _ (omega arith) below)
 
 pack-requires : tie.Need-pack-requires
 pack-requires c κs = search needs

@@ -1,34 +1,33 @@
--- Rests on `Ends`: the parts that `find_parts` found stand there, and `make_numbers` makes the numbers of the whole of them.
+-- Rests on `Specified`: the numbers of the parts are those of the whole, and its switches begin where the brackets end.
 use borrow.Author.Needs.{needs}
-use Rattle.command_parts.proofs.Ends.{parts-stand, parts-refused, parts-found}
+use Rattle.command_parts.proofs.Specified.{parts-made}
+use borrow.Author.Needs.{needs}
 use Rattle.command_parts.proofs.read_parts.Statement.{statement}
 use Rattle.command_parts.proofs.read_parts.Tie as tie
 
-find-parts-requires : tie.Need-find-parts-requires
-find-parts-requires c κs = search needs
+read-device-requires : tie.Need-read-device-requires
+read-device-requires c κs = search needs
 
-enum-known-found : tie.Need-enum-known-found
-enum-known-found c = search needs
+read-file-requires : tie.Need-read-file-requires
+read-file-requires c κs = search needs
 
-enum-known-found-2 : tie.Need-enum-known-found-2
-enum-known-found-2 c = search needs
+read-uic-requires : tie.Need-read-uic-requires
+read-uic-requires c κs = search needs
 
-make-numbers-requires : tie.Need-make-numbers-requires
-make-numbers-requires c κs = parts-stand _ (c .before .before .before .find-parts .ensures) (c .before .found2 .given .1)
+present-bits-requires : tie.Need-present-bits-requires
+present-bits-requires c κs = search needs
 
 returns : tie.Need-returns
-returns c = parts-refused _ (c .before .before .before .find-parts .ensures) (c .before .found .given .1)
-
-returns-2 : tie.Need-returns-2
-returns-2 c = parts-found _ (c .before .before .before .before .before .find-parts .ensures) (c .before .before .before .found2 .given .1) (c .before .make-numbers .ensures)
+returns c =
+    let p = c .before .before in
+    parts-made _ _ _ (p .before .before .before .before .read-device .ensures) _ (p .before .before .read-file .ensures) _ (p .read-uic .ensures) (c .present-bits .ensures)
 
 pub read-parts-spec : {M : Type 1} → statement M
 read-parts-spec =
     tie.close
     (tie.spec
-    find-parts-requires
-    enum-known-found
-    enum-known-found-2
-    make-numbers-requires
-    returns
-    returns-2)
+    read-device-requires
+    read-file-requires
+    read-uic-requires
+    present-bits-requires
+    returns)

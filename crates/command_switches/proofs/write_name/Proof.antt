@@ -7,15 +7,15 @@ use Rattle.command_switches.proofs.SwitchesWrittenNames.{end-behind, na
 use Rattle.command_switches.proofs.write_name.Statement.{statement}
 use Rattle.command_switches.proofs.write_name.Tie as tie
 
-run-requires : tie.Need-run-requires
-run-requires c κs = search needs
+named-requires : tie.Need-named-requires
+named-requires c κs = search needs
 
 name-words-requires : tie.Need-name-words-requires
 name-words-requires c κs =
     let line = c .before .before .before .args .line .now in
     let at = c .before .before .before .args .c .at in
-    let end = c .run .result .at in
-    let e = c .run .ensures in (
+    let end = c .named .result .at in
+    let e = c .named .ensures in (
       (run-up isLetterOrDigit 6 line at end e, run-within isLetterOrDigit 6 line at end e (c .before .before .before .pre .0)),
       (run-most isLetterOrDigit 6 line at end e 65 refl, named-run 6 line at end e),
     )
@@ -36,8 +36,8 @@ returns : tie.Need-returns
 returns c =
     let line = c .before .before .before .before .before .before .before .before .before .before .before .before .args .line .now in
     let at = c .before .before .before .before .before .before .before .before .before .before .before .before .args .c .at in
-    let end = c .before .before .before .before .before .before .before .before .before .run .result .at in
-    let e = c .before .before .before .before .before .before .before .before .before .run .ensures in
+    let end = c .before .before .before .before .before .before .before .before .before .named .result .at in
+    let e = c .before .before .before .before .before .before .before .before .before .named .ensures in
     let words = c .before .before .before .before .before .before .before .before .name-words in
     let first = c .before .before .before .before .before .before .set-word .ensures in
     (end-behind line at end e, name-written line at end e _ _ _ _ (words .result) (words .ensures .0) first (c .before .before .set-word2 .ensures))
@@ -46,7 +46,7 @@ pub write-name-spec : {M : Type 1} → statement M
 write-name-spec =
     tie.close
     (tie.spec
-    run-requires
+    named-requires
     name-words-requires
     set-word-requires
     add-set-word

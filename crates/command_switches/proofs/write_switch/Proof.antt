@@ -19,7 +19,7 @@ write-values-requires c κs =
     let s = c .before .before .before .before .before .before .before in
     let w = c .before .before .before .write-name in
     let behind = behind-name (s .args .line .now) (s .args .c .at) (w .result) (w .ensures .0) (s .pre .0) in
-    (omega arith, behind, its-values-asked (s .args .line .now) (s .args .c .at) (w .result) (w .ensures .0) _ _ _ (w .kept .1 .1 .0) (s .pre .2))
+    (behind, its-values-asked (s .args .line .now) (s .args .c .at) (w .result) (w .ensures .0) _ _ _ (w .kept .1 .1 .0) (s .pre .2))
 
 set-word-requires : tie.Need-set-word-requires
 set-word-requires c κs = search needs

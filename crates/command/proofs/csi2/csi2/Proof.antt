@@ -1,6 +1,6 @@
 -- Rests on `Csi2Stage`: a law for each return, from what `read_line` located and what `give` gave of the specification there.
 use borrow.Author.Needs.{needs}
-use Rattle.command.proofs.Csi2Stage.{line-long, line-wrong, line-large, none-there, one-there}
+use Rattle.command.proofs.Csi2Stage.{line-long, line-wrong, line-large, none-there, standing, one-there}
 use Rattle.command.proofs.csi2.csi2.Statement.{statement}
 use Rattle.command.proofs.csi2.csi2.Tie as tie
 
@@ -23,7 +23,9 @@ enum-known-located-2 : tie.Need-enum-known-located-2
 enum-known-located-2 c = search needs
 
 give-requires : tie.Need-give-requires
-give-requires c κs = search needs
+give-requires c κs =
+    let p = c .before .before in
+    (p .before .before .before .if1 .left, standing (p .before .before .read-line .ensures) (p .located2 .given .1))
 
 returns-2 : tie.Need-returns-2
 returns-2 c = line-wrong _ (c .before .before .before .before .if1 .left) (c .before .before .before .read-line .ensures) (c .before .located .given .1)

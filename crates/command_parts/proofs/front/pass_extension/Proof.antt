@@ -14,19 +14,19 @@ enum-told c = search needs
 enum-known-p : tie.Need-enum-known-p
 enum-known-p c = search needs
 
-run-requires : tie.Need-run-requires
-run-requires c κs = search needs
+named-requires : tie.Need-named-requires
+named-requires c κs = search needs
 
 returns : tie.Need-returns
-returns c = pass-short-extension _ _ _ (sym (c .before .before .before .before .before .one .ensures) ∙ c .before .before .before .p .given .1) _ (c .before .run .ensures) (c .if1 .taken)
+returns c = pass-short-extension _ _ _ (sym (c .before .before .before .before .before .one .ensures) ∙ c .before .before .before .p .given .1) _ (c .before .named .ensures) (c .if1 .taken)
 
 returns-2 : tie.Need-returns-2
 returns-2 c = pass-no-extension _ _ _ (sym (c .before .before .one .ensures) ∙ c .enum-told .given .1)
 
 returns-3 : tie.Need-returns-3
-returns-3 c = pass-extension _ _ _ (sym (c .before .before .before .before .before .one .ensures) ∙ c .before .before .before .p .given .1) _ (c .before .run .ensures) (c .if1 .left)
+returns-3 c = pass-extension _ _ _ (sym (c .before .before .before .before .before .one .ensures) ∙ c .before .before .before .p .given .1) _ (c .before .named .ensures) (c .if1 .left)
 
 pub pass-extension-spec : {M : Type 1} → statement M
 pass-extension-spec =
     tie.close
-    (tie.spec one-requires enum-told enum-known-p run-requires returns returns-2 returns-3)
+    (tie.spec one-requires enum-told enum-known-p named-requires returns returns-2 returns-3)

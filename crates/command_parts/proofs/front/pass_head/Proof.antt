@@ -8,8 +8,8 @@ use Rattle.command_parts.proofs.front.pass_head.Tie as tie
 enum-known-d : tie.Need-enum-known-d
 enum-known-d c = search needs
 
-run-requires : tie.Need-run-requires
-run-requires c κs = search needs
+named-requires : tie.Need-named-requires
+named-requires c κs = search needs
 
 pass-named-requires : tie.Need-pass-named-requires
 pass-named-requires c κs = search needs
@@ -17,11 +17,11 @@ pass-named-requires c κs = search needs
 enum-known-d-2 : tie.Need-enum-known-d-2
 enum-known-d-2 c = search needs
 
-run-requires-2 : tie.Need-run-requires-2
-run-requires-2 c κs = search needs
+named-requires-2 : tie.Need-named-requires-2
+named-requires-2 c κs = search needs
 
 returns : tie.Need-returns
-returns c = pass-neither _ _ _ _ (c .before .run2 .ensures) (sym (c .before .before .before .before .before .before .pre) ∙ c .before .before .before .d2 .given .1) (c .if1 .taken)
+returns c = pass-neither _ _ _ _ (c .before .named2 .ensures) (sym (c .before .before .before .before .before .before .pre) ∙ c .before .before .before .d2 .given .1) (c .if1 .taken)
 
 pass-named-requires-2 : tie.Need-pass-named-requires-2
 pass-named-requires-2 c κs = search needs
@@ -32,17 +32,17 @@ returns-2 c = c .pass-named .ensures ∙ pass-with _ _ _ _ (sym (c .before .befo
 returns-3 : tie.Need-returns-3
 returns-3 c =
     let p = c .before .before .before .before in
-    c .pass-named2 .ensures ∙ pass-without _ _ _ _ (c .before .before .run2 .ensures) (sym (p .before .before .before .pre) ∙ p .d2 .given .1) (c .before .if1 .left)
+    c .pass-named2 .ensures ∙ pass-without _ _ _ _ (c .before .before .named2 .ensures) (sym (p .before .before .before .pre) ∙ p .d2 .given .1) (c .before .if1 .left)
 
 pub pass-head-spec : {M : Type 1} → statement M
 pass-head-spec =
     tie.close
     (tie.spec
     enum-known-d
-    run-requires
+    named-requires
     pass-named-requires
     enum-known-d-2
-    run-requires-2
+    named-requires-2
     returns
     pass-named-requires-2
     returns-2
