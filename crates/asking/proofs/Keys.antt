@@ -9,7 +9,7 @@ use native.Mathlib.Omega.{arith}
 use native.Mathlib.Decide.{ℕ-discrete, decLt}
 use borrow.Author.Tests.{eq-eqb, ne-eqb}
 use Rattle.radix.specs.Names.{LegalName, LegalExtension}
-use Rattle.radix.specs.NamesTest.{legalName}
+use Rattle.radix.specs.NamesTest.{legalName, legalExtension}
 use Rattle.radix.proofs.Names.{name-iff, extension-iff, name-not-zero}
 use Rattle.pack.specs.declared.Geometry.{Geometry}
 use Rattle.pack.specs.declared.Key.{Key}
@@ -19,7 +19,7 @@ use Rattle.pack.specs.Consistent.{Consistent}
 use Rattle.pack.specs.KeyTest.{sameKey}
 use Rattle.pack.specs.Key.{keyIn, SameKey}
 use Rattle.pack.proofs.KeySame.{same-key-iff}
-use Rattle.answers.proofs.RefusalsTests.{and-left, and-right, and-both, true-not-false}
+use Rattle.answers.proofs.RefusalsTests.{and-left, and-right, and-both, go-on, stop, true-not-false}
 use Rattle.asking.specs.KeysTest.{legalKey, findFrom, found}
 use Rattle.asking.specs.Keys.{keyOf}
 
@@ -40,6 +40,14 @@ legal-iff key = (
   λ t. (name-iff _ _ .0 (and-left (legalName (key .name1) (key .name2)) _ t), extension-iff _ .0 (and-right (legalName (key .name1) (key .name2)) _ t)),
   λ l. and-both (name-iff _ _ .1 (l .0)) (extension-iff _ .1 (l .1)),
 )
+
+pub legal-not : (key : Key) → legalName (key .name1) (key .name2) ≡ false → false ≡ legalKey key
+unfolding legalKey
+legal-not key h = stop _ _ h
+
+pub legal-then : (key : Key) (answer : Bool) → legalName (key .name1) (key .name2) ≡ true → answer ≡ legalExtension (key .extension) → answer ≡ legalKey key
+unfolding legalKey
+legal-then key answer h e = go-on h e
 
 -- finding, step by step: among the entries that are left
 module _ (img : List ℕ) (g : Geometry) (key : Key) (e t : ℕ) (less : e < t) where

@@ -65,11 +65,10 @@ pub fn key_of(caller: usize, name1: usize, name2: usize, extension: usize, uic: 
 pub fn is_legal(key: Key) -> bool
     ensures { λ r. ⌜ r ≡ legalKey key ⌝ }
 {
-    radix::are_legal(
-        Radix50(key.name1),
-        Radix50(key.name2),
-        Radix50(key.extension),
-    )
+    if !radix::is_legal_name(Radix50(key.name1), Radix50(key.name2)) {
+        return false;
+    }
+    Radix50(key.extension).is_legal_extension()
 }
 
 pub fn find(img: &[u8], g: Geometry, key: Key) -> Found

@@ -1,9 +1,8 @@
 -- Readers at a place of a line: what the code's proofs cite.
-use Prim.Native.Nat.{ℕ, suc, zero, _+_, _-_, _≤_, _<_}
+use Prim.Native.Nat.{ℕ, suc, _+_, _-_, _≤_, _<_}
 use mathlib.Core.Path.{_≡_, refl, sym, ap, _∙_}
 use mathlib.Core.List.{List, [], _∷_}
-use mathlib.Core.Option.{Option, none, some}
-use mathlib.Core.Logic.{_⊎_, inl, inr}
+use mathlib.Core.Option.{none, some}
 use mathlib.Core.Bool.{Bool, true, false, cond}
 use native.Mathlib.Nat.{add-zero, le-refl}
 use native.Mathlib.Omega.{arith}
@@ -11,7 +10,7 @@ use lib.Dec.{leb}
 use borrow.Author.Tests.{le-leb, lt-leb, leb-true}
 use lib.ListN.{length, take, drop, length-drop}
 use lib.Seq.{drop-drop}
-use Rattle.command_grammar.specs.Reader.{is, Res, ok, no, used, later, mapped, andThen, seq, opt, manyBy, many, oneCharacter, word, span, spanAll, moved, from}
+use Rattle.command_grammar.specs.Reader.{is, Res, ok, no, used, later, mapped, andThen, seq, opt, manyBy, many, oneCharacter, word, moved, from}
 use Rattle.command_grammar.proofs.ReaderAgree.{agree-refl}
 use Rattle.command_grammar.proofs.ReaderTheory.{IsReader, Begins, many-near, taken, drop-shorter}
 
@@ -48,14 +47,6 @@ from-word a n s i l = rw (le-leb a (n (drop i s)) l)
 pub from-word-no : (a : ℕ) (n : List ℕ → ℕ) (s : List ℕ) (i : ℕ) → n (drop i s) < a → from (word a n) s i ≡ no (i + n (drop i s))
 unfolding from word
 from-word-no a n s i l = rw (lt-leb a (n (drop i s)) l)
-
--- a bound that is no bound
-pub span-long : (t : ℕ → Bool) (m : ℕ) (s : List ℕ) → length s ≤ m → span t m s ≡ spanAll t s
-unfolding span spanAll
-span-long t zero [] l = refl
-span-long t zero (x ∷ s) l = absurd (omega arith)
-span-long t (suc m) [] l = refl
-span-long t (suc m) (x ∷ s) l = ap (λ (n : ℕ). cond (t x) (suc n) 0) (span-long t m s (omega arith))
 
 -- a part that begins with the character c, by whether c stands there
 
@@ -176,16 +167,6 @@ module _ {A B C : Type 0} (k : A → B → C) (f : List ℕ → Res A) (g : List
 
   pub seq-both : (a : A) × (m : ℕ) × (b : B) × (from f s i ≡ ok a m) × (from g s m ≡ ok b j) × (c ≡ k a b)
   seq-both = both-from (from f s i) refl
-
-module _ {A : Type 0} (c : ℕ) (f : List ℕ → Res A) (s : List ℕ) (i : ℕ) {u : Option A} {j : ℕ} (h : from (opt (is c) f) s i ≡ ok u j) where
-  either-from : (r : Res ℕ) → from (oneCharacter (is c)) s i ≡ r → ((j ≡ i) × (u ≡ none)) ⊎ ((a : A) × (from f s i ≡ ok a j) × (u ≡ some a))
-  either-from (ok x m) e = inr (mapped-ok some (from f s i) (sym (from-opt-found c f s i x m e) ∙ h))
-  either-from (no p) e =
-      let w : ok none i ≡ ok u j = sym (from-opt-missed c f s i p e) ∙ h in
-      inl (cc, cc)
-
-  pub opt-either : ((j ≡ i) × (u ≡ none)) ⊎ ((a : A) × (from f s i ≡ ok a j) × (u ≡ some a))
-  opt-either = either-from (from (oneCharacter (is c)) s i) refl
 
 pub word-taken : (a : ℕ) (n : List ℕ → ℕ) (s : List ℕ) (i : ℕ) {w : List ℕ} {j : ℕ} → from (word a n) s i ≡ ok w j
     → (j ≡ i + n (drop i s)) × (w ≡ take (n (drop i s)) (drop i s)) × (a ≤ n (drop i s))

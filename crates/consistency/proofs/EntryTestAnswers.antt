@@ -1,6 +1,6 @@
 -- The answers of the code that tests one entry: what each has to show, from the tests that led to it.
 use Prim.Native.Nat.{ℕ, _≤_, _<_}
-use mathlib.Core.Path.{_≡_, refl, sym, ap, _∙_}
+use mathlib.Core.Path.{_≡_, sym, ap, _∙_}
 use mathlib.Core.Bool.{Bool, true, false, _&&_, and-true}
 use mathlib.Core.List.{List}
 use native.Mathlib.Omega.{arith}
@@ -15,7 +15,7 @@ use Rattle.pack.specs.declared.BlockNo.{BlockNo}
 use Rattle.pack.specs.HeaderTest.{listed}
 use Rattle.pack.specs.File.{blocksOf}
 use Rattle.pack.specs.Entry.{entryWord, entryOf, blocksAt, Empty}
-use Rattle.answers.proofs.RefusalsTests.{go-on, stop, first-fails, parts}
+use Rattle.answers.proofs.RefusalsTests.{go-on, stop}
 use Rattle.pack.proofs.EntryRead.{empty-blocks}
 use Rattle.consistency.specs.declared.Walked.{Walked}
 use Rattle.consistency.specs.declared.Walked.the-variants.{End, Stopped}
@@ -27,23 +27,19 @@ use Rattle.consistency.proofs.EntryTestWhole.{rest-iff}
 use Rattle.consistency.proofs.DifferTest.{new-empty}
 
 -- of the test of the name, the extension and the UIC of entry e, of which these words were read
-module _ (img : List ℕ) (g : Geometry) (e : ℕ) {name1 name2 extension : ℕ}
-    (is₀ : name1 ≡ entryWord img g e 0) (is₁ : name2 ≡ entryWord img g e 1) (is₂ : extension ≡ entryWord img g e 2) where
-  pub key-name : (legalName name1 name2 && legalExtension extension) ≡ false → false ≡ keyTest img (entryOf img g e)
+module _ (img : List ℕ) (g : Geometry) (e : ℕ) {name1 name2 : ℕ} (is₀ : name1 ≡ entryWord img g e 0) (is₁ : name2 ≡ entryWord img g e 1) where
+  pub key-name : legalName name1 name2 ≡ false → false ≡ keyTest img (entryOf img g e)
   unfolding keyTest entryOf
-  key-name wrong =
-      by (legalName (entryWord img g e 0) (entryWord img g e 1)) (legalExtension (entryWord img g e 2)) (listed img (entryWord img g e 3)) (rw (is₀, is₁, is₂) at wrong)
-    where
-      by : (a b c : Bool) → (a && b) ≡ false → false ≡ (a && (b && c))
-      by true b c fails = sym (first-fails c fails)
-      by false b c fails = refl
+  key-name wrong = stop _ _ (rw (is₀, is₁) at wrong)
 
-  pub key-uic : (legalName name1 name2 && legalExtension extension) ≡ true → (r : Bool) (uic : ℕ) → uic ≡ entryWord img g e 3 → r ≡ listed img uic
-      → r ≡ keyTest img (entryOf img g e)
-  unfolding keyTest entryOf
-  key-uic named r uic is₃ is =
-      let holds = parts (legalName (entryWord img g e 0) (entryWord img g e 1)) (legalExtension (entryWord img g e 2)) (rw (is₀, is₁, is₂) at named) in
-      go-on (holds .0) (go-on (holds .1) (rw is₃ at is))
+  module _ (named : legalName name1 name2 ≡ true) {extension : ℕ} (is₂ : extension ≡ entryWord img g e 2) where
+    pub key-extension : legalExtension extension ≡ false → false ≡ keyTest img (entryOf img g e)
+    unfolding keyTest entryOf
+    key-extension wrong = go-on (rw (is₀, is₁) at named) (stop _ _ (rw is₂ at wrong))
+
+    pub key-uic : legalExtension extension ≡ true → (r : Bool) (uic : ℕ) → uic ≡ entryWord img g e 3 → r ≡ listed img uic → r ≡ keyTest img (entryOf img g e)
+    unfolding keyTest entryOf
+    key-uic extended r uic is₃ is = go-on (rw (is₀, is₁) at named) (go-on (rw is₂ at extended) (rw is₃ at is))
 
 -- of the test of length and writer by the kind
 module _ (kind count writer : ℕ) where

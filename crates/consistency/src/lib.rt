@@ -5,7 +5,7 @@ ghost use mathlib.Core.Path.{_≡_};
 ghost use mathlib.Core.Bool.{true, _&&_};
 ghost use Prim.Native.Nat.{ℕ, _+_, _<_, _≤_};
 ghost use lib.ListN.{length, getD, replicate};
-ghost use Rattle.radix.specs.NamesTest.{legalName, legalExtension};
+ghost use Rattle.radix.specs.NamesTest.{legalName};
 ghost use Rattle.pack.specs.GeometrySized.{mostBlocks, Sized};
 ghost use Rattle.pack.specs.Geometry.{slots};
 ghost use Rattle.pack.specs.Header.{RightHeader};
@@ -82,19 +82,15 @@ fn walk(
     Walked::End(last, b)
 }
 
-// Most names and extensions fill their words: then nothing is to be said of blanks.
-fn is_name_right(first: Radix50, second: Radix50, extension: Radix50) -> bool
-    requires { ⌜ (first .0 < 65536) × (second .0 < 65536) × (extension .0 < 65536) ⌝ }
-    ensures { λ r. ⌜ r ≡ (legalName (first .0) (second .0) && legalExtension (extension .0)) ⌝ }
+// Most names fill their first word: then nothing is to be said of blanks behind it.
+fn is_name_right(first: Radix50, second: Radix50) -> bool
+    requires { ⌜ first .0 < 65536 ⌝ }
+    ensures { λ r. ⌜ r ≡ legalName (first .0) (second .0) ⌝ }
 {
     if first.is_filled() {
-        if second.is_filled() {
-            if extension.is_filled() {
-                return true;
-            }
-        }
+        return second.is_legal_extension();
     }
-    radix::are_legal(first, second, extension)
+    radix::is_legal_name(first, second)
 }
 
 fn is_key_right(img: &[u8], g: Geometry, e: usize) -> bool
@@ -105,7 +101,10 @@ fn is_key_right(img: &[u8], g: Geometry, e: usize) -> bool
     let first = Radix50(pack::entry_word(img, g, e, 0));
     let second = Radix50(pack::entry_word(img, g, e, 1));
     let extension = Radix50(pack::entry_word(img, g, e, 2));
-    if !is_name_right(first, second, extension) {
+    if !is_name_right(first, second) {
+        return false;
+    }
+    if !extension.is_legal_extension() {
         return false;
     }
     pack::is_listed(img, pack::entry_word(img, g, e, 3))
@@ -226,12 +225,26 @@ fn is_entry_right(img: &[u8], map: &mut [u8], marks: &mut [u8], g: Geometry, e: 
     differing::does_differ(img, marks, g, e)
 }
 
+// Is the last entry of all in use? Then no end is looked for; the answer only says how to look, and any would do.
+fn is_last_used(img: &[u8], g: Geometry, end: usize) -> bool
+    requires { ⌜ Sized (now img) g ⌝ }
+    requires { ⌜ end ≡ slots g ⌝ }
+{
+    if end < 1 {
+        return true;
+    }
+    pack::entry_word(img, g, end - 1, 0) != 0
+}
+
 // Behind the entries that are to be looked at one by one: the first empty one, if nothing but zeros follows, else the end.
 fn used_end(img: &[u8], g: Geometry) -> usize
     requires { ⌜ Sized (now img) g ⌝ }
     ensures { λ r. ⌜ UsedEnd (now (img .entry)) g r ⌝ }
 {
     let end = pack::slot_count(g);
+    if is_last_used(img, g, end) {
+        return end;
+    }
     let mut e = 0;
     while e < end {
         if pack::entry_word(img, g, e, 0) == 0 {

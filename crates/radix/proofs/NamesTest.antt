@@ -1,46 +1,29 @@
 -- The tests of names and extensions in codes: what each comes to, as the code takes it.
-use Prim.Native.Nat.{ℕ, _+_, _≤_, _<_}
+use Prim.Native.Nat.{ℕ, _*_, _≤_}
 use mathlib.Core.Path.{_≡_, refl, sym, _∙_}
 use mathlib.Core.Logic.{_⊎_, inl, inr}
 use mathlib.Core.Bool.{Bool, true, false, not, cond, _&&_, _||_, and-true}
 use mathlib.Core.List.{List, [], _∷_}
 use mathlib.Core.Option.{Option, none, some}
 use native.Mathlib.Omega.{arith}
-use native.Mathlib.Decide.{ℕ-discrete, decLe}
-use lib.Dec.{leb, eqb}
-use borrow.Author.Tests.{eqb-true, le-leb, lt-leb, eq-eqb, ne-eqb}
+use native.Mathlib.Decide.{ℕ-discrete}
+use lib.Dec.{eqb}
+use borrow.Author.Tests.{eqb-true, eq-eqb, ne-eqb}
 use Rattle.radix.specs.Characters.{characterOf}
-use Rattle.radix.specs.Packing.{threeIf, firstCode, secondCode, thirdCode, charactersOf}
+use Rattle.radix.specs.Packing.{threeIf, firstCode, secondCode, thirdCode, charactersOf, upperEnd}
 use Rattle.radix.specs.Names.{isLetterOrDigit, blank, every}
 use Rattle.radix.specs.NamesTest.{isLetterOrDigitIn, thenBlanks, nameTest, extensionTest, legalName, legalExtension}
-use Rattle.radix.proofs.Characters.{Spelled, spelled, code-blank, character-blank, character-letter, character-dollar, character-period, character-digit, character-none}
+use Rattle.radix.proofs.Characters.{Spelled, spelled, code-blank, character-blank, character-none}
+use Rattle.radix.proofs.Packing.{characters-end}
 
 -- is there a blank?
 abbrev pub isBlankIn : Option ℕ → Bool
 isBlankIn none = false
 isBlankIn (some x) = eqb blank x
 
--- Is the character of a code a letter or a digit? Is it a blank?
+-- Is the character of a code a letter or a digit, or a blank?
 pub zero-not-in-name : (c : ℕ) → c ≡ 0 → isLetterOrDigitIn (characterOf c) ≡ false
 zero-not-in-name c is = rw (character-blank c is)
-
-pub letter-in-name : (c : ℕ) → (c ≡ 0 → ⊥) → c ≤ 26 → isLetterOrDigitIn (characterOf c) ≡ true
-letter-in-name c some-letter high = rw (character-letter c (omega arith) high, le-leb 65 (c + 64) (omega arith), le-leb (c + 64) 90 (omega arith))
-
-pub mark-not-in-name : (c : ℕ) → 26 < c → c < 30 → isLetterOrDigitIn (characterOf c) ≡ false
-mark-not-in-name c low high = at (ℕ-discrete c 27) (ℕ-discrete c 28)
-  where
-    at : Dec (c ≡ 27) → Dec (c ≡ 28) → isLetterOrDigitIn (characterOf c) ≡ false
-    at (yes is) p = rw (character-dollar c is)
-    at (no d) (yes is) = rw (character-period c is)
-    at (no d) (no p) = rw (character-none c (inl (omega arith)))
-
-pub digit-in-name : (c : ℕ) → 30 ≤ c → isLetterOrDigitIn (characterOf c) ≡ leb c 39
-digit-in-name c low = at (decLe c 39)
-  where
-    at : Dec (c ≤ 39) → isLetterOrDigitIn (characterOf c) ≡ leb c 39
-    at (yes h) = rw (character-digit c low h, lt-leb 65 (c + 18) (omega arith), le-leb 48 (c + 18) (omega arith), le-leb (c + 18) 57 (omega arith), le-leb c 39 h)
-    at (no h) = rw (character-none c (inr (omega arith)), lt-leb c 39 (omega arith))
 
 pub blank-code : (c : ℕ) → isBlankIn (characterOf c) ≡ eqb c 0
 blank-code c = at (ℕ-discrete c 0) (spelled c)
@@ -140,11 +123,8 @@ blanks-by-three (some x) (some y) none = by (eqb blank x) (eqb blank y)
 blanks-by-three (some x) (some y) (some z) = rw (and-true (eqb blank z))
 
 -- "A word of three blanks is 0."
-blanks-word : (w : ℕ) → blanksIn (charactersOf w) ≡ eqb w 0
-unfolding charactersOf
-blanks-word w =
-    blanks-by-three (characterOf (firstCode w)) (characterOf (secondCode w)) (characterOf (thirdCode w))
-    ∙ (rw (blank-code (firstCode w), blank-code (secondCode w), blank-code (thirdCode w)) (zero-by-codes (ℕ-discrete w 0)))
+zero-codes : (w : ℕ) → (eqb (firstCode w) 0 && (eqb (secondCode w) 0 && eqb (thirdCode w) 0)) ≡ eqb w 0
+zero-codes w = by (ℕ-discrete w 0)
   where
     at : (b c : Bool) → eqb (secondCode w) 0 ≡ b → eqb (thirdCode w) 0 ≡ c → (a : Bool) → eqb (firstCode w) 0 ≡ a → (w ≡ 0 → ⊥) → (a && (b && c)) ≡ false
     at true true p q true o never = absurd (never (let x = eqb-true (firstCode w) 0 o in let y = eqb-true (secondCode w) 0 p in let z = eqb-true (thirdCode w) 0 q in omega arith))
@@ -152,9 +132,15 @@ blanks-word w =
     at false c p q true o never = refl
     at b c p q false o never = refl
 
-    zero-by-codes : Dec (w ≡ 0) → (eqb (firstCode w) 0 && (eqb (secondCode w) 0 && eqb (thirdCode w) 0)) ≡ eqb w 0
-    zero-by-codes (yes is) = rw is
-    zero-by-codes (no never) = at (eqb (secondCode w) 0) (eqb (thirdCode w) 0) refl refl (eqb (firstCode w) 0) refl never ∙ sym (ne-eqb w 0 never)
+    by : Dec (w ≡ 0) → (eqb (firstCode w) 0 && (eqb (secondCode w) 0 && eqb (thirdCode w) 0)) ≡ eqb w 0
+    by (yes is) = rw is
+    by (no never) = at (eqb (secondCode w) 0) (eqb (thirdCode w) 0) refl refl (eqb (firstCode w) 0) refl never ∙ sym (ne-eqb w 0 never)
+
+blanks-word : (w : ℕ) → blanksIn (charactersOf w) ≡ eqb w 0
+unfolding charactersOf
+blanks-word w =
+    blanks-by-three (characterOf (firstCode w)) (characterOf (secondCode w)) (characterOf (thirdCode w))
+    ∙ (rw (blank-code (firstCode w), blank-code (secondCode w), blank-code (thirdCode w)) (zero-codes w))
 
 name-by-words : (first : ℕ) (o : Option (List ℕ)) → nameTest (charactersOf first) o
     ≡ (not (isBlankIn (characterOf (firstCode first))) && (extensionTest (charactersOf first) && cond (isBlankIn (characterOf (thirdCode first))) (blanksIn o) (extensionTest o)))
@@ -167,29 +153,37 @@ pub name-test : (first second : ℕ) → legalName first second
 unfolding legalName legalExtension
 name-test first second = rw (← blank-code (firstCode first), ← blank-code (thirdCode first), ← blanks-word second) (name-by-words first (charactersOf second))
 
-pub extension-test : (w : ℕ) → extensionTest (threeIf (characterOf (firstCode w)) (characterOf (secondCode w)) (characterOf (thirdCode w))) ≡ legalExtension w
-unfolding legalExtension charactersOf
-extension-test w = refl
+-- An extension, by which of its codes are those of letters or digits; a, b and c are what was read of them.
+module _ (w : ℕ) {a b c : ℕ} (first : a ≡ firstCode w) (second : b ≡ secondCode w) (third : c ≡ thirdCode w) where
+  by-codes : legalExtension w
+      ≡ cond (isLetterOrDigitIn (characterOf a)) (cond (isLetterOrDigitIn (characterOf b)) (isLetterOrDigitIn (characterOf c) || eqb c 0) (eqb b 0 && eqb c 0))
+      (eqb a 0 && (eqb b 0 && eqb c 0))
+  unfolding legalExtension charactersOf
+  by-codes = rw (first, second, third)
+      (extension-by-three (characterOf (firstCode w)) (characterOf (secondCode w)) (characterOf (thirdCode w))
+      ∙ rw (blank-code (firstCode w), blank-code (secondCode w), blank-code (thirdCode w)))
 
--- three codes, by which of them are letters or digits
-module _ (a b c : ℕ) where
-  abbrev ByThree : Bool → Type 0
-  ByThree answer = answer ≡ extensionTest (threeIf (characterOf a) (characterOf b) (characterOf c))
+  pub none-named : isLetterOrDigitIn (characterOf a) ≡ false → eqb w 0 ≡ legalExtension w
+  none-named p = sym (by-codes ∙ rw (p, first, second, third) (zero-codes w))
 
-  pub three-named : isLetterOrDigitIn (characterOf a) ≡ true → isLetterOrDigitIn (characterOf b) ≡ true → isLetterOrDigitIn (characterOf c) ≡ true → ByThree true
-  three-named p q r = rw (extension-by-three (characterOf a) (characterOf b) (characterOf c), p, q, r)
+  pub one-named : isLetterOrDigitIn (characterOf a) ≡ true → isLetterOrDigitIn (characterOf b) ≡ false → eqb w (1600 * a) ≡ legalExtension w
+  one-named p q = sym (by-codes ∙ rw (p, q) (rest-codes (ℕ-discrete b 0) (ℕ-discrete c 0)))
+    where
+      rest-codes : Dec (b ≡ 0) → Dec (c ≡ 0) → (eqb b 0 && eqb c 0) ≡ eqb w (1600 * a)
+      rest-codes (yes x) (yes y) = rw (eq-eqb b 0 x, eq-eqb c 0 y) (sym (eq-eqb w (1600 * a) (omega (arith, first, second, third))))
+      rest-codes (yes x) (no y) = rw (eq-eqb b 0 x, ne-eqb c 0 y) (sym (ne-eqb w (1600 * a) (λ is. y (omega (arith, first, second, third)))))
+      rest-codes (no x) y = rw (ne-eqb b 0 x) (sym (ne-eqb w (1600 * a) (λ is. x (omega (arith, first, second, third)))))
 
-  pub two-named : isLetterOrDigitIn (characterOf a) ≡ true → isLetterOrDigitIn (characterOf b) ≡ true → isLetterOrDigitIn (characterOf c) ≡ false → ByThree (eqb c 0)
-  two-named p q r = rw (extension-by-three (characterOf a) (characterOf b) (characterOf c), p, q, r) (sym (blank-code c))
+  module _ (p : isLetterOrDigitIn (characterOf a) ≡ true) (q : isLetterOrDigitIn (characterOf b) ≡ true) where
+    pub three-named : isLetterOrDigitIn (characterOf c) ≡ true → true ≡ legalExtension w
+    three-named r = sym (by-codes ∙ rw (p, q, r))
 
-  pub one-named : isLetterOrDigitIn (characterOf a) ≡ true → isLetterOrDigitIn (characterOf b) ≡ false → ByThree (eqb b 0 && eqb c 0)
-  one-named p q = rw (extension-by-three (characterOf a) (characterOf b) (characterOf c), p, q, blank-code b, blank-code c)
+    pub two-named : isLetterOrDigitIn (characterOf c) ≡ false → eqb c 0 ≡ legalExtension w
+    two-named r = sym (by-codes ∙ rw (p, q, r))
 
-  pub three-blank : isLetterOrDigitIn (characterOf a) ≡ false → a ≡ 0 → ByThree (eqb b 0 && eqb c 0)
-  three-blank p is = rw (extension-by-three (characterOf a) (characterOf b) (characterOf c), p, blank-code a, eq-eqb a 0 is, blank-code b, blank-code c)
-
-  pub none-named : isLetterOrDigitIn (characterOf a) ≡ false → (a ≡ 0 → ⊥) → ByThree false
-  none-named p never = rw (extension-by-three (characterOf a) (characterOf b) (characterOf c), p, blank-code a, ne-eqb a 0 never)
+pub extension-end : (w : ℕ) → upperEnd ≤ w → false ≡ legalExtension w
+unfolding legalExtension
+extension-end w high = rw (characters-end w high)
 
 -- a name, by its first word
 module _ (first second : ℕ) where

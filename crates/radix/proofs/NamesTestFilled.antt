@@ -10,7 +10,7 @@ use Rattle.answers.proofs.RefusalsTests.{and-left, and-right, true-not-false}
 use Rattle.radix.specs.Characters.{characterOf}
 use Rattle.radix.specs.Packing.{firstCode, secondCode, thirdCode}
 use Rattle.radix.specs.NamesTest.{isLetterOrDigitIn, filled, legalName, legalExtension}
-use Rattle.radix.proofs.NamesTest.{zero-not-in-name, extension-test, three-named, name-long}
+use Rattle.radix.proofs.NamesTest.{zero-not-in-name, three-named, name-long}
 
 -- bit `code` of a number
 abbrev pub bit : ℕ → ℕ → Bool
@@ -51,7 +51,7 @@ module _ (w : ℕ) {a b c : ℕ} (first : a ≡ firstCode w) (second : b ≡ sec
   unfolding filled
   filled-third p q = rw (← first, ← second, ← third, p, q)
 
--- such a word is an extension, and two of them are a name
+-- such a word is an extension,
 module _ (w : ℕ) (is : filled w ≡ true) where
   named : (isLetterOrDigitIn (characterOf (firstCode w)) ≡ true)
       × (isLetterOrDigitIn (characterOf (secondCode w)) ≡ true) × (isLetterOrDigitIn (characterOf (thirdCode w)) ≡ true)
@@ -61,13 +61,13 @@ module _ (w : ℕ) (is : filled w ≡ true) where
       let second = isLetterOrDigitIn (characterOf (secondCode w)) in
       (and-left (isLetterOrDigitIn (characterOf (firstCode w))) _ is, and-left second _ rest, and-right second _ rest)
 
-  pub filled-extension : legalExtension w ≡ true
-  filled-extension = sym (three-named _ _ _ (named .0) (named .1) (named .2) ∙ extension-test w)
+  filled-extension : legalExtension w ≡ true
+  filled-extension = sym (three-named w refl refl refl (named .0) (named .1) (named .2))
 
-pub filled-name : (first second : ℕ) → filled first ≡ true → filled second ≡ true → legalName first second ≡ true
-filled-name first second is too =
-    sym (name-long first second (never (firstCode first) (named first is .0)) (filled-extension first is) (never (thirdCode first) (named first is .2)))
-    ∙ filled-extension second too
+-- and with another that is, a name
+pub filled-name : (first second : ℕ) → filled first ≡ true → legalExtension second ≡ legalName first second
+filled-name first second is =
+    name-long first second (never (firstCode first) (named first is .0)) (filled-extension first is) (never (thirdCode first) (named first is .2))
   where
     never : (code : ℕ) → isLetterOrDigitIn (characterOf code) ≡ true → code ≡ 0 → ⊥
     never code holds none = true-not-false (sym holds ∙ zero-not-in-name code none)

@@ -5,13 +5,13 @@ pub mod unpacking;
 
 ghost use mathlib.Core.Path.{_≡_};
 ghost use Prim.Native.Nat.{_<_};
-ghost use mathlib.Core.Bool.{false, _&&_};
+ghost use mathlib.Core.Bool.{false};
 ghost use lib.Dec.{eqb};
 ghost use Rattle.radix.specs.Characters.{codeOf, characterOf};
 ghost use Rattle.radix.specs.Lookup.{codeIn, characterIn, charactersIn};
 ghost use Rattle.radix.specs.Packing.{packed, firstCode, secondCode, thirdCode, threeIf};
 ghost use Rattle.radix.specs.Names.{isLetter};
-ghost use Rattle.radix.specs.NamesTest.{isLetterOrDigitIn, filled, extensionTest, legalName, legalExtension};
+ghost use Rattle.radix.specs.NamesTest.{isLetterOrDigitIn, filled, legalName, legalExtension};
 
 // A word of three characters. A host may pass any number as one: from END up no character is in it.
 pub struct Radix50(pub usize);
@@ -55,7 +55,7 @@ impl Radix50 {
         self.0 == Self::BLANK
     }
 
-    // Are all three of its characters letters or digits? Only of a word of 16 bits, whose codes are few.
+    // Are all three of its characters letters or digits? It is asked of words of 16 bits, whose codes are few.
     pub fn is_filled(self) -> bool
         requires { ⌜ self .0 < 65536 ⌝ }
         ensures { λ r. ⌜ r ≡ filled (self .0) ⌝ }
@@ -69,10 +69,25 @@ impl Radix50 {
         is_named(self.third())
     }
 
+    // Letters and digits, then blanks only: behind the last letter or digit nothing is left of the word.
     pub fn is_legal_extension(self) -> bool
         ensures { λ r. ⌜ r ≡ legalExtension (self .0) ⌝ }
     {
-        is_then_blanks(self.first(), self.second(), self.third())
+        if Self::END <= self.0 {
+            return false;
+        }
+        let a = self.first();
+        if !is_named(a) {
+            return self.0 == Self::BLANK;
+        }
+        if !is_named(self.second()) {
+            return self.0 == 1600 * a;
+        }
+        let c = self.third();
+        if is_named(c) {
+            return true;
+        }
+        c == 0
     }
 }
 
@@ -166,59 +181,15 @@ pub fn spell(a: usize, b: usize, c: usize) -> Spelling
     Spelling::Of(x, y, z)
 }
 
-// Is the character of a code a letter or a digit?
-fn is_in_name(code: usize) -> bool
-    ensures { λ r. ⌜ r ≡ isLetterOrDigitIn (characterOf code) ⌝ }
-{
-    if code == 0 {
-        return false;
-    }
-    if code <= 26 {
-        return true;
-    }
-    if code < 30 {
-        return false;
-    }
-    code <= 39
-}
-
 // The codes of letters and digits, a bit of a number for each.
 const NAMED: usize = 0xffc7fffffe;
 
-// The same of a code below 64, at once.
+// Is the character of a code a letter or a digit?
 fn is_named(code: usize) -> bool
     requires { ⌜ code < 64 ⌝ }
     ensures { λ r. ⌜ r ≡ isLetterOrDigitIn (characterOf code) ⌝ }
 {
     (NAMED >> code) & 1 == 1
-}
-
-fn are_blank(b: usize, c: usize) -> bool
-    ensures { λ r. ⌜ r ≡ (eqb b 0 && eqb c 0) ⌝ }
-{
-    if b == 0 {
-        return c == 0;
-    }
-    false
-}
-
-// Are the characters of three codes letters and digits, then blanks only?
-fn is_then_blanks(a: usize, b: usize, c: usize) -> bool
-    ensures { λ r. ⌜ r ≡ extensionTest (threeIf (characterOf a) (characterOf b) (characterOf c)) ⌝ }
-{
-    if is_in_name(a) {
-        if is_in_name(b) {
-            if is_in_name(c) {
-                return true;
-            }
-            return c == 0;
-        }
-        return are_blank(b, c);
-    }
-    if a == 0 {
-        return are_blank(b, c);
-    }
-    false
 }
 
 pub fn is_legal_name(first: Radix50, second: Radix50) -> bool
@@ -234,14 +205,4 @@ pub fn is_legal_name(first: Radix50, second: Radix50) -> bool
         return second.is_blank();
     }
     second.is_legal_extension()
-}
-
-// A file's name and extension.
-pub fn are_legal(first: Radix50, second: Radix50, extension: Radix50) -> bool
-    ensures { λ r. ⌜ r ≡ (legalName (first .0) (second .0) && legalExtension (extension .0)) ⌝ }
-{
-    if !is_legal_name(first, second) {
-        return false;
-    }
-    extension.is_legal_extension()
 }

@@ -1,8 +1,8 @@
--- Rests on `EntryTestAnswers`: what name and extension answer, and the UIC where they passed.
+-- Rests on `EntryTestAnswers`: what name, extension and UIC answer, each where those before it passed.
 use borrow.Author.Needs.{needs}
 use mathlib.Core.Path.{sym, _∙_}
 use borrow.Author.Tests.{not-true, not-false}
-use Rattle.consistency.proofs.EntryTestAnswers.{key-name, key-uic}
+use Rattle.consistency.proofs.EntryTestAnswers.{key-name, key-extension, key-uic}
 use Rattle.consistency.proofs.is_key_right.Statement.{statement}
 use Rattle.consistency.proofs.is_key_right.Tie as tie
 
@@ -19,8 +19,14 @@ is-name-right-requires : tie.Need-is-name-right-requires
 is-name-right-requires c κs = search needs
 
 returns : tie.Need-returns
-returns c = key-name _ _ _ (c .before .before .before .before .entry-word .ensures .0) (c .before .before .before .entry-word2 .ensures .0) (c .before .before .entry-word3 .ensures .0)
-    (sym (c .before .is-name-right .ensures) ∙ not-true _ (c .if1 .taken))
+returns c = key-name _ _ _ (c .before .before .before .before .entry-word .ensures .0) (c .before .before .before .entry-word2 .ensures .0) (sym (c .before .is-name-right .ensures) ∙ not-true _ (c .if1 .taken))
+
+is-legal-extension-requires : tie.Need-is-legal-extension-requires
+is-legal-extension-requires c κs = search needs
+
+returns-2 : tie.Need-returns-2
+returns-2 c = key-extension _ _ _ (c .before .before .before .before .before .before .entry-word .ensures .0) (c .before .before .before .before .before .entry-word2 .ensures .0) (sym (c .before .before .before .is-name-right .ensures) ∙ not-false _ (c .before .before .if1 .left))
+    (c .before .before .before .before .entry-word3 .ensures .0) (sym (c .before .is-legal-extension .ensures) ∙ not-true _ (c .if2 .taken))
 
 entry-word-requires-4 : tie.Need-entry-word-requires-4
 entry-word-requires-4 c κs = search needs
@@ -28,9 +34,9 @@ entry-word-requires-4 c κs = search needs
 is-listed-requires : tie.Need-is-listed-requires
 is-listed-requires c κs = search needs
 
-returns-2 : tie.Need-returns-2
-returns-2 c = key-uic _ _ _ (c .before .before .before .before .before .before .entry-word .ensures .0) (c .before .before .before .before .before .entry-word2 .ensures .0) (c .before .before .before .before .entry-word3 .ensures .0)
-    (sym (c .before .before .before .is-name-right .ensures) ∙ not-false _ (c .before .before .if1 .left)) _ _ (c .before .entry-word4 .ensures .0) (c .is-listed .ensures)
+returns-3 : tie.Need-returns-3
+returns-3 c = key-uic _ _ _ (c .before .before .before .before .before .before .before .before .entry-word .ensures .0) (c .before .before .before .before .before .before .before .entry-word2 .ensures .0) (sym (c .before .before .before .before .before .is-name-right .ensures) ∙ not-false _ (c .before .before .before .before .if1 .left))
+    (c .before .before .before .before .before .before .entry-word3 .ensures .0) (sym (c .before .before .before .is-legal-extension .ensures) ∙ not-false _ (c .before .before .if2 .left)) _ _ (c .before .entry-word4 .ensures .0) (c .is-listed .ensures)
 
 pub is-key-right-spec : {M : Type 1} → statement M
 is-key-right-spec =
@@ -41,6 +47,8 @@ is-key-right-spec =
     entry-word-requires-3
     is-name-right-requires
     returns
+    is-legal-extension-requires
+    returns-2
     entry-word-requires-4
     is-listed-requires
-    returns-2)
+    returns-3)

@@ -16,6 +16,12 @@ abbrev μ-loop : tie.MeasureT-loop
 slot-count-requires : tie.Need-slot-count-requires Inv-loop μ-loop
 slot-count-requires c κs = search needs
 
+is-last-used-requires : tie.Need-is-last-used-requires Inv-loop μ-loop
+is-last-used-requires c κs = search needs
+
+returns : tie.Need-returns Inv-loop μ-loop
+returns c = used-all _ _ _ (c .before .before .slot-count .ensures .0)
+
 loop-holds : tie.Need-loop-holds Inv-loop μ-loop
 loop-holds c = omega arith
 
@@ -26,25 +32,25 @@ words-requires : tie.Need-words-requires Inv-loop μ-loop
 words-requires c κs = search needs
 
 mul-is-stretch-zero : tie.Need-mul-is-stretch-zero Inv-loop μ-loop
-mul-is-stretch-zero c = omega (arith, c .before .before .before .before .before .before .slot-count .ensures .1)
+mul-is-stretch-zero c = omega (arith, c .before .before .before .before .before .before .before .before .slot-count .ensures .1)
 
 add-is-stretch-zero : tie.Need-add-is-stretch-zero Inv-loop μ-loop
-add-is-stretch-zero c = omega (arith, c .before .before .before .before .before .before .slot-count .ensures .1, c .words .ensures, c .before .before .before .before .before .before .before .before .pre .few)
+add-is-stretch-zero c = omega (arith, c .before .before .before .before .before .before .before .before .slot-count .ensures .1, c .words .ensures, c .before .before .before .before .before .before .before .before .before .before .pre .few)
 
 sub-is-stretch-zero : tie.Need-sub-is-stretch-zero Inv-loop μ-loop
 sub-is-stretch-zero c = search needs
 
 mul-is-stretch-zero-2 : tie.Need-mul-is-stretch-zero-2 Inv-loop μ-loop
-mul-is-stretch-zero-2 c = omega (arith, c .before .before .before .before .before .before .slot-count .ensures .1)
+mul-is-stretch-zero-2 c = omega (arith, c .before .before .before .before .before .before .before .before .slot-count .ensures .1)
 
 is-stretch-zero-requires : tie.Need-is-stretch-zero-requires Inv-loop μ-loop
-is-stretch-zero-requires c κs = entries-whole (c .before .before .before .before .before .before .before .before .pre) (c .before .before .before .before .before .before .slot-count .ensures .0) (c .before .before .before .before .loop-test .taken) (c .words .ensures)
-
-returns : tie.Need-returns Inv-loop μ-loop
-returns c = used-stretch _ _ _ _ (c .before .before .before .before .before .before .before .before .slot-count .ensures .0) (c .before .before .before .before .before .before .loop-test .taken) (c .before .before .words .ensures) (sym (c .before .is-stretch-zero .ensures) ∙ c .if2 .taken)
+is-stretch-zero-requires c κs = entries-whole (c .before .before .before .before .before .before .before .before .before .before .pre) (c .before .before .before .before .before .before .before .before .slot-count .ensures .0) (c .before .before .before .before .loop-test .taken) (c .words .ensures)
 
 returns-2 : tie.Need-returns-2 Inv-loop μ-loop
-returns-2 c = used-all _ _ _ (c .before .before .before .before .before .before .before .before .slot-count .ensures .0)
+returns-2 c = used-stretch _ _ _ _ (c .before .before .before .before .before .before .before .before .before .before .slot-count .ensures .0) (c .before .before .before .before .before .before .loop-test .taken) (c .before .before .words .ensures) (sym (c .before .is-stretch-zero .ensures) ∙ c .if3 .taken)
+
+returns-3 : tie.Need-returns-3 Inv-loop μ-loop
+returns-3 c = used-all _ _ _ (c .before .before .before .before .before .before .before .before .before .before .slot-count .ensures .0)
 
 add-e : tie.Need-add-e Inv-loop μ-loop
 add-e c = search needs
@@ -55,8 +61,8 @@ loop-less c = search needs
 loop-again : tie.Need-loop-again Inv-loop μ-loop
 loop-again c = omega arith
 
-returns-3 : tie.Need-returns-3 Inv-loop μ-loop
-returns-3 c = used-all _ _ _ (c .before .before .slot-count .ensures .0)
+returns-4 : tie.Need-returns-4 Inv-loop μ-loop
+returns-4 c = used-all _ _ _ (c .before .before .before .before .slot-count .ensures .0)
 
 pub used-end-spec : {M : Type 1} → statement M
 used-end-spec =
@@ -65,6 +71,8 @@ used-end-spec =
     Inv-loop
     μ-loop
     slot-count-requires
+    is-last-used-requires
+    returns
     loop-holds
     entry-word-requires
     words-requires
@@ -73,9 +81,9 @@ used-end-spec =
     sub-is-stretch-zero
     mul-is-stretch-zero-2
     is-stretch-zero-requires
-    returns
     returns-2
+    returns-3
     add-e
     loop-less
     loop-again
-    returns-3)
+    returns-4)
