@@ -150,7 +150,7 @@ static bool write_chosen(const char *directory)
     for (size_t i = 0; i < count; i++)
         if (!path_of(i, directory, path)
             || !host_write(path, &pack, option("--force"), chosen[i].bytes, chosen[i].length)) {
-            complain("%s: of %zu files the first %zu are written", directory, count, i);
+            complain("%s: files written before that: %zu of %zu", directory, i, count);
             return false;
         }
     return true;

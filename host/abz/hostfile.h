@@ -10,8 +10,8 @@
 bool host_read(const char *host, uint8_t *bytes, size_t room, size_t *length);
 
 /*
- * Whether a file may be written: it is not the pack, and not another that holds something already unless by force. Only
- * replacing it then tells what the system thinks of it.
+ * Whether a file may be written, as far as can be seen before: it is not the pack, and nothing but a file that may be
+ * replaced (replace.h) stands there. Only replacing it then tells what the system thinks of it.
  */
 bool host_may_write(const char *host, const pack_file *pack, bool force);
 

@@ -30,6 +30,7 @@
 
 typedef struct {
     const char *name;       /* what the technician calls the file, for messages */
+    bool force;             /* whether it is replaced whatever it holds */
     char *path;             /* the file itself, where links lead */
     const struct stat *old; /* NULL if there is none yet */
     char *directory;        /* the one that it is in, with the slash behind it */
@@ -44,6 +45,17 @@ static bool complain_of_new(const replacement *it)
 }
 
 /* ---- Where the file is ---- */
+
+static bool complain_of_present(const char *name)
+{
+    complain("%s: is there already; with --force it is overwritten", name);
+    return false;
+}
+
+bool may_replace(const char *name, const struct stat *there, bool force)
+{
+    return is_regular(name, there->st_mode) && (force || there->st_size == 0 || complain_of_present(name));
+}
 
 /*
  * What is replaced is the file where links lead, so that a link stays a link; one that leads nowhere is left alone, for
@@ -66,7 +78,7 @@ static bool find_file(replacement *it, struct stat *old)
         return false;
     }
     it->old = old;
-    if (!is_regular(it->name, old->st_mode))
+    if (!may_replace(it->name, old, it->force))
         return false;
     it->path = realpath(it->name, NULL);
     return (it->path != NULL && faccessat(AT_FDCWD, it->path, W_OK, AT_EACCESS) == 0) || complain_of(it->name);
@@ -103,14 +115,20 @@ static bool is_new_name(const char *name, long *process)
 /*
  * Whoever makes a new file has it locked until it gets its name, and the system takes the lock from the dead. So what
  * can be locked is nobody's; if it is still what stands under the name, for it may have got its own just before the
- * lock was free. O_NOFOLLOW and O_NONBLOCK: somebody may have put a link or a pipe there.
+ * lock was free. O_NOFOLLOW and O_NONBLOCK: somebody may have put a link or a pipe there. Where take_name was killed it
+ * is another name of the old file, which is not opened: to close it would end the lock that the caller may have on it.
  */
-static void clear_leftover(int directory, const char *name)
+static void clear_leftover(int directory, const char *name, const struct stat *old)
 {
     struct flock whole = { .l_type = F_WRLCK, .l_whence = SEEK_SET };
     struct stat opened, named;
-    const int descriptor = openat(directory, name, O_RDWR | O_NOFOLLOW | O_NONBLOCK);
+    int descriptor;
 
+    if (old && fstatat(directory, name, &named, AT_SYMLINK_NOFOLLOW) == 0 && is_same_file(&named, old)) {
+        unlinkat(directory, name, 0);
+        return;
+    }
+    descriptor = openat(directory, name, O_RDWR | O_NOFOLLOW | O_NONBLOCK);
     if (descriptor < 0)
         return;
     if (fstat(descriptor, &opened) == 0 && S_ISREG(opened.st_mode) && fcntl(descriptor, F_SETLK, &whole) == 0
@@ -120,7 +138,7 @@ static void clear_leftover(int directory, const char *name)
 }
 
 /* Where it cannot be done nothing is said. Our own are passed over: a lock does not keep out the one that has it. */
-static void clear_leftovers(const char *directory)
+static void clear_leftovers(const char *directory, const struct stat *old)
 {
     DIR *const stream = opendir(directory);
     const struct dirent *entry;
@@ -130,7 +148,7 @@ static void clear_leftovers(const char *directory)
         return;
     while ((entry = readdir(stream)) != NULL)
         if (is_new_name(entry->d_name, &process) && process != (long)getpid())
-            clear_leftover(dirfd(stream), entry->d_name);
+            clear_leftover(dirfd(stream), entry->d_name, old);
     closedir(stream);
 }
 
@@ -350,6 +368,31 @@ static bool is_undisturbed(const replacement *it, const sigset_t *held)
 
 /* ---- The steps ---- */
 
+static bool rename_new(const replacement *it)
+{
+    return rename(it->new, it->path) == 0 || complain_of_new(it);
+}
+
+/*
+ * A rename does away with whatever has the name. Where nothing had it, and nothing is to be overwritten, the new file
+ * gets it by a link, which fails if a file has appeared meanwhile; then its first name goes, and a kill in between
+ * leaves that behind. Where there are no links, one more look has to do, as late as can be.
+ */
+static bool take_name(const replacement *it)
+{
+    struct stat appeared;
+
+    if (it->old != NULL || it->force)
+        return rename_new(it);
+    if (link(it->new, it->path) == 0) {
+        unlink(it->new);
+        return true;
+    }
+    if (errno == EEXIST || lstat(it->path, &appeared) == 0)
+        return complain_of_present(it->name);
+    return rename_new(it);
+}
+
 /* So that the rename outlives a loss of power. The file is right by now, so it is no fault where this cannot be had. */
 static void sync_directory(const char *directory)
 {
@@ -365,14 +408,14 @@ static bool replace_by_new(replacement *it, const uint8_t *bytes, size_t length,
 {
     bool right;
 
-    clear_leftovers(it->directory); /* before: they may be what fills the disk */
+    clear_leftovers(it->directory, it->old); /* before: they may be what fills the disk */
     if (!make_new(it))
         return false;
     right = (write_all(it->descriptor, bytes, length) || complain_of_new(it))
             && (it->old == NULL || inherit(it->name, it->path, it->old, it->descriptor)) /* now that it is whole */
             && (fsync(it->descriptor) == 0 || complain_of_new(it)) /* or the name could lead to bytes not on the disk */
             && is_undisturbed(it, held)                            /* the last moment to give up */
-            && (rename(it->new, it->path) == 0 || complain_of_new(it));
+            && take_name(it);
     if (right)
         sync_directory(it->directory);
     else
@@ -381,9 +424,9 @@ static bool replace_by_new(replacement *it, const uint8_t *bytes, size_t length,
     return right;
 }
 
-bool replace_file(const char *name, const uint8_t *bytes, size_t length)
+bool replace_file(const char *name, bool force, const uint8_t *bytes, size_t length)
 {
-    replacement it = { .name = name };
+    replacement it = { .name = name, .force = force };
     struct stat old;
     sigset_t held, before;
     bool right = find_file(&it, &old) && find_directory(&it);
