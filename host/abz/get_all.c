@@ -172,7 +172,7 @@ int command_get_all(char **arguments)
 
     while (texts[number + 1]) /* the last argument is the directory */
         number++;
-    if (!read_uic(arguments[1], &caller) || !are_patterns(texts, number))
+    if (!read_uic(arguments[1], &caller) || !are_patterns(texts, number) || !read_path("DIRECTORY", texts[number]))
         return STATUS_USAGE;
     if (!pack_read(&pack, arguments[0]))
         return STATUS_FAILED;

@@ -14,10 +14,11 @@
 bool may_replace(const char *name, const struct stat *there, bool force);
 
 /*
- * Makes a file hold just these bytes, if what is there may be replaced. Whoever opens it finds all of the old bytes or all of the new, also if the
- * program is killed or the machine stops meanwhile. A file that is there keeps its owner, group, permissions, ACL and
- * other attributes, or is not replaced. If it returns false, what was there is untouched, nothing new is left, and it
- * has said on standard error what went wrong.
+ * Makes a file hold just these bytes, if what is there may be replaced; what appears there meanwhile is not, unless by
+ * force. Whoever opens it finds all of the old bytes or all of the new, also if the program is killed or the machine
+ * stops meanwhile. A file that is there keeps its owner, group, permissions, ACL and other attributes, or is not
+ * replaced. If it returns false, what was there is untouched, nothing new is left, and it has said on standard error
+ * what went wrong.
  *
  * Signals that end a program are held meanwhile. One that came before the new file stood under the name makes it return
  * false, and then ends the program as ever. Behind that it returns true and goes on holding them, so that a program
