@@ -15,8 +15,8 @@ static const struct {
     { "CALLER", "for whom it is done: a UIC as 23,10 or [23,10], whose rights count" },
     { "UIC", "group and user, each octal and at most 377: 23,10 or [23,10]" },
     { "FILE, OLD, NEW, FIRST, SECOND",
-      "a file of the pack: FREQ.DAT is the caller's, 'FREQ.DAT[23,10]' that\n"
-      "of another UIC. A name is 1 to 6 capitals and digits, an extension\n"
+      "a file of the pack: FREQ.DAT is the caller's, 'FREQ.DAT[23,10]' is\n"
+      "another UIC's. A name is 1 to 6 capitals and digits, an extension\n"
       "up to 3 of them; it may be missing, with its period or without." },
     { "PATTERN",
       "files of the pack: as FILE, and each * in the name or the extension\n"
@@ -33,15 +33,15 @@ static const struct {
     { "SEGMENTS", "decimal; of 128 bytes each" },
     { "BLOCKS, CONTENTS", "decimal" },
     { "HOSTFILE",
-      "a file of this computer; - is standard input or standard output. One\n"
-      "that is written is made, or replaced if it is a regular file; what\n"
-      "somebody else opened, /dev/stdout or /dev/fd/N, is written into." },
+      "a file of this computer; - is standard input or standard output.\n"
+      "One that is written is made, or replaced if it is a regular file;\n"
+      "what is open already, /dev/stdout or /dev/fd/N, is written into." },
     { "DIRECTORY", "a directory of this computer" },
     { "LINE", "a command line, as an operator types it" },
     { "SECONDS",
       "decimal; how long a command that changes PACK waits while another\n"
-      "program has it locked; 0 is not at all. Without --wait it waits till\n"
-      "it is free. After 2 seconds it says who has it." },
+      "program has it locked; 0 is not at all. Without --wait it waits\n"
+      "till it is free. After 2 seconds it says who has it." },
 };
 
 enum { ARGUMENTS = sizeof arguments / sizeof *arguments, TEXT_COLUMN = 12 };

@@ -103,13 +103,14 @@ static bool find_directory(replacement *it)
 enum { NEW_NAME_ROOM = 64, TRIES_MOST = 100 };
 
 /* To the letter: what is written from its numbers again is the name. */
-static bool is_new_name(const char *name, long *process)
+static bool is_new_name(const char *name)
 {
     char again[NEW_NAME_ROOM];
+    long process;
     unsigned number;
 
-    return sscanf(name, ".abz-new.%18ld.%9u", process, &number) == 2 && *process > 0
-           && snprintf(again, sizeof again, NEW_NAME, *process, number) > 0 && strcmp(name, again) == 0;
+    return sscanf(name, ".abz-new.%18ld.%9u", &process, &number) == 2 && process > 0
+           && snprintf(again, sizeof again, NEW_NAME, process, number) > 0 && strcmp(name, again) == 0;
 }
 
 /*
@@ -137,17 +138,19 @@ static void clear_leftover(int directory, const char *name, const struct stat *o
     close(descriptor);
 }
 
-/* Where it cannot be done nothing is said. Our own are passed over: a lock does not keep out the one that has it. */
+/*
+ * Before this process makes one, for its own lock would not keep it out: so one with its number is another's too, of a
+ * process that had the number before it or has it on another computer. Where it cannot be done nothing is said.
+ */
 static void clear_leftovers(const char *directory, const struct stat *old)
 {
     DIR *const stream = opendir(directory);
     const struct dirent *entry;
-    long process;
 
     if (stream == NULL)
         return;
     while ((entry = readdir(stream)) != NULL)
-        if (is_new_name(entry->d_name, &process) && process != (long)getpid())
+        if (is_new_name(entry->d_name))
             clear_leftover(dirfd(stream), entry->d_name, old);
     closedir(stream);
 }
