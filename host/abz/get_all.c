@@ -123,8 +123,7 @@ static bool is_directory(const char *name)
 static bool is_alone(size_t i, const char *path)
 {
     for (size_t j = 0; j < i; j++)
-        if (chosen[j].file.name1 == chosen[i].file.name1 && chosen[j].file.name2 == chosen[i].file.name2
-            && chosen[j].file.extension == chosen[i].file.extension) {
+        if (is_same_name(contents_name(&chosen[j].file), contents_name(&chosen[i].file))) {
             complain("%s: two of the files have this name", path);
             return false;
         }

@@ -54,7 +54,7 @@ bool is_of_command(const command *row, const char *name)
 }
 
 /* Text of several lines, each of them from this column on; the first may stand behind a word. */
-static void show_lines(const char *text, int column, int behind)
+static void show_text(const char *text, int column, int behind)
 {
     for (size_t length; *text; text += length + (text[length] == '\n'), behind = 0) {
         length = strcspn(text, "\n");
@@ -95,7 +95,7 @@ static void show_argument(size_t i)
         putchar('\n');
         length = 0;
     }
-    show_lines(arguments[i].are, TEXT_COLUMN, length);
+    show_text(arguments[i].are, TEXT_COLUMN, length);
 }
 
 int show_help(const command *rows, size_t count, const char *rest)
@@ -103,7 +103,7 @@ int show_help(const command *rows, size_t count, const char *rest)
     printf("usage: abz [--wait SECONDS] COMMAND ARGUMENT...\n\nCommands:\n");
     for (size_t i = 0; i < count; i++) {
         printf("  %s %s\n", rows[i].name, rows[i].synopsis);
-        show_lines(rows[i].does, 6, 0);
+        show_text(rows[i].does, 6, 0);
     }
     printf("\nArguments:\n");
     for (size_t i = 0; i < ARGUMENTS; i++)
@@ -128,7 +128,7 @@ int show_help_of(const command *rows, size_t count, const char *name)
     for (size_t i = 0; i < count; i++)
         if (is_of_command(&rows[i], name)) {
             printf("usage: abz %s %s\n", rows[i].name, rows[i].synopsis);
-            show_lines(rows[i].does, 6, 0);
+            show_text(rows[i].does, 6, 0);
             found = true;
         }
     if (!found) {

@@ -116,7 +116,7 @@ bool pack_is(const pack_file *pack, const char *path)
 }
 
 /* Whether what was read is nothing, or a pack. */
-static bool is_pack(const pack_file *pack)
+static bool may_format(const pack_file *pack)
 {
     if (pack->length == 0 || abz_report(pack->image, pack->length).rule == ABZ_CONSISTENT)
         return true;
@@ -130,7 +130,7 @@ bool pack_begin(pack_file *pack, const char *path, size_t blocks, bool force)
 
     pack->path = path;
     pack->force = force;
-    if (stat(path, &there) == 0 && !(pack_take(pack, path) && (force || is_pack(pack))))
+    if (stat(path, &there) == 0 && !(pack_take(pack, path) && (force || may_format(pack))))
         return false;
     pack->length = ABZ_BLOCK_BYTES * blocks;
     memset(pack->image, 0, pack->length);
