@@ -314,6 +314,7 @@ static bool inherit_owner(const char *name, const char *path, const struct stat 
     return false;
 }
 
+/* Not set-user-ID and the like, which the system takes away from a file that is written. */
 static bool inherit_permissions(const char *name, const struct stat *old, int descriptor)
 {
     struct stat made;
