@@ -372,29 +372,28 @@ static bool is_undisturbed(const replacement *it, const sigset_t *held)
 
 /* ---- The steps ---- */
 
-static bool rename_new(const replacement *it)
+/* One more look, as late as can be. What has appeared is not overwritten even if it is empty: somebody fills it now. */
+static bool is_still_free(const replacement *it)
 {
-    return rename(it->new, it->path) == 0 || complain_of_new(it);
+    struct stat there;
+
+    if (lstat(it->path, &there) != 0)
+        return true;
+    return it->old ? may_replace(it->name, &there, false) : complain_of_present(it->name);
 }
 
 /*
- * A rename does away with whatever has the name. Where nothing had it, and nothing is to be overwritten, the new file
- * gets it by a link, which fails if a file has appeared meanwhile; then its first name goes, and a kill in between
- * leaves that behind. Where there are no links, one more look has to do, as late as can be.
+ * A rename does away with whatever has the name. So where nothing had it the new file gets it by a link, which fails if
+ * a file has appeared meanwhile; then its first name goes, and a kill in between leaves that behind. Where there are no
+ * links, and for an empty file that is filled meanwhile, the look has to do. By force all this is allowed.
  */
 static bool take_name(const replacement *it)
 {
-    struct stat appeared;
-
-    if (it->old != NULL || it->force)
-        return rename_new(it);
-    if (link(it->new, it->path) == 0) {
+    if (!it->force && it->old == NULL && link(it->new, it->path) == 0) {
         unlink(it->new);
         return true;
     }
-    if (errno == EEXIST || lstat(it->path, &appeared) == 0)
-        return complain_of_present(it->name);
-    return rename_new(it);
+    return (it->force || is_still_free(it)) && (rename(it->new, it->path) == 0 || complain_of_new(it));
 }
 
 /* So that the rename outlives a loss of power. The file is right by now, so it is no fault where this cannot be had. */
