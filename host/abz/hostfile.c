@@ -29,8 +29,7 @@ bool host_read(const char *host, uint8_t *bytes, size_t room, size_t *length)
     return right;
 }
 
-/* Who mixes up the two names must not lose the pack. */
-static bool is_pack(const char *host, const pack_file *pack)
+bool host_is_pack(const char *host, const pack_file *pack)
 {
     const bool it_is = !is_standard(host) && pack_is(pack, host);
 
@@ -43,14 +42,14 @@ bool host_may_write(const char *host, const pack_file *pack, bool force)
 {
     struct stat there;
 
-    return !is_pack(host, pack) && (stat(host, &there) != 0 || may_replace(host, &there, force));
+    return !host_is_pack(host, pack) && (stat(host, &there) != 0 || may_replace(host, &there, force));
 }
 
 bool host_write(const char *host, const pack_file *pack, bool force, const uint8_t *bytes, size_t length)
 {
     const int given = descriptor_of(host, STDOUT_FILENO);
 
-    if (is_pack(host, pack))
+    if (host_is_pack(host, pack))
         return false;
     if (given < 0)
         return replace_file(host, force, bytes, length);

@@ -4,6 +4,9 @@
 
 #include "packfile.h"
 
+/* Whether it is the file that the pack is in; then it says so. Who mixes up the two names must not lose the pack. */
+bool host_is_pack(const char *host, const pack_file *pack);
+
 /* Each of these says on standard error what went wrong where it returns false. */
 
 /* Reads all that it holds; if that is more than there is room for, its beginning. */
