@@ -16,7 +16,7 @@ static void take_block(uint8_t *block, size_t size, const uint8_t **bytes, size_
     *left -= count;
 }
 
-static size_t add_all(pack_file *pack, size_t caller, file_name file, const uint8_t *bytes, size_t left)
+static size_t add_blocks(pack_file *pack, size_t caller, file_name file, const uint8_t *bytes, size_t left)
 {
     uint8_t payload[ABZ_PAYLOAD_BYTES];
     size_t code = ABZ_OK;
@@ -33,14 +33,14 @@ size_t body_put(pack_file *pack, size_t caller, file_name file, size_t protect, 
     size_t code = abz_openo(pack->image, pack->length, caller, FOUR(file), protect);
 
     if (code == ABZ_OK)
-        code = add_all(pack, caller, file, bytes, length);
+        code = add_blocks(pack, caller, file, bytes, length);
     if (code == ABZ_OK)
         code = abz_close(pack->image, pack->length, caller, FOUR(file), ABZ_OUTPUT);
     return code;
 }
 
 /* The places from 0 on, until the service says that the file has no more; there must be one for every byte. */
-static size_t write_all(pack_file *pack, size_t caller, file_name file, const uint8_t *bytes, size_t left)
+static size_t write_blocks(pack_file *pack, size_t caller, file_name file, const uint8_t *bytes, size_t left)
 {
     uint8_t block[ABZ_BLOCK_BYTES];
     size_t code = ABZ_OK;
@@ -64,7 +64,7 @@ size_t body_load(pack_file *pack, size_t caller, file_name file, const uint8_t *
     if (code == ABZ_OK)
         code = abz_openu(pack->image, pack->length, caller, FOUR(file));
     if (code == ABZ_OK)
-        code = write_all(pack, caller, file, bytes, length);
+        code = write_blocks(pack, caller, file, bytes, length);
     if (code == ABZ_OK)
         code = abz_close(pack->image, pack->length, caller, FOUR(file), ABZ_UPDATE);
     return code;
@@ -84,7 +84,7 @@ static const struct {
 };
 
 /* The places from 0 on, until the service says that the file has no more. */
-static size_t read_all(pack_file *pack, size_t caller, file_name file, size_t kind, uint8_t *bytes, size_t *length)
+static size_t read_blocks(pack_file *pack, size_t caller, file_name file, size_t kind, uint8_t *bytes, size_t *length)
 {
     const size_t size = kinds[kind].size;
     size_t code = ABZ_OK;
@@ -103,7 +103,7 @@ size_t body_read(pack_file *pack, size_t caller, file_name file, size_t kind, ui
     size_t code = abz_openi(pack->image, pack->length, caller, FOUR(file));
 
     if (code == ABZ_OK)
-        code = read_all(pack, caller, file, kind, bytes, length);
+        code = read_blocks(pack, caller, file, kind, bytes, length);
     if (code == ABZ_OK)
         code = abz_close(pack->image, pack->length, caller, FOUR(file), ABZ_INPUT);
     return code;

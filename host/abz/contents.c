@@ -54,8 +54,7 @@ bool contents_read(const uint8_t *image, size_t number, contents_entry *entry)
 bool contents_find(const uint8_t *image, file_name file, contents_entry *entry)
 {
     for (size_t number = 0; number < contents_entries(image); number++)
-        if (contents_read(image, number, entry) && entry->name1 == file.name1 && entry->name2 == file.name2
-            && entry->extension == file.extension && entry->uic == file.uic)
+        if (contents_read(image, number, entry) && entry->uic == file.uic && is_same_name(contents_name(entry), file))
             return true;
     return false;
 }

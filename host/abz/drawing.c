@@ -55,7 +55,7 @@ static bool has_colours(void)
 }
 
 /* Changes the look where it is another than before. */
-static void show_look(int look)
+static void change_look(int look)
 {
     static int before = PLAIN;
 
@@ -66,7 +66,7 @@ static void show_look(int look)
 
 static void show_sign(sign it)
 {
-    show_look(it.look);
+    change_look(it.look);
     putchar(it.character);
 }
 
@@ -85,12 +85,12 @@ static void show_row(size_t first, size_t turn)
     putchar(' ');
     for (size_t block = first; block < first + ROW_BLOCKS && block < map.blocks.count; block++) {
         if (block % GROUP_BLOCKS == 0) {
-            show_look(PLAIN);
+            change_look(PLAIN);
             putchar(' ');
         }
         show_sign(of_block(block, turn));
     }
-    show_look(PLAIN);
+    change_look(PLAIN);
     putchar('\n');
 }
 
@@ -99,7 +99,7 @@ static void show_row(size_t first, size_t turn)
 static void show_kind(sign it, const char *what, size_t count)
 {
     show_sign(it);
-    show_look(PLAIN);
+    change_look(PLAIN);
     printf(" %-20s blocks ", what); /* as wide as a file and its owner */
     show_count(count);
 }
@@ -110,7 +110,7 @@ static void show_numbered(size_t number)
 
     contents_read(map.pack.image, map.entry_of[number], &file);
     show_sign(of_file(number));
-    show_look(PLAIN);
+    change_look(PLAIN);
     putchar(' ');
     show_name(file.name1, file.name2, file.extension);
     putchar(' ');

@@ -1,4 +1,4 @@
-/* Finish: what goes is listed before it goes. The service is called, what it took away is shown, the pack is written. */
+/* Finish: the service is called, what it took away is shown, and then the pack is written. */
 #include "commands.h"
 
 #include "abezolit.h"

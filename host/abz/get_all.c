@@ -123,8 +123,7 @@ static bool is_directory(const char *name)
 static bool is_alone(size_t i, const char *path)
 {
     for (size_t j = 0; j < i; j++)
-        if (chosen[j].file.name1 == chosen[i].file.name1 && chosen[j].file.name2 == chosen[i].file.name2
-            && chosen[j].file.extension == chosen[i].file.extension) {
+        if (is_same_name(contents_name(&chosen[j].file), contents_name(&chosen[i].file))) {
             complain("%s: two of the files have this name", path);
             return false;
         }
@@ -150,7 +149,7 @@ static bool write_chosen(const char *directory)
     for (size_t i = 0; i < count; i++)
         if (!path_of(i, directory, path)
             || !host_write(path, &pack, option("--force"), chosen[i].bytes, chosen[i].length)) {
-            complain("%s: of %zu files the first %zu are written", directory, count, i);
+            complain("%s: files written before that: %zu of %zu", directory, i, count);
             return false;
         }
     return true;
@@ -172,7 +171,7 @@ int command_get_all(char **arguments)
 
     while (texts[number + 1]) /* the last argument is the directory */
         number++;
-    if (!read_uic(arguments[1], &caller) || !are_patterns(texts, number))
+    if (!read_uic(arguments[1], &caller) || !are_patterns(texts, number) || !read_path("DIRECTORY", texts[number]))
         return STATUS_USAGE;
     if (!pack_read(&pack, arguments[0]))
         return STATUS_FAILED;

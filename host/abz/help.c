@@ -15,8 +15,8 @@ static const struct {
     { "CALLER", "for whom it is done: a UIC as 23,10 or [23,10], whose rights count" },
     { "UIC", "group and user, each octal and at most 377: 23,10 or [23,10]" },
     { "FILE, OLD, NEW, FIRST, SECOND",
-      "a file of the pack: FREQ.DAT is the caller's, 'FREQ.DAT[23,10]' that\n"
-      "of another UIC. A name is 1 to 6 capitals and digits, an extension\n"
+      "a file of the pack: FREQ.DAT is the caller's, 'FREQ.DAT[23,10]' is\n"
+      "another UIC's. A name is 1 to 6 capitals and digits, an extension\n"
       "up to 3 of them; it may be missing, with its period or without." },
     { "PATTERN",
       "files of the pack: as FILE, and each * in the name or the extension\n"
@@ -33,15 +33,15 @@ static const struct {
     { "SEGMENTS", "decimal; of 128 bytes each" },
     { "BLOCKS, CONTENTS", "decimal" },
     { "HOSTFILE",
-      "a file of this computer; - is standard input or standard output. One\n"
-      "that is written is made, or replaced if it is a regular file; what\n"
-      "somebody else opened, /dev/stdout or /dev/fd/N, is written into." },
+      "a file of this computer; - is standard input or standard output.\n"
+      "One that is written is made, or replaced if it is a regular file;\n"
+      "what is open already, /dev/stdout or /dev/fd/N, is written into." },
     { "DIRECTORY", "a directory of this computer" },
     { "LINE", "a command line, as an operator types it" },
     { "SECONDS",
       "decimal; how long a command that changes PACK waits while another\n"
-      "program has it locked; 0 is not at all. Without --wait it waits till\n"
-      "it is free. After 2 seconds it says who has it." },
+      "program has it locked; 0 is not at all. Without --wait it waits\n"
+      "till it is free. After 2 seconds it says who has it." },
 };
 
 enum { ARGUMENTS = sizeof arguments / sizeof *arguments, TEXT_COLUMN = 12 };
@@ -54,7 +54,7 @@ bool is_of_command(const command *row, const char *name)
 }
 
 /* Text of several lines, each of them from this column on; the first may stand behind a word. */
-static void show_lines(const char *text, int column, int behind)
+static void show_text(const char *text, int column, int behind)
 {
     for (size_t length; *text; text += length + (text[length] == '\n'), behind = 0) {
         length = strcspn(text, "\n");
@@ -95,7 +95,7 @@ static void show_argument(size_t i)
         putchar('\n');
         length = 0;
     }
-    show_lines(arguments[i].are, TEXT_COLUMN, length);
+    show_text(arguments[i].are, TEXT_COLUMN, length);
 }
 
 int show_help(const command *rows, size_t count, const char *rest)
@@ -103,7 +103,7 @@ int show_help(const command *rows, size_t count, const char *rest)
     printf("usage: abz [--wait SECONDS] COMMAND ARGUMENT...\n\nCommands:\n");
     for (size_t i = 0; i < count; i++) {
         printf("  %s %s\n", rows[i].name, rows[i].synopsis);
-        show_lines(rows[i].does, 6, 0);
+        show_text(rows[i].does, 6, 0);
     }
     printf("\nArguments:\n");
     for (size_t i = 0; i < ARGUMENTS; i++)
@@ -128,7 +128,7 @@ int show_help_of(const command *rows, size_t count, const char *name)
     for (size_t i = 0; i < count; i++)
         if (is_of_command(&rows[i], name)) {
             printf("usage: abz %s %s\n", rows[i].name, rows[i].synopsis);
-            show_lines(rows[i].does, 6, 0);
+            show_text(rows[i].does, 6, 0);
             found = true;
         }
     if (!found) {

@@ -29,8 +29,7 @@ bool host_read(const char *host, uint8_t *bytes, size_t room, size_t *length)
     return right;
 }
 
-/* Who mixes up the two names must not lose the pack. */
-static bool is_pack(const char *host, const pack_file *pack)
+bool host_is_pack(const char *host, const pack_file *pack)
 {
     const bool it_is = !is_standard(host) && pack_is(pack, host);
 
@@ -43,21 +42,16 @@ bool host_may_write(const char *host, const pack_file *pack, bool force)
 {
     struct stat there;
 
-    if (is_pack(host, pack))
-        return false;
-    /* An empty file has nothing to lose, and mktemp makes such; what is no regular file is not replaced anyway. */
-    if (!force && stat(host, &there) == 0 && S_ISREG(there.st_mode) && there.st_size > 0) {
-        complain("%s: is there already; with --force it is overwritten", host);
-        return false;
-    }
-    return true;
+    return !host_is_pack(host, pack) && (stat(host, &there) != 0 || may_replace(host, &there, force));
 }
 
 bool host_write(const char *host, const pack_file *pack, bool force, const uint8_t *bytes, size_t length)
 {
     const int given = descriptor_of(host, STDOUT_FILENO);
 
+    if (host_is_pack(host, pack))
+        return false;
     if (given < 0)
-        return host_may_write(host, pack, force) && replace_file(host, bytes, length);
-    return !is_pack(host, pack) && write_bytes(given, is_standard(host) ? "standard output" : host, bytes, length);
+        return replace_file(host, force, bytes, length);
+    return write_bytes(given, is_standard(host) ? "standard output" : host, bytes, length);
 }

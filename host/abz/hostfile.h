@@ -4,14 +4,17 @@
 
 #include "packfile.h"
 
+/* Whether it is the file that the pack is in; then it says so. Who mixes up the two names must not lose the pack. */
+bool host_is_pack(const char *host, const pack_file *pack);
+
 /* Each of these says on standard error what went wrong where it returns false. */
 
 /* Reads all that it holds; if that is more than there is room for, its beginning. */
 bool host_read(const char *host, uint8_t *bytes, size_t room, size_t *length);
 
 /*
- * Whether a file may be written: it is not the pack, and not another that holds something already unless by force. Only
- * replacing it then tells what the system thinks of it.
+ * Whether a file may be written, as far as can be seen before: it is not the pack, and nothing but a file that may be
+ * replaced (replace.h) stands there. Only replacing it then tells what the system thinks of it.
  */
 bool host_may_write(const char *host, const pack_file *pack, bool force);
 

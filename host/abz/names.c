@@ -161,6 +161,11 @@ bool read_name(const char *text, file_name *file)
     return true;
 }
 
+bool is_same_name(file_name a, file_name b)
+{
+    return a.name1 == b.name1 && a.name2 == b.name2 && a.extension == b.extension;
+}
+
 /* ---- Files of this computer ---- */
 
 bool read_path(const char *what, const char *text)

@@ -25,4 +25,7 @@ bool read_uic(const char *text, size_t *uic);         /* [23,10] or 23,10 */
 bool read_name(const char *text, file_name *file);    /* FREQ.DAT or FREQ.DAT[23,10] */
 bool read_path(const char *what, const char *text);   /* of a file of this computer: only that it is not empty */
 
+/* Whether two files have one name and extension, whoever owns them. */
+bool is_same_name(file_name a, file_name b);
+
 #endif

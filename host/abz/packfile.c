@@ -104,6 +104,7 @@ bool pack_take(pack_file *pack, const char *path)
     const int descriptor = open_locked(path);
 
     pack->path = path;
+    pack->force = true;
     return descriptor >= 0 && read_image(pack, descriptor); /* not closed: that would end the lock */
 }
 
@@ -115,7 +116,7 @@ bool pack_is(const pack_file *pack, const char *path)
 }
 
 /* Whether what was read is nothing, or a pack. */
-static bool is_pack(const pack_file *pack)
+static bool may_format(const pack_file *pack)
 {
     if (pack->length == 0 || abz_report(pack->image, pack->length).rule == ABZ_CONSISTENT)
         return true;
@@ -128,7 +129,8 @@ bool pack_begin(pack_file *pack, const char *path, size_t blocks, bool force)
     struct stat there;
 
     pack->path = path;
-    if (stat(path, &there) == 0 && !(pack_take(pack, path) && (force || is_pack(pack))))
+    pack->force = force;
+    if (stat(path, &there) == 0 && !(pack_take(pack, path) && (force || may_format(pack))))
         return false;
     pack->length = ABZ_BLOCK_BYTES * blocks;
     memset(pack->image, 0, pack->length);
@@ -137,7 +139,7 @@ bool pack_begin(pack_file *pack, const char *path, size_t blocks, bool force)
 
 bool pack_write(const pack_file *pack)
 {
-    return replace_file(pack->path, pack->image, pack->length);
+    return replace_file(pack->path, pack->force, pack->image, pack->length);
 }
 
 int pack_end(const pack_file *pack, const char *command, size_t code)

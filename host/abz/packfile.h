@@ -13,6 +13,7 @@
 
 typedef struct {
     const char *path;
+    bool force; /* whether the file is written whatever it holds by then: it was taken, or goes by force */
     size_t length;
     /* One byte more than any pack has, so that a file too long is seen to be so. */
     uint8_t image[ABZ_BLOCK_BYTES * ABZ_BLOCKS_MOST + 1];

@@ -48,14 +48,17 @@ static bool are_host_names(char **hosts)
     return true;
 }
 
-/* The pack is locked while this reads, so it does not wait for a pipe. */
+/*
+ * The pack is locked while this reads, so it does not wait for a pipe; nor does it read the pack itself, which has no
+ * room for itself, and which to close would end the lock.
+ */
 static bool read_regular(const char *host, size_t *length)
 {
     struct stat there;
 
     if (stat(host, &there) != 0)
         return complain_of(host);
-    return is_regular(host, there.st_mode) && host_read(host, bytes, sizeof bytes, length);
+    return !host_is_pack(host, &pack) && is_regular(host, there.st_mode) && host_read(host, bytes, sizeof bytes, length);
 }
 
 static bool put_one(const char *host, size_t caller, size_t protect)

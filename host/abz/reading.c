@@ -22,7 +22,7 @@ static bool is_dropped(char character)
     return character == ' ' || character == '\t' || character == 127;
 }
 
-/* What is left of the line: a refusal does not write it, so it is made here. It is short, for else the line is too long. */
+/* What is left of the line, made here since a refusal does not write it. It is short, for else the line is too long. */
 static size_t condense(const char *line, char *condensed)
 {
     size_t length = 0;

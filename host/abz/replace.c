@@ -30,6 +30,7 @@
 
 typedef struct {
     const char *name;       /* what the technician calls the file, for messages */
+    bool force;             /* whether it is replaced whatever it holds */
     char *path;             /* the file itself, where links lead */
     const struct stat *old; /* NULL if there is none yet */
     char *directory;        /* the one that it is in, with the slash behind it */
@@ -44,6 +45,17 @@ static bool complain_of_new(const replacement *it)
 }
 
 /* ---- Where the file is ---- */
+
+static bool complain_of_present(const char *name)
+{
+    complain("%s: is there already; with --force it is overwritten", name);
+    return false;
+}
+
+bool may_replace(const char *name, const struct stat *there, bool force)
+{
+    return is_regular(name, there->st_mode) && (force || there->st_size == 0 || complain_of_present(name));
+}
 
 /*
  * What is replaced is the file where links lead, so that a link stays a link; one that leads nowhere is left alone, for
@@ -66,7 +78,7 @@ static bool find_file(replacement *it, struct stat *old)
         return false;
     }
     it->old = old;
-    if (!is_regular(it->name, old->st_mode))
+    if (!may_replace(it->name, old, it->force))
         return false;
     it->path = realpath(it->name, NULL);
     return (it->path != NULL && faccessat(AT_FDCWD, it->path, W_OK, AT_EACCESS) == 0) || complain_of(it->name);
@@ -91,26 +103,33 @@ static bool find_directory(replacement *it)
 enum { NEW_NAME_ROOM = 64, TRIES_MOST = 100 };
 
 /* To the letter: what is written from its numbers again is the name. */
-static bool is_new_name(const char *name, long *process)
+static bool is_new_name(const char *name)
 {
     char again[NEW_NAME_ROOM];
+    long process;
     unsigned number;
 
-    return sscanf(name, ".abz-new.%18ld.%9u", process, &number) == 2 && *process > 0
-           && snprintf(again, sizeof again, NEW_NAME, *process, number) > 0 && strcmp(name, again) == 0;
+    return sscanf(name, ".abz-new.%18ld.%9u", &process, &number) == 2 && process > 0
+           && snprintf(again, sizeof again, NEW_NAME, process, number) > 0 && strcmp(name, again) == 0;
 }
 
 /*
  * Whoever makes a new file has it locked until it gets its name, and the system takes the lock from the dead. So what
  * can be locked is nobody's; if it is still what stands under the name, for it may have got its own just before the
- * lock was free. O_NOFOLLOW and O_NONBLOCK: somebody may have put a link or a pipe there.
+ * lock was free. O_NOFOLLOW and O_NONBLOCK: somebody may have put a link or a pipe there. Where take_name was killed it
+ * is another name of the old file, which is not opened: to close it would end the lock that the caller may have on it.
  */
-static void clear_leftover(int directory, const char *name)
+static void clear_leftover(int directory, const char *name, const struct stat *old)
 {
     struct flock whole = { .l_type = F_WRLCK, .l_whence = SEEK_SET };
     struct stat opened, named;
-    const int descriptor = openat(directory, name, O_RDWR | O_NOFOLLOW | O_NONBLOCK);
+    int descriptor;
 
+    if (old && fstatat(directory, name, &named, AT_SYMLINK_NOFOLLOW) == 0 && is_same_file(&named, old)) {
+        unlinkat(directory, name, 0);
+        return;
+    }
+    descriptor = openat(directory, name, O_RDWR | O_NOFOLLOW | O_NONBLOCK);
     if (descriptor < 0)
         return;
     if (fstat(descriptor, &opened) == 0 && S_ISREG(opened.st_mode) && fcntl(descriptor, F_SETLK, &whole) == 0
@@ -119,18 +138,20 @@ static void clear_leftover(int directory, const char *name)
     close(descriptor);
 }
 
-/* Where it cannot be done nothing is said. Our own are passed over: a lock does not keep out the one that has it. */
-static void clear_leftovers(const char *directory)
+/*
+ * Before this process makes one, for its own lock would not keep it out: so one with its number is another's too, of a
+ * process that had the number before it or has it on another computer. Where it cannot be done nothing is said.
+ */
+static void clear_leftovers(const char *directory, const struct stat *old)
 {
     DIR *const stream = opendir(directory);
     const struct dirent *entry;
-    long process;
 
     if (stream == NULL)
         return;
     while ((entry = readdir(stream)) != NULL)
-        if (is_new_name(entry->d_name, &process) && process != (long)getpid())
-            clear_leftover(dirfd(stream), entry->d_name);
+        if (is_new_name(entry->d_name))
+            clear_leftover(dirfd(stream), entry->d_name, old);
     closedir(stream);
 }
 
@@ -293,6 +314,7 @@ static bool inherit_owner(const char *name, const char *path, const struct stat 
     return false;
 }
 
+/* Not set-user-ID and the like, which the system takes away from a file that is written. */
 static bool inherit_permissions(const char *name, const struct stat *old, int descriptor)
 {
     struct stat made;
@@ -350,6 +372,30 @@ static bool is_undisturbed(const replacement *it, const sigset_t *held)
 
 /* ---- The steps ---- */
 
+/* One more look, as late as can be. What has appeared is not overwritten even if it is empty: somebody fills it now. */
+static bool is_still_free(const replacement *it)
+{
+    struct stat there;
+
+    if (lstat(it->path, &there) != 0)
+        return true;
+    return it->old ? may_replace(it->name, &there, false) : complain_of_present(it->name);
+}
+
+/*
+ * A rename does away with whatever has the name. So where nothing had it the new file gets it by a link, which fails if
+ * a file has appeared meanwhile; then its first name goes, and a kill in between leaves that behind. Where there are no
+ * links, and for an empty file that is filled meanwhile, the look has to do. By force all this is allowed.
+ */
+static bool take_name(const replacement *it)
+{
+    if (!it->force && it->old == NULL && link(it->new, it->path) == 0) {
+        unlink(it->new);
+        return true;
+    }
+    return (it->force || is_still_free(it)) && (rename(it->new, it->path) == 0 || complain_of_new(it));
+}
+
 /* So that the rename outlives a loss of power. The file is right by now, so it is no fault where this cannot be had. */
 static void sync_directory(const char *directory)
 {
@@ -365,14 +411,14 @@ static bool replace_by_new(replacement *it, const uint8_t *bytes, size_t length,
 {
     bool right;
 
-    clear_leftovers(it->directory); /* before: they may be what fills the disk */
+    clear_leftovers(it->directory, it->old); /* before: they may be what fills the disk */
     if (!make_new(it))
         return false;
     right = (write_all(it->descriptor, bytes, length) || complain_of_new(it))
             && (it->old == NULL || inherit(it->name, it->path, it->old, it->descriptor)) /* now that it is whole */
             && (fsync(it->descriptor) == 0 || complain_of_new(it)) /* or the name could lead to bytes not on the disk */
             && is_undisturbed(it, held)                            /* the last moment to give up */
-            && (rename(it->new, it->path) == 0 || complain_of_new(it));
+            && take_name(it);
     if (right)
         sync_directory(it->directory);
     else
@@ -381,9 +427,9 @@ static bool replace_by_new(replacement *it, const uint8_t *bytes, size_t length,
     return right;
 }
 
-bool replace_file(const char *name, const uint8_t *bytes, size_t length)
+bool replace_file(const char *name, bool force, const uint8_t *bytes, size_t length)
 {
-    replacement it = { .name = name };
+    replacement it = { .name = name, .force = force };
     struct stat old;
     sigset_t held, before;
     bool right = find_file(&it, &old) && find_directory(&it);

@@ -5,12 +5,20 @@
 #include <stdbool.h>
 #include <stddef.h>
 #include <stdint.h>
+#include <sys/stat.h>
 
 /*
- * Makes a file hold just these bytes. Whoever opens it finds all of the old bytes or all of the new, also if the
- * program is killed or the machine stops meanwhile. A file that is there keeps its owner, group, permissions, ACL and
- * other attributes, or is not replaced. If it returns false, what was there is untouched, nothing new is left, and it
- * has said on standard error what went wrong.
+ * Whether what stands under a name may be replaced: a regular file that is empty, and by force any regular file. If it
+ * returns false, it has said on standard error why. An empty one has nothing to lose, and mktemp makes such.
+ */
+bool may_replace(const char *name, const struct stat *there, bool force);
+
+/*
+ * Makes a file hold just these bytes, if what is there may be replaced; what appears there meanwhile is not, unless by
+ * force. Whoever opens it finds all of the old bytes or all of the new, also if the program is killed or the machine
+ * stops meanwhile. A file that is there keeps its owner, group, permissions, ACL and other attributes, or is not
+ * replaced. If it returns false, what was there is untouched, nothing new is left, and it has said on standard error
+ * what went wrong.
  *
  * Signals that end a program are held meanwhile. One that came before the new file stood under the name makes it return
  * false, and then ends the program as ever. Behind that it returns true and goes on holding them, so that a program
@@ -19,6 +27,6 @@
  * SIGXFSZ must be ignored, for else a limit on the size of files ends the program and leaves the new file behind. Only
  * one thread at a time may be here, as masks are those of the process.
  */
-bool replace_file(const char *name, const uint8_t *bytes, size_t length);
+bool replace_file(const char *name, bool force, const uint8_t *bytes, size_t length);
 
 #endif

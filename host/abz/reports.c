@@ -23,7 +23,7 @@ static void show_opens(const contents_entry *file)
     show_count(file->readers);
 }
 
-static void show_line(const contents_entry *file)
+static void show_entry(const contents_entry *file)
 {
     if (option("--opens") && file->writer == 0 && file->readers == 0)
         return;
@@ -44,7 +44,7 @@ static void show_listing(void)
     show_totals(blocks.count, blocks_count(&blocks, ABZ_FREE));
     for (size_t entry = 0; entry < contents_entries(pack.image); entry++)
         if (contents_read(pack.image, entry, &file))
-            show_line(&file);
+            show_entry(&file);
 }
 
 int command_list(char **arguments)

@@ -22,7 +22,7 @@ static pack_file pack;
 /* ---- Packs ---- */
 
 /* What is wrong with one more UIC behind those that a new pack has already; NULL if nothing is. */
-static const char *fault_of(size_t uic, const uint8_t *uics, size_t length)
+static const char *uic_fault(size_t uic, const uint8_t *uics, size_t length)
 {
     if (uic == 0)
         return "no user has the UIC [0,0]";
@@ -41,7 +41,7 @@ static bool read_uics(char **texts, uint8_t uics[2 * ABZ_UICS_MOST], size_t *len
     for (*length = 0; *texts; texts++) {
         if (!read_uic(*texts, &uic))
             return false;
-        fault = fault_of(uic, uics, *length);
+        fault = uic_fault(uic, uics, *length);
         if (fault) {
             complain("'%s': %s", *texts, fault);
             return false;
@@ -81,7 +81,6 @@ static void show_look(const abz_look_answer *answer)
     printf("\nwriter   %s\nreaders  ", mode_word(answer->writer));
     show_count(answer->readers);
 }
-
 
 int command_look(char **arguments)
 {
@@ -180,10 +179,9 @@ int command_rename(char **arguments)
 }
 
 /* Whether two names are of one file, however they are written; it need not be there. */
-static bool same_name(size_t caller, file_name a, file_name b)
+static bool is_one_file(size_t caller, file_name a, file_name b)
 {
-    return a.name1 == b.name1 && a.name2 == b.name2 && a.extension == b.extension
-           && (a.uic ? a.uic : caller) == (b.uic ? b.uic : caller);
+    return is_same_name(a, b) && (a.uic ? a.uic : caller) == (b.uic ? b.uic : caller);
 }
 
 int command_append(char **arguments)
@@ -193,7 +191,7 @@ int command_append(char **arguments)
 
     if (!read_uic(arguments[1], &caller) || !read_name(arguments[2], &first) || !read_name(arguments[3], &second))
         return STATUS_USAGE;
-    if (same_name(caller, first, second)) {
+    if (is_one_file(caller, first, second)) {
         complain("'%s': a file cannot be appended to itself", arguments[3]);
         return STATUS_USAGE;
     }

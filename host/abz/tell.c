@@ -1,4 +1,4 @@
-/* A refusal in words: what each code means to a technician, for each command. */
+/* What abz says: a line for every cause, and what each code of a refusal means to a technician, for each command. */
 #define _POSIX_C_SOURCE 200809L
 #include "tell.h"
 

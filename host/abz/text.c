@@ -68,7 +68,7 @@ static uint8_t text[ABZ_PAYLOAD_BYTES * ABZ_BLOCKS_MOST];
 static size_t length;
 
 /* What a byte is if no text has it, since reading would drop it or make another character of it; else NULL. */
-static const char *fault_of(uint8_t byte)
+static const char *byte_fault(uint8_t byte)
 {
     if (byte == 0)
         return "a NUL";
@@ -83,7 +83,7 @@ static bool is_text(void)
     size_t line = 1;
 
     for (size_t i = 0; i < length; i++) {
-        const char *fault = fault_of(text[i]);
+        const char *fault = byte_fault(text[i]);
         if (fault) {
             complain("standard input: line %zu has %s, and a text is ASCII without NUL and RUBOUT", line, fault);
             return false;
