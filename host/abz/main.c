@@ -83,7 +83,7 @@ static const command commands[] = {
     { "get", "[--trim] [--force] PACK CALLER FILE HOSTFILE", 4, 4, command_get,
       "write the bytes of a linked file to HOSTFILE; NULs that filled it up\n"
       "are among them. With --trim the NULs at the end are left away. --force\n"
-      "overwrites a HOSTFILE that is there and is not empty." },
+      "overwrites a HOSTFILE that is there." },
     { "get --all", "[--trim] [--force] PACK CALLER PATTERN... DIRECTORY", 4, INT_MAX, command_get_all,
       "the same for each file that a PATTERN stands for, linked or\n"
       "contiguous, under its own name in DIRECTORY. Lists them, as list --use\n"
@@ -96,8 +96,7 @@ static const command commands[] = {
       "be large enough; else one is made that is just large enough." },
     { "dump", "[--trim] [--force] PACK CALLER FILE HOSTFILE", 4, 4, command_dump,
       "write the bytes of a contiguous file to HOSTFILE, with --trim without\n"
-      "the NULs at the end. --force overwrites a HOSTFILE that is there and\n"
-      "is not empty." },
+      "the NULs at the end. --force overwrites a HOSTFILE that is there." },
     { "type", "PACK CALLER FILE", 3, 3, command_type,
       "write the lines of a linked file to standard output: its text with\n"
       "no NUL and no RUBOUT, and in 7 bits" },

@@ -115,10 +115,10 @@ bool pack_is(const pack_file *pack, const char *path)
     return stat(pack->path, &ours) == 0 && stat(path, &other) == 0 && is_same_file(&ours, &other);
 }
 
-/* Whether what was read is nothing, or a pack. */
+/* Whether what was read is a pack. */
 static bool may_format(const pack_file *pack)
 {
-    if (pack->length == 0 || abz_report(pack->image, pack->length).rule == ABZ_CONSISTENT)
+    if (abz_report(pack->image, pack->length).rule == ABZ_CONSISTENT)
         return true;
     complain("%s: is there already and is no pack; with --force it is overwritten", pack->path);
     return false;

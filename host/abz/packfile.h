@@ -35,7 +35,7 @@ bool pack_is(const pack_file *pack, const char *path);
 
 /*
  * For formatting: so many blocks of 0, ABZ_BLOCKS_MOST at most. If there is a file already, no other abz changes it. It
- * must be empty or, as the service finds, a consistent pack: anything else goes only by force.
+ * must be, as the service finds, a consistent pack: anything else goes only by force.
  */
 bool pack_begin(pack_file *pack, const char *path, size_t blocks, bool force);
 

@@ -54,7 +54,7 @@ static bool complain_of_present(const char *name)
 
 bool may_replace(const char *name, const struct stat *there, bool force)
 {
-    return is_regular(name, there->st_mode) && (force || there->st_size == 0 || complain_of_present(name));
+    return is_regular(name, there->st_mode) && (force || complain_of_present(name));
 }
 
 /*
@@ -372,24 +372,22 @@ static bool is_undisturbed(const replacement *it, const sigset_t *held)
 
 /* ---- The steps ---- */
 
-/* One more look, as late as can be. What has appeared is not overwritten even if it is empty: somebody fills it now. */
+/* One more look, as late as can be. */
 static bool is_still_free(const replacement *it)
 {
     struct stat there;
 
-    if (lstat(it->path, &there) != 0)
-        return true;
-    return it->old ? may_replace(it->name, &there, false) : complain_of_present(it->name);
+    return lstat(it->path, &there) != 0 || complain_of_present(it->name);
 }
 
 /*
- * A rename does away with whatever has the name. So where nothing had it the new file gets it by a link, which fails if
- * a file has appeared meanwhile; then its first name goes, and a kill in between leaves that behind. Where there are no
- * links, and for an empty file that is filled meanwhile, the look has to do. By force all this is allowed.
+ * A rename does away with whatever has the name. So without force the new file gets it by a link, which fails if a file
+ * has appeared meanwhile; then its first name goes, and a kill in between leaves that behind. Where there are no links
+ * the look has to do.
  */
 static bool take_name(const replacement *it)
 {
-    if (!it->force && it->old == NULL && link(it->new, it->path) == 0) {
+    if (!it->force && link(it->new, it->path) == 0) {
         unlink(it->new);
         return true;
     }

@@ -8,8 +8,8 @@
 #include <sys/stat.h>
 
 /*
- * Whether what stands under a name may be replaced: a regular file that is empty, and by force any regular file. If it
- * returns false, it has said on standard error why. An empty one has nothing to lose, and mktemp makes such.
+ * Whether what stands under a name may be replaced: only by force, and only a regular file. If it returns false, it has
+ * said on standard error why.
  */
 bool may_replace(const char *name, const struct stat *there, bool force);
 
