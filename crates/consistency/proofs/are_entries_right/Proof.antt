@@ -44,13 +44,21 @@ same-length : tie.Need-same-length Inv-loop μ-loop
 same-length c = search needs
 
 same-length-2 : tie.Need-same-length-2 Inv-loop μ-loop
-same-length-2 c = c .before .before .before .before .before .is-entry-right .kept .1 .1 .0 ∙ (c .before .before .before .before .before .before .before .before .before .loop .inv .2 .long ∙ sym (c .before .before .before .before .before .before .before .before .before .before .before .before .before .before .pre .1 .1 .2))
+same-length-2 c =
+    let pre = c .before .before .before .before .before .before .before .before .before .before .before .before .before .before .pre in
+    let loop = c .before .before .before .before .before .before .before .before .before .loop in
+    let is-entry-right = c .before .before .before .before .before .is-entry-right in
+    is-entry-right .kept .1 .1 .0 ∙ (loop .inv .2 .long ∙ sym (pre .1 .1 .2))
 
 returns : tie.Need-returns Inv-loop μ-loop
-returns c = let loop = c .before .before .before .before .before .before .before .before .before .loop in
-    let below = c .before .before .before .before .before .before .before .before .loop-test .taken in
-    let few = c .before .before .before .before .before .before .before .before .before .before .used-end .ensures .most in
-    (either-wrong _ _ _ _ _ _ (omega (arith, below, few)) (loop .inv .3) (loop .inv .5) (sym (c .before .before .before .before .before .is-entry-right .ensures .0) ∙ not-true _ (c .if1 .taken)), λ e. cc)
+returns c =
+    let used-end = c .before .before .before .before .before .before .before .before .before .before .used-end in
+    let loop = c .before .before .before .before .before .before .before .before .before .loop in
+    let loop-test = c .before .before .before .before .before .before .before .before .loop-test in
+    let is-entry-right = c .before .before .before .before .before .is-entry-right in
+    let below = loop-test .taken in
+    let few = used-end .ensures .most in
+    (either-wrong _ _ _ _ _ _ (omega (arith, below, few)) (loop .inv .3) (loop .inv .5) (sym (is-entry-right .ensures .0) ∙ not-true _ (c .if1 .taken)), λ e. cc)
 
 add-e : tie.Need-add-e Inv-loop μ-loop
 add-e c = search needs
@@ -59,12 +67,17 @@ loop-less : tie.Need-loop-less Inv-loop μ-loop
 loop-less c = search needs
 
 loop-again : tie.Need-loop-again Inv-loop μ-loop
-loop-again c = let loop = c .before .before .before .before .before .before .before .before .before .loop in
-    let few = c .before .before .before .before .before .before .before .before .before .before .used-end .ensures .most in
-    let f = c .before .before .before .before .before .is-entry-right in
+loop-again c =
+    let args = c .before .before .before .before .before .before .before .before .before .before .before .before .before .before .args in
+    let used-end = c .before .before .before .before .before .before .before .before .before .before .used-end in
+    let loop = c .before .before .before .before .before .before .before .before .before .loop in
+    let loop-test = c .before .before .before .before .before .before .before .before .loop-test in
+    let is-entry-right = c .before .before .before .before .before .is-entry-right in
+    let few = used-end .ensures .most in
+    let f = is-entry-right in
     let right = not-false _ (c .if1 .left) in
     let marked = f .ensures .1 .0 right in
-    let below : c .before .before .before .before .before .before .before .before .before .loop .e < slots (c .before .before .before .before .before .before .before .before .before .before .before .before .before .before .args .g) = omega (arith, c .before .before .before .before .before .before .before .before .loop-test .taken, few) in
+    let below : loop .e < slots (args .g) = omega (arith, loop-test .taken, few) in
     let both = parts _ _ (sym (f .ensures .0) ∙ right) in (
       f .kept .1 .0 ∙ loop .inv .0,
       taken-mark _ _ marked (loop .inv .1),

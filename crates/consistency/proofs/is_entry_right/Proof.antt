@@ -34,8 +34,11 @@ returns-2 : tie.Need-returns-2
 returns-2 c = (stop _ _ (sym (c .before .before .before .is-file-right .ensures .0) ∙ not-true _ (c .if2 .taken)), (λ e. cc, λ e. true-not-false (sym e)))
 
 does-differ-requires : tie.Need-does-differ-requires
-does-differ-requires c κs = let pre = c .before .before .before .before .before .before .before .before .before .before .before .pre in
-    (pre .0, (pre .1 .0 .1, λ none. c .before .before .before .before .before .before .if1 .left (c .before .before .before .before .before .before .before .entry-word .ensures .0 ∙ none), pre .1 .1 .2))
+does-differ-requires c κs =
+    let pre = c .before .before .before .before .before .before .before .before .before .before .before .pre in
+    let entry-word = c .before .before .before .before .before .before .before .entry-word in
+    let if1 = c .before .before .before .before .before .before .if1 in
+    (pre .0, (pre .1 .0 .1, λ none. if1 .left (entry-word .ensures .0 ∙ none), pre .1 .1 .2))
 
 same-length-2 : tie.Need-same-length-2
 same-length-2 c = search needs

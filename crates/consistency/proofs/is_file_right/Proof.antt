@@ -16,11 +16,14 @@ is-rest-zero-requires : tie.Need-is-rest-zero-requires
 is-rest-zero-requires c κs = search needs
 
 returns-2 : tie.Need-returns-2
-returns-2 c = (
-  file-rest _ _ _ _ (c .before .before .before .before .before .before .pre .1 .0 .2) (sym (c .before .before .before .are-fields-right .ensures) ∙ not-false _ (c .before .before .if1 .left))
-      (sym (c .before .is-rest-zero .ensures) ∙ not-true _ (c .if2 .taken)),
-  λ e. cc,
-)
+returns-2 c =
+    let pre = c .before .before .before .before .before .before .pre in
+    let are-fields-right = c .before .before .before .are-fields-right in
+    let if1 = c .before .before .if1 in (
+      file-rest _ _ _ _ (pre .1 .0 .2) (sym (are-fields-right .ensures) ∙ not-false _ (if1 .left))
+          (sym (c .before .is-rest-zero .ensures) ∙ not-true _ (c .if2 .taken)),
+      λ e. cc,
+    )
 
 read-entry-requires : tie.Need-read-entry-requires
 read-entry-requires c κs = search needs
@@ -32,10 +35,18 @@ same-length : tie.Need-same-length
 same-length c = search needs
 
 returns-3 : tie.Need-returns-3
-returns-3 c = let used = c .before .before .before .before .before .before .before .before .before .before .before .pre .1 .0 .2 in
-    let read = c .before .before .before .read-entry .ensures .0 in
-    let body = c .before .before .is-body-right in (
-      file-body _ _ _ _ used (sym (c .before .before .before .before .before .before .before .before .are-fields-right .ensures) ∙ not-false _ (c .before .before .before .before .before .before .before .if1 .left)) (sym (c .before .before .before .before .before .before .is-rest-zero .ensures) ∙ not-false _ (c .before .before .before .before .before .if2 .left))
+returns-3 c =
+    let pre = c .before .before .before .before .before .before .before .before .before .before .before .pre in
+    let are-fields-right = c .before .before .before .before .before .before .before .before .are-fields-right in
+    let if1 = c .before .before .before .before .before .before .before .if1 in
+    let is-rest-zero = c .before .before .before .before .before .before .is-rest-zero in
+    let if2 = c .before .before .before .before .before .if2 in
+    let read-entry = c .before .before .before .read-entry in
+    let is-body-right = c .before .before .is-body-right in
+    let used = pre .1 .0 .2 in
+    let read = read-entry .ensures .0 in
+    let body = is-body-right in (
+      file-body _ _ _ _ used (sym (are-fields-right .ensures) ∙ not-false _ (if1 .left)) (sym (is-rest-zero .ensures) ∙ not-false _ (if2 .left))
           _ read _ (body .ensures .0),
       λ right. file-mark _ _ _ _ used _ read _ (body .ensures .1 right),
     )

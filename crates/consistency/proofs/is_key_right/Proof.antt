@@ -19,14 +19,23 @@ is-name-right-requires : tie.Need-is-name-right-requires
 is-name-right-requires c κs = search needs
 
 returns : tie.Need-returns
-returns c = key-name _ _ _ (c .before .before .before .before .entry-word .ensures .0) (c .before .before .before .entry-word2 .ensures .0) (sym (c .before .is-name-right .ensures) ∙ not-true _ (c .if1 .taken))
+returns c =
+    let entry-word = c .before .before .before .before .entry-word in
+    let entry-word2 = c .before .before .before .entry-word2 in
+    key-name _ _ _ (entry-word .ensures .0) (entry-word2 .ensures .0) (sym (c .before .is-name-right .ensures) ∙ not-true _ (c .if1 .taken))
 
 is-legal-extension-requires : tie.Need-is-legal-extension-requires
 is-legal-extension-requires c κs = search needs
 
 returns-2 : tie.Need-returns-2
-returns-2 c = key-extension _ _ _ (c .before .before .before .before .before .before .entry-word .ensures .0) (c .before .before .before .before .before .entry-word2 .ensures .0) (sym (c .before .before .before .is-name-right .ensures) ∙ not-false _ (c .before .before .if1 .left))
-    (c .before .before .before .before .entry-word3 .ensures .0) (sym (c .before .is-legal-extension .ensures) ∙ not-true _ (c .if2 .taken))
+returns-2 c =
+    let entry-word = c .before .before .before .before .before .before .entry-word in
+    let entry-word2 = c .before .before .before .before .before .entry-word2 in
+    let entry-word3 = c .before .before .before .before .entry-word3 in
+    let is-name-right = c .before .before .before .is-name-right in
+    let if1 = c .before .before .if1 in
+    key-extension _ _ _ (entry-word .ensures .0) (entry-word2 .ensures .0) (sym (is-name-right .ensures) ∙ not-false _ (if1 .left))
+    (entry-word3 .ensures .0) (sym (c .before .is-legal-extension .ensures) ∙ not-true _ (c .if2 .taken))
 
 entry-word-requires-4 : tie.Need-entry-word-requires-4
 entry-word-requires-4 c κs = search needs
@@ -35,8 +44,16 @@ is-listed-requires : tie.Need-is-listed-requires
 is-listed-requires c κs = search needs
 
 returns-3 : tie.Need-returns-3
-returns-3 c = key-uic _ _ _ (c .before .before .before .before .before .before .before .before .entry-word .ensures .0) (c .before .before .before .before .before .before .before .entry-word2 .ensures .0) (sym (c .before .before .before .before .before .is-name-right .ensures) ∙ not-false _ (c .before .before .before .before .if1 .left))
-    (c .before .before .before .before .before .before .entry-word3 .ensures .0) (sym (c .before .before .before .is-legal-extension .ensures) ∙ not-false _ (c .before .before .if2 .left)) _ _ (c .before .entry-word4 .ensures .0) (c .is-listed .ensures)
+returns-3 c =
+    let entry-word = c .before .before .before .before .before .before .before .before .entry-word in
+    let entry-word2 = c .before .before .before .before .before .before .before .entry-word2 in
+    let entry-word3 = c .before .before .before .before .before .before .entry-word3 in
+    let is-name-right = c .before .before .before .before .before .is-name-right in
+    let if1 = c .before .before .before .before .if1 in
+    let is-legal-extension = c .before .before .before .is-legal-extension in
+    let if2 = c .before .before .if2 in
+    key-uic _ _ _ (entry-word .ensures .0) (entry-word2 .ensures .0) (sym (is-name-right .ensures) ∙ not-false _ (if1 .left))
+    (entry-word3 .ensures .0) (sym (is-legal-extension .ensures) ∙ not-false _ (if2 .left)) _ _ (c .before .entry-word4 .ensures .0) (c .is-listed .ensures)
 
 pub is-key-right-spec : {M : Type 1} → statement M
 is-key-right-spec =

@@ -20,7 +20,11 @@ returns : tie.Need-returns
 returns c = open-wrong _ _ (c .before .before .read-header .ensures) (c .enum-told .given .1)
 
 set-system-requires : tie.Need-set-system-requires
-set-system-requires c κs = open-room _ _ (c .before .before .before .before .read-header .ensures) _ (c .before .before .g .given .1) _ (c .before .before .before .before .before .before .before .pre)
+set-system-requires c κs =
+    let pre = c .before .before .before .before .before .before .before .pre in
+    let read-header = c .before .before .before .before .read-header in
+    let g = c .before .before .g in
+    open-room _ _ (read-header .ensures) _ (g .given .1) _ (pre)
 
 slice-aggregate-are-entries-right : tie.Need-slice-aggregate-are-entries-right
 slice-aggregate-are-entries-right c = search needs
@@ -43,24 +47,38 @@ returns-2 c = let is = c .before .before .before .before .before .before .before
     open-entries _ _ is _ right _ _ empty system (sym (c .before .before .before .before .are-entries-right .ensures .0) ∙ not-true _ (c .if1 .taken))
 
 set-system-requires-2 : tie.Need-set-system-requires-2
-set-system-requires-2 c κs = let is = c .before .before .before .before .before .before .before .before .before .before .before .before .before .before .before .read-header .ensures in
-    let right = c .before .before .before .before .before .before .before .before .before .before .before .before .before .g .given .1 in
-    let empty = c .before .before .before .before .before .before .before .before .before .before .before .before .before .before .before .before .before .before .pre in
-    let system = c .before .before .before .before .before .before .before .before .before .before .set-system .ensures in
+set-system-requires-2 c κs =
+    let pre = c .before .before .before .before .before .before .before .before .before .before .before .before .before .before .before .before .before .before .pre in
+    let read-header = c .before .before .before .before .before .before .before .before .before .before .before .before .before .before .before .read-header in
+    let g = c .before .before .before .before .before .before .before .before .before .before .before .before .before .g in
+    let set-system = c .before .before .before .before .before .before .before .before .before .before .set-system in
+    let are-entries-right = c .before .before .before .before .before .are-entries-right in
+    let is = read-header .ensures in
+    let right = g .given .1 in
+    let empty = pre in
+    let system = set-system .ensures in
     let sized = open-sized _ _ is _ right in
-    omega (arith, c .before .before .before .before .before .are-entries-right .kept .1 .0, open-long _ _ is _ right _ _ empty system, sized .bodies)
+    omega (arith, are-entries-right .kept .1 .0, open-long _ _ is _ right _ _ empty system, sized .bodies)
 
 same-length-2 : tie.Need-same-length-2
 same-length-2 c = search needs
 
 returns-3 : tie.Need-returns-3
-returns-3 c = let is = c .before .before .before .before .before .before .before .before .before .before .before .before .before .before .before .before .before .before .read-header .ensures in
-    let right = c .before .before .before .before .before .before .before .before .before .before .before .before .before .before .before .before .g .given .1 in
-    let empty = c .before .before .before .before .before .before .before .before .before .before .before .before .before .before .before .before .before .before .before .before .before .pre in
-    let system = c .before .before .before .before .before .before .before .before .before .before .before .before .before .set-system .ensures in
-    let entries = c .before .before .before .before .before .before .before .before .are-entries-right in
-    let good = not-false _ (c .before .before .before .before .if1 .left) in
-    open-good _ _ is _ right _ _ empty system _ _ (sym (entries .ensures .0) ∙ good) (entries .ensures .1 good) (c .before .before .set-system2 .ensures)
+returns-3 c =
+    let pre = c .before .before .before .before .before .before .before .before .before .before .before .before .before .before .before .before .before .before .before .before .before .pre in
+    let read-header = c .before .before .before .before .before .before .before .before .before .before .before .before .before .before .before .before .before .before .read-header in
+    let g = c .before .before .before .before .before .before .before .before .before .before .before .before .before .before .before .before .g in
+    let set-system = c .before .before .before .before .before .before .before .before .before .before .before .before .before .set-system in
+    let are-entries-right = c .before .before .before .before .before .before .before .before .are-entries-right in
+    let if1 = c .before .before .before .before .if1 in
+    let set-system2 = c .before .before .set-system2 in
+    let is = read-header .ensures in
+    let right = g .given .1 in
+    let empty = pre in
+    let system = set-system .ensures in
+    let entries = are-entries-right in
+    let good = not-false _ (if1 .left) in
+    open-good _ _ is _ right _ _ empty system _ _ (sym (entries .ensures .0) ∙ good) (entries .ensures .1 good) (set-system2 .ensures)
 
 pub open-pack-spec : {M : Type 1} → statement M
 open-pack-spec =

@@ -35,7 +35,11 @@ same-length : tie.Need-same-length Inv-loop μ-loop
 same-length c = ap length (c .before .loop .inv .1) ∙ system-length _ _ _
 
 returns : tie.Need-returns Inv-loop μ-loop
-returns c = let all : c .before .loop .b ≡ c .before .before .args .g .bodies .0 = omega arith in c .before .loop .inv .1 ∙ ap (λ n. systemSet (c .before .before .args .map .now) n (c .before .before .args .taken)) all
+returns c =
+    let loop = c .before .loop in
+    let args = c .before .before .args in
+    let all : loop .b ≡ args .g .bodies .0 = omega arith in
+    loop .inv .1 ∙ ap (λ n. systemSet (args .map .now) n (args .taken)) all
 
 pub set-system-spec : {M : Type 1} → statement M
 set-system-spec =

@@ -35,7 +35,10 @@ mul-is-stretch-zero : tie.Need-mul-is-stretch-zero Inv-loop μ-loop
 mul-is-stretch-zero c = omega (arith, c .before .before .before .before .before .before .before .before .slot-count .ensures .1)
 
 add-is-stretch-zero : tie.Need-add-is-stretch-zero Inv-loop μ-loop
-add-is-stretch-zero c = omega (arith, c .before .before .before .before .before .before .before .before .slot-count .ensures .1, c .words .ensures, c .before .before .before .before .before .before .before .before .before .before .pre .few)
+add-is-stretch-zero c =
+    let pre = c .before .before .before .before .before .before .before .before .before .before .pre in
+    let slot-count = c .before .before .before .before .before .before .before .before .slot-count in
+    omega (arith, slot-count .ensures .1, c .words .ensures, pre .few)
 
 sub-is-stretch-zero : tie.Need-sub-is-stretch-zero Inv-loop μ-loop
 sub-is-stretch-zero c = search needs
@@ -44,10 +47,18 @@ mul-is-stretch-zero-2 : tie.Need-mul-is-stretch-zero-2 Inv-loop μ-loop
 mul-is-stretch-zero-2 c = omega (arith, c .before .before .before .before .before .before .before .before .slot-count .ensures .1)
 
 is-stretch-zero-requires : tie.Need-is-stretch-zero-requires Inv-loop μ-loop
-is-stretch-zero-requires c κs = entries-whole (c .before .before .before .before .before .before .before .before .before .before .pre) (c .before .before .before .before .before .before .before .before .slot-count .ensures .0) (c .before .before .before .before .loop-test .taken) (c .words .ensures)
+is-stretch-zero-requires c κs =
+    let pre = c .before .before .before .before .before .before .before .before .before .before .pre in
+    let slot-count = c .before .before .before .before .before .before .before .before .slot-count in
+    let loop-test = c .before .before .before .before .loop-test in
+    entries-whole (pre) (slot-count .ensures .0) (loop-test .taken) (c .words .ensures)
 
 returns-2 : tie.Need-returns-2 Inv-loop μ-loop
-returns-2 c = used-stretch _ _ _ _ (c .before .before .before .before .before .before .before .before .before .before .slot-count .ensures .0) (c .before .before .before .before .before .before .loop-test .taken) (c .before .before .words .ensures) (sym (c .before .is-stretch-zero .ensures) ∙ c .if3 .taken)
+returns-2 c =
+    let slot-count = c .before .before .before .before .before .before .before .before .before .before .slot-count in
+    let loop-test = c .before .before .before .before .before .before .loop-test in
+    let words = c .before .before .words in
+    used-stretch _ _ _ _ (slot-count .ensures .0) (loop-test .taken) (words .ensures) (sym (c .before .is-stretch-zero .ensures) ∙ c .if3 .taken)
 
 returns-3 : tie.Need-returns-3 Inv-loop μ-loop
 returns-3 c = used-all _ _ _ (c .before .before .before .before .before .before .before .before .before .before .slot-count .ensures .0)

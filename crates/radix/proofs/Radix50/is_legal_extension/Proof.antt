@@ -28,8 +28,14 @@ mul-result : tie.Need-mul-result
 mul-result c = search needs
 
 returns-3 : tie.Need-returns-3
-returns-3 c = one-named _ (c .before .before .before .before .before .before .first .ensures) (c .before .before .before .second .ensures) refl (sym (c .before .before .before .before .before .is-named .ensures) ∙ not-false _ (c .before .before .before .before .if2 .left))
-    (sym (c .before .before .is-named2 .ensures) ∙ not-true _ (c .before .if3 .taken))
+returns-3 c =
+    let first = c .before .before .before .before .before .before .first in
+    let is-named = c .before .before .before .before .before .is-named in
+    let if2 = c .before .before .before .before .if2 in
+    let second = c .before .before .before .second in
+    let is-named2 = c .before .before .is-named2 in
+    one-named _ (first .ensures) (second .ensures) refl (sym (is-named .ensures) ∙ not-false _ (if2 .left))
+    (sym (is-named2 .ensures) ∙ not-true _ (c .before .if3 .taken))
 
 third-requires : tie.Need-third-requires
 third-requires c κs = search needs
@@ -38,12 +44,28 @@ is-named-requires-3 : tie.Need-is-named-requires-3
 is-named-requires-3 c κs = search needs
 
 returns-4 : tie.Need-returns-4
-returns-4 c = three-named _ (c .before .before .before .before .before .before .before .before .first .ensures) (c .before .before .before .before .before .second .ensures) (c .before .before .third .ensures) (sym (c .before .before .before .before .before .before .before .is-named .ensures) ∙ not-false _ (c .before .before .before .before .before .before .if2 .left))
-    (sym (c .before .before .before .before .is-named2 .ensures) ∙ not-false _ (c .before .before .before .if3 .left)) (sym (c .before .is-named3 .ensures) ∙ c .if4 .taken)
+returns-4 c =
+    let first = c .before .before .before .before .before .before .before .before .first in
+    let is-named = c .before .before .before .before .before .before .before .is-named in
+    let if2 = c .before .before .before .before .before .before .if2 in
+    let second = c .before .before .before .before .before .second in
+    let is-named2 = c .before .before .before .before .is-named2 in
+    let if3 = c .before .before .before .if3 in
+    let third = c .before .before .third in
+    three-named _ (first .ensures) (second .ensures) (third .ensures) (sym (is-named .ensures) ∙ not-false _ (if2 .left))
+    (sym (is-named2 .ensures) ∙ not-false _ (if3 .left)) (sym (c .before .is-named3 .ensures) ∙ c .if4 .taken)
 
 returns-5 : tie.Need-returns-5
-returns-5 c = two-named _ (c .before .before .before .before .before .before .before .before .first .ensures) (c .before .before .before .before .before .second .ensures) (c .before .before .third .ensures) (sym (c .before .before .before .before .before .before .before .is-named .ensures) ∙ not-false _ (c .before .before .before .before .before .before .if2 .left))
-    (sym (c .before .before .before .before .is-named2 .ensures) ∙ not-false _ (c .before .before .before .if3 .left)) (sym (c .before .is-named3 .ensures) ∙ c .if4 .left)
+returns-5 c =
+    let first = c .before .before .before .before .before .before .before .before .first in
+    let is-named = c .before .before .before .before .before .before .before .is-named in
+    let if2 = c .before .before .before .before .before .before .if2 in
+    let second = c .before .before .before .before .before .second in
+    let is-named2 = c .before .before .before .before .is-named2 in
+    let if3 = c .before .before .before .if3 in
+    let third = c .before .before .third in
+    two-named _ (first .ensures) (second .ensures) (third .ensures) (sym (is-named .ensures) ∙ not-false _ (if2 .left))
+    (sym (is-named2 .ensures) ∙ not-false _ (if3 .left)) (sym (c .before .is-named3 .ensures) ∙ c .if4 .left)
 
 pub is-legal-extension-spec : {M : Type 1} → statement M
 is-legal-extension-spec =
