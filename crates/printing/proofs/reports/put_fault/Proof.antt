@@ -50,12 +50,12 @@ returns c = let last = c .before .before in
     let entry = c .before .before .before .before .before .before .before .before .before .before .before .before .before .before .before .before .before in
     let rule =
     c .before .before .before .before .before .before .before .before .before .before .before .before .before .before .before .before .before .before .before .before .before .before in
-    let first = rule .before .before .before .before in (
-      put-then (first .put-bytes .ensures) (put-then (rule .put-rule .ensures .0)
+    let first = rule .before .before .before .before .put-bytes in (
+      put-then (first .ensures) (put-then (rule .put-rule .ensures .0)
           (put-then (entry .put-member .ensures .0) (put-then (word .put-member2 .ensures .0)
           (put-then (block .put-member3 .ensures .0) (last .put-bytes2 .ensures))))),
       omega
-          (arith, first .put-bytes .ensures .behind, rule .put-rule .ensures .1, entry .put-member .ensures .1, word .put-member2 .ensures .1, block .put-member3 .ensures .1, last .put-bytes2 .ensures .behind),
+          (arith, first .ensures .behind, rule .put-rule .ensures .1, entry .put-member .ensures .1, word .put-member2 .ensures .1, block .put-member3 .ensures .1, last .put-bytes2 .ensures .behind),
     )
 
 pub put-fault-spec : {M : Type 1} → statement M
