@@ -30,11 +30,14 @@ use Rattle.asking.proofs.AskedStage.{stage-clear}
 use Rattle.asking.proofs.AccessRows.{clear-accessed}
 use Rattle.asking.proofs.AccessStage.{Reached}
 use Rattle.pack.proofs.KeySame.{key-single}
-use Rattle.frame.specs.Framed.{Only}
+use Rattle.frame.specs.Framed.{ChangesOnly, Only}
 use Rattle.frame.specs.Framing.{Framed}
 use Rattle.frame.proofs.EntrySame.{right-bodies}
 use Rattle.frame.proofs.FramedHeld.{held-none}
 use Rattle.frame.proofs.UntouchedFramed.{untouched-framed, untouched-refl}
+use Rattle.frame.proofs.FramedCompose.{header-kept}
+use Rattle.frame.proofs.ChangesWritten.{changes-nothing}
+use Rattle.frame.proofs.FramedStays.{bodies-behind}
 use Rattle.frame.proofs.GrowthConsistent.{grown-framed, grown-blocks, grown-consistent}
 use Rattle.room.proofs.RoomNeeds.{none-free}
 use Rattle.bodies.specs.BlockBytes.{payloadOf}
@@ -43,9 +46,9 @@ use Rattle.bodies.specs.Payloads.{payloadsOf}
 use Rattle.bodies.proofs.BufferSizes.{payload-fits}
 use Rattle.bodies.proofs.Payloads.{payloads-one, payloads-append, payloads-same}
 use Rattle.adding.specs.LinkedAddRows.{openForAdding, linkedAddRows}
-use Rattle.adding.specs.LinkedAdd.{addedBlock, added, linkedAdd}
+use Rattle.adding.specs.LinkedAdd.{AddWords, addedBlock, added, linkedAdd}
 use Rattle.adding.proofs.LinkedAddStage.{Admitted, admitted, add-rows-last, block-free, block-highest}
-use Rattle.adding.proofs.LinkedAddEnlarged.{Touched, Enlarged, enlarged}
+use Rattle.adding.proofs.LinkedAddEnlarged.{Touched, Enlarged, added-changes, enlarged}
 
 module _ (img : List ℕ) (key : Key) (caller : ℕ) (payload : List ℕ) where
   pub add-code : linkedAdd img key caller payload .code ≡ firstOf (linkedAddRows img key caller (wrongPayload img payload) 1)
@@ -122,7 +125,7 @@ module _ (img : List ℕ) (key : Key) (caller : ℕ) (payload : List ℕ) where
         payloads-same img after (geometryOf img) (larger .grown .kept .long) (blocksAt img (geometryOf img) (entryNo img key))
         (λ b reached i behind small.
         let body = right-bodies img (geometryOf img) (entryNo img key) b (a .file .right .entries (entryNo img key) (a .file .inside)) reached in
-        larger .others b i (body .0) (body .1) (not-held b reached) behind small)
+        larger .others b i (not-held b reached) (omega (arith, body .0, bodies-behind img (geometryOf img) refl)) behind small)
       where
         not-held : (b : ℕ) → 0 < count b (blocksAt img (geometryOf img) (entryNo img key)) → b ≡ addedBlock img → ⊥
         not-held b reached is =
@@ -205,8 +208,16 @@ module _ (img : List ℕ) (key : Key) (caller : ℕ) (payload : List ℕ) where
 
   -- no link, nor anything else, is written into block 0
   pub add-block-zero : (w : ℕ) → w < blockWords (geometryOf img) → wordAt (linkedAdd img key caller payload .image) w ≡ wordAt img w
-  add-block-zero w within = always (λ (img′ : List ℕ). wordAt img′ w ≡ wordAt img w) refl (λ a. larger a .grown .kept .header w within)
+  add-block-zero w within = always (λ (img′ : List ℕ). wordAt img′ w ≡ wordAt img w) refl (λ a. header-kept (larger a .grown .kept) w within)
 
   -- a file that the request does not name
   pub add-untouched : (other : Key) → (other ≡ key → ⊥) → Untouched other img (linkedAdd img key caller payload .image)
   add-untouched other apart = always (Untouched other img) (untouched-refl other img) (λ a. after-untouched a other apart)
+
+  -- no other word changes
+  pub add-changes : ChangesOnly (AddWords (geometryOf img) (entryNo img key) (fileOf img key) (addedBlock img)) img (linkedAdd img key caller payload .image)
+  unfolding fileOf
+  add-changes =
+      always (ChangesOnly (AddWords (geometryOf img) (entryNo img key) (entryOf img (geometryOf img) (entryNo img key)) (addedBlock img)) img) changes-nothing
+      (λ a. added-changes img (geometryOf img) (addedBlock img) payload (header-sized img (a .file .right .header)) (free-of a .below)
+      (payload-fits img payload (geometryOf img) (a .file .argument) refl) _ _)

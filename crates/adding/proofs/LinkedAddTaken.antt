@@ -16,7 +16,7 @@ use Rattle.pack.specs.Entry.{entryOf}
 use Rattle.pack.proofs.GeometryRoom.{sized-same}
 use Rattle.frame.specs.Framed.{Never}
 use Rattle.frame.proofs.FramedCompose.{entry-kept}
-use Rattle.frame.proofs.FramedWritten.{replaced-length, replaced-other, replaced-inside}
+use Rattle.frame.proofs.ChangesWritten.{replaced-length, replaced-other, replaced-inside}
 use Rattle.room.specs.Cleared.{cleared, ClearedBlocks}
 use Rattle.room.proofs.Cleared.{taken-cleared}
 use Rattle.room.proofs.ClearedKept.{cleared-kept}
@@ -49,7 +49,7 @@ module _ {img img′ : List ℕ} {g : Geometry} {b : ℕ} (sized : Sized img g) 
   taken-sized = sized-same sized (clear .long)
 
   pub taken-entry : (e : ℕ) → e < slots g → entryOf img′ g e ≡ entryOf img g e
-  taken-entry e within = entry-kept (cleared-kept {Named = Never} clear (omega (arith, body, sized .contents))) e within (λ never. never)
+  taken-entry e within = entry-kept (cleared-kept {Named = Never} clear (omega (arith, body, sized .contents)) (sized .some)) e within (λ never. never)
 
   -- link and payload are all of the block
   module _ (payload : List ℕ) (whole : length payload ≡ payloadBytes g) where

@@ -1,5 +1,7 @@
 -- Linked add.
-use Prim.Native.Nat.{ℕ, _+_}
+use Prim.Native.Nat.{ℕ, _+_, _<_}
+use mathlib.Core.Path.{_≡_}
+use mathlib.Core.Logic.{_⊎_}
 use mathlib.Core.Bool.{cond}
 use mathlib.Core.List.{List, [], _∷_}
 use mathlib.Core.Option.{Option}
@@ -12,6 +14,7 @@ use Rattle.pack.specs.declared.Key.{Key}
 use Rattle.pack.specs.Geometry.{geometryOf, blockAt}
 use Rattle.asking.specs.Outcome.{Outcome, settled}
 use Rattle.asking.specs.Asked.{entryNo, fileOf}
+use Rattle.frame.specs.Framed.{InWords, InBlock}
 use Rattle.room.specs.RoomTest.{highestRun}
 use Rattle.bodies.specs.BlockBytes.{payloadStart, withPart}
 use Rattle.bodies.specs.BufferSizes.{wrongPayload}
@@ -37,6 +40,10 @@ added img g e x b payload =
 -- the block that is added
 abbrev pub addedBlock : List ℕ → ℕ
 addedBlock img = orElse 0 (highestFree img)
+
+-- what may change: words 6 to 8 of the entry, the new block, and the link of the last block of a file that has one (`add-changes`)
+abbrev pub AddWords : Geometry → ℕ → Entry → ℕ → ℕ → Type 0
+AddWords g e x b w = InWords g e 6 8 w ⊎ (InBlock g b w ⊎ ((0 < x .length) × (w ≡ blockAt g (x .last .0))))
 
 -- "ALLOC and linked add also return the first or added block"; one block is needed
 unfoldable pub linkedAdd : List ℕ → Key → ℕ → List ℕ → Outcome

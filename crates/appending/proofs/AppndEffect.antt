@@ -25,6 +25,7 @@ use Rattle.frame.specs.Framing.{Either, Framed}
 use Rattle.frame.specs.Growth.{Joined}
 use Rattle.frame.proofs.EntrySame.{right-bodies}
 use Rattle.frame.proofs.UntouchedFramed.{untouched-framed, untouched-refl}
+use Rattle.frame.proofs.FramedCompose.{header-kept}
 use Rattle.frame.proofs.GrowthConsistent.{joined-framed, joined-blocks, joined-consistent}
 use Rattle.bodies.proofs.EntryChainLinked.{Joint}
 use Rattle.appending.specs.AppndRows.{appndRows}
@@ -123,7 +124,7 @@ module _ (img : List ℕ) (first second : Key) (caller : ℕ) where
   appnd-block-zero w within = by (ℕ-discrete (appnd img first second caller .code) 0)
     where
       by : Dec (appnd img first second caller .code ≡ 0) → wordAt (appnd img first second caller .image) w ≡ wordAt img w
-      by (yes done) = appnd-joined done .kept .header w within
+      by (yes done) = header-kept (appnd-joined done .kept) w within
       by (no refused) = ap (λ (img′ : List ℕ). wordAt img′ w) (appnd-refused refused .same-image)
 
   -- a file that the request does not name

@@ -15,7 +15,7 @@ use Rattle.pack.specs.EntryWords.{clearEntry}
 use Rattle.pack.proofs.GeometryRoom.{sized-same}
 use Rattle.frame.specs.Framed.{Only, Never, Kept}
 use Rattle.frame.specs.Growth.{Joined}
-use Rattle.frame.proofs.FramedCompose.{kept-compose, kept-widen, entry-kept, link-kept}
+use Rattle.frame.proofs.FramedCompose.{kept-widen, entry-kept, link-kept, entries-kept, block-kept}
 use Rattle.frame.proofs.FramedStays.{entries-at}
 use Rattle.frame.proofs.EntrySame.{right-bodies}
 use Rattle.frame.proofs.FramedHeld.{held-apart}
@@ -24,6 +24,7 @@ use Rattle.frame.proofs.GrowthResized.{linked-ended}
 use Rattle.bodies.proofs.EntryChainLinked.{Joint}
 use Rattle.appending.specs.Appnd.{chainJoined}
 use Rattle.frame.proofs.FramedEntryWords.{clear-kept}
+use Rattle.frame.proofs.ChangesWritten.{changes-then}
 use Rattle.pack.proofs.EntryWordsWritten.{clear-empty}
 use Rattle.appending.proofs.AppndMiddle.{Middle, middle}
 
@@ -36,7 +37,7 @@ module _ (img : List ℕ) (g : Geometry) (x y : ℕ) (stated : g ≡ geometryOf 
   here = middle img g x y stated consistent sized within within₂ linked linked₂
 
   cleared : {Written : ℕ → Type 0} → Kept (Only y) Written mid (clearEntry mid g y) g
-  cleared = clear-kept mid y refl (sized .contents) within₂
+  cleared = clear-kept mid y refl within₂
 
   entry-same : entryOf (clearEntry mid g y) g x ≡ entryOf mid g x
   entry-same = entry-kept (cleared {Written = Never}) x within other
@@ -52,16 +53,16 @@ module _ (img : List ℕ) (g : Geometry) (x y : ℕ) (stated : g ≡ geometryOf 
 
   -- clearing an entry changes no link
   link-same : (z : ℕ) → (g .bodies .0 ≤ z) × (z < g .blocks) → linkOf (clearEntry mid g y) g z ≡ linkOf mid g z
-  link-same z range = link-kept (cleared {Written = Never}) (sized .some) z (range .0) (range .1) (λ never. never)
+  link-same z range = link-kept (cleared {Written = Never}) (sized .some) z (omega (arith, range .0, sized .contents)) (λ never. never)
 
   pub joining : Joined (Joint img g x) img (clearEntry mid g y) g x y
   joining =
       record {
-        kept = kept-compose (kept-widen (λ e is. inl is) (λ b w. w) (here .kept)) (kept-widen (λ e is. inr is) (λ b w. w) cleared);
+        kept = changes-then (kept-widen (λ e is. inl is) (λ b w. w) (here .kept)) (kept-widen (λ e is. inr is) (λ b w. w) cleared);
         own = λ z written. inl (subst (λ (b : ℕ). 0 < count b (blocksAt img g x)) (sym (written .1)) (last-held (written .0)));
         emptied = clear-empty g y mid (sized-same sized (here .kept .long)) within₂;
         resized = record {
-          words = λ i small six seven eight. cleared {Written = Never} .entries x within other i small ∙ here .resized .words i small six seven eight;
+          words = λ i small six seven eight. entries-kept (cleared {Written = Never}) x within other i small ∙ here .resized .words i small six seven eight;
         };
         size = ap (λ n. n .length) entry-same ∙ here .size;
         first = λ some. ap (λ n. n .first .0) entry-same ∙ here .first some;
@@ -69,10 +70,10 @@ module _ (img : List ℕ) (g : Geometry) (x y : ℕ) (stated : g ≡ geometryOf 
         final = λ some. ap (λ n. n .last .0) entry-same ∙ here .final some;
         ended = λ none. ap (λ n. n .last .0) entry-same ∙ here .ended none;
         links = λ z reached not-last.
-            link-same z (body z reached) ∙ link-kept (here .kept) (sized .some) z (body z reached .0) (body z reached .1) (λ written. not-last (written .1));
+            link-same z (body z reached) ∙ link-kept (here .kept) (sized .some) z (omega (arith, body z reached .0, sized .contents)) (λ written. not-last (written .1));
         second = λ z reached.
             link-same z (body₂ z reached)
-            ∙ link-kept (here .kept) (sized .some) z (body₂ z reached .0) (body₂ z reached .1) (λ written. not-joint z reached (written .0) (written .1));
+            ∙ link-kept (here .kept) (sized .some) z (omega (arith, body₂ z reached .0, sized .contents)) (λ written. not-joint z reached (written .0) (written .1));
         joint = λ some more. link-same (entryOf img g x .last .0) (body (entryOf img g x .last .0) (last-held some)) ∙ here .joint some more;
         alone = λ some none. link-same (entryOf img g x .last .0) (body (entryOf img g x .last .0) (last-held some)) ∙ here .alone some none;
       }
@@ -89,4 +90,4 @@ module _ (img : List ℕ) (g : Geometry) (x y : ℕ) (stated : g ≡ geometryOf 
   -- the bytes of a body behind its link
   pub payload-same : (b i : ℕ) → g .bodies .0 ≤ b → b < g .blocks → 2 ≤ i → i < blockBytes g
       → getD (clearEntry mid g y) (b * blockBytes g + i) 0 ≡ getD img (b * blockBytes g + i) 0
-  payload-same b i low high behind small = cleared {Written = Never} .bodies b low high (λ never. never) i small ∙ here .payload b i low high behind small
+  payload-same b i low high behind small = block-kept (cleared {Written = Never}) b (omega (arith, low, sized .contents)) (λ never. never) i small ∙ here .payload b i low high behind small

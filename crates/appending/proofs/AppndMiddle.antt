@@ -16,12 +16,13 @@ use Rattle.pack.specs.Consistent.{Consistent}
 use Rattle.pack.proofs.GeometryRoom.{sized-same}
 use Rattle.frame.specs.Framed.{Only, Never, Kept}
 use Rattle.frame.specs.Growth.{EndedChain, Resized}
-use Rattle.frame.proofs.FramedCompose.{kept-same, kept-compose, link-kept}
+use Rattle.frame.proofs.FramedCompose.{link-kept, block-kept}
 use Rattle.frame.proofs.FramedStays.{entries-at}
 use Rattle.frame.proofs.EntrySame.{right-bodies}
 use Rattle.frame.proofs.FramedWritten.{kept-link, link-set-same, link-set-entry}
 use Rattle.frame.proofs.GrowthChain.{ended-first, ended-last}
 use Rattle.frame.proofs.GrowthResized.{linked-ended}
+use Rattle.frame.proofs.ChangesWritten.{changes-nothing, changes-then}
 use Rattle.bodies.specs.EntryChain.{resized}
 use Rattle.bodies.proofs.BlockBytes.{behind-link}
 use Rattle.bodies.proofs.EntryChain.{resized-kept, resized-words, resized-first, resized-size, resized-last}
@@ -56,7 +57,7 @@ module _ (img : List ℕ) (g : Geometry) (x y : ℕ) (stated : g ≡ geometryOf 
   middle-nothing : entryOf img g y .length ≡ 0 → Middle img img g x y
   middle-nothing none =
       record {
-        kept = kept-same img g;
+        kept = changes-nothing;
         resized = record { words = λ i small six seven eight. refl };
         size = omega (arith, none);
         first = λ some. refl;
@@ -82,7 +83,7 @@ module _ (img : List ℕ) (g : Geometry) (x y : ℕ) (stated : g ≡ geometryOf 
         ended = λ empty. absurd (omega (arith, empty, more));
         joint = λ some also. absurd (omega (arith, some, none));
         alone = λ some empty. absurd (omega (arith, empty, more));
-        payload = λ b i low high behind small. resized-kept img g x _ _ _ sized within {Written = Never} .bodies b low high (λ never. never) i small;
+        payload = λ b i low high behind small. block-kept (resized-kept img g x _ _ _ sized within {Written = Never}) b (omega (arith, low, sized .contents)) (λ never. never) i small;
       }
 
   -- the link of the first file's last block leads on to the second's first block
@@ -108,7 +109,7 @@ module _ (img : List ℕ) (g : Geometry) (x y : ℕ) (stated : g ≡ geometryOf 
     unfolding last tied
     middle-linked =
         record {
-          kept = kept-compose (kept-link img last _ (some, refl) above (sized .some)) (resized-kept tied g x _ _ _ tied-sized within);
+          kept = changes-then (kept-link img last _ (some, refl) above (sized .some)) (resized-kept tied g x _ _ _ tied-sized within);
           resized = record {
             words = λ i small six seven eight.
                 resized-words tied g x _ _ _ tied-sized within .words i small six seven eight ∙ link-set-entry img g last _ x i above within small;
@@ -119,11 +120,11 @@ module _ (img : List ℕ) (g : Geometry) (x y : ℕ) (stated : g ≡ geometryOf 
           final = λ h. resized-last tied g x _ _ _ tied-sized within;
           ended = λ none. absurd (omega (arith, more, none));
           joint = λ h k.
-              link-kept (resized-kept tied g x _ _ _ tied-sized within {Written = Never}) (sized .some) last (range .0) (range .1) (λ never. never)
+              link-kept (resized-kept tied g x _ _ _ tied-sized within {Written = Never}) (sized .some) last above (λ never. never)
               ∙ link-set-same img g last _ (sized .some) (sized .long) (range .1);
           alone = λ h none. absurd (omega (arith, more, none));
           payload = λ b i low high behind small.
-              resized-kept tied g x _ _ _ tied-sized within {Written = Never} .bodies b low high (λ never. never) i small
+              block-kept (resized-kept tied g x _ _ _ tied-sized within {Written = Never}) b (omega (arith, low, sized .contents)) (λ never. never) i small
               ∙ byte-set-other img (blockAt g last) _ (b * blockBytes g + i)
               (λ is. behind-link g b last i 0 behind small (omega arith) (omega (arith, is))) (behind-link g b last i 1 behind small (omega arith));
         }

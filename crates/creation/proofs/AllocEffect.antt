@@ -26,9 +26,9 @@ use Rattle.pack.specs.Untouched.{Untouched}
 use Rattle.pack.proofs.FileChain.{chain-length, next-contiguous}
 use Rattle.frame.proofs.FileChainWays.{extent-place, extent-below, extent-above, extent-most}
 use Rattle.frame.specs.Framed.{Only, Never, Kept}
-use Rattle.frame.proofs.FramedCompose.{kept-same, kept-compose, entry-kept}
+use Rattle.frame.proofs.FramedCompose.{entry-kept, entries-kept}
 use Rattle.frame.proofs.FramedHeld.{framed-one}
-use Rattle.frame.proofs.FramedWritten.{Outside}
+use Rattle.frame.proofs.ChangesWritten.{changes-nothing, changes-then, Outside}
 use Rattle.frame.proofs.UntouchedFramed.{untouched-refl}
 use Rattle.asking.proofs.Outcome.{code-is, success-image, success-numbers, refusal-keeps, image-by}
 use Rattle.asking.specs.Outcome.{Unchanged}
@@ -178,10 +178,10 @@ module _ (img : List ℕ) (key : Key) (caller protect segments : ℕ) where
         omega (arith, first .body, a .ready .sized .contents)
 
     taken-kept : {Named : ℕ → Type 0} → Kept Named (InRun (startFor img segments) (lengthFor img segments)) (entered (a .ready) shape) (made a) (geometryOf img)
-    taken-kept = cleared-kept made-cleared above
+    taken-kept = cleared-kept made-cleared above (a .ready .sized .some)
 
     made-kept : Kept (Only (entryFor img)) (InRun (startFor img segments) (lengthFor img segments)) img (made a) (geometryOf img)
-    made-kept = kept-compose (entered-kept (a .ready) shape) taken-kept
+    made-kept = changes-then (entered-kept (a .ready) shape) taken-kept
 
     -- written are the entry, which was empty, and blocks that nobody held
     made-entered : Entered (InRun (startFor img segments) (lengthFor img segments)) img (made a) file
@@ -189,7 +189,7 @@ module _ (img : List ℕ) (key : Key) (caller protect segments : ℕ) where
         let inside = a .ready .entry .inside in
         record {
           framed = framed-one refl (a .ready .right) made-kept inside (λ b run. inr (a .extent .run .free b (run .0) (run .1) .nobody));
-          words = λ i small. taken-kept {Named = Never} .entries (entryFor img) inside (λ never. never) i small ∙ entry-entered (a .ready) shape .words i small;
+          words = λ i small. entries-kept (taken-kept {Named = Never}) (entryFor img) inside (λ never. never) i small ∙ entry-entered (a .ready) shape .words i small;
           entry = entry-kept (taken-kept {Named = Never}) (entryFor img) inside (λ never. never) ∙ entry-entered (a .ready) shape .entry;
         }
 
@@ -239,7 +239,7 @@ module _ (img : List ℕ) (key : Key) (caller protect segments : ℕ) where
   pub alloc-kept : Kept (Only (entryFor img)) (InRun (startFor img segments) (lengthFor img segments)) img (alloc img key caller protect segments .image) (geometryOf img)
   alloc-kept =
       image-is (λ img′. Kept (Only (entryFor img)) (InRun (startFor img segments) (lengthFor img segments)) img img′ (geometryOf img))
-      (kept-same img (geometryOf img)) made-kept
+      changes-nothing made-kept
 
   -- every file is untouched: the request's own key has none
   pub alloc-untouched : (key′ : Key) → Untouched key′ img (alloc img key caller protect segments .image)

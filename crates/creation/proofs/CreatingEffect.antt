@@ -61,7 +61,7 @@ module _ {img : List ℕ} {key : Key} {caller protect : ℕ} {wrong : Bool} (rea
   entered = setEntryWords img (geometryOf img) (entryFor img) 0 (wordsOf file)
 
   pub entered-kept : {Written : ℕ → Type 0} → Kept (Only (entryFor img)) Written img entered (geometryOf img)
-  entered-kept = words-kept (wordsOf file) img (geometryOf img) (entryFor img) 0 refl (ready .sized .contents) (ready .entry .inside) (omega arith)
+  entered-kept = words-kept (wordsOf file) img (geometryOf img) (entryFor img) 0 refl (ready .entry .inside) (omega arith)
 
   pub entry-entered : Entered Never img entered file
   entry-entered =

@@ -1,26 +1,29 @@
 -- What a DELET leaves: a consistent image, all other files, no entry of the deleted one, and its blocks free.
-use Prim.Native.Nat.{ℕ, _<_}
+use Prim.Native.Nat.{ℕ, _*_, _≤_, _<_}
 use mathlib.Core.Path.{_≡_, refl, sym, ap, subst, _∙_}
 use mathlib.Core.List.{List, []}
 use mathlib.Core.Option.{none}
 use native.Mathlib.Omega.{arith}
 use native.Mathlib.Decide.{ℕ-discrete}
+use lib.ListN.{getD}
 use Rattle.pack.specs.declared.Entry.{Entry}
 use Rattle.pack.specs.declared.Geometry.{Geometry}
 use Rattle.pack.specs.declared.Key.{Key}
 use Rattle.pack.specs.declared.Owner.the-variants.{Free}
-use Rattle.pack.specs.Geometry.{geometryOf, slots}
+use Rattle.pack.specs.Geometry.{geometryOf, blockBytes, slots}
 use Rattle.pack.specs.File.{count}
 use Rattle.pack.specs.Entry.{blocksAt, Empty, entryOf}
 use Rattle.pack.specs.Consistent.{held, Consistent}
 use Rattle.pack.specs.Owner.{placeFrom, ownerOf}
 use Rattle.pack.specs.Untouched.{Untouched}
 use Rattle.pack.specs.Key.{keyIn, SameKey}
+use Rattle.pack.proofs.GeometryRoom.{block-room}
 use Rattle.pack.proofs.FileCount.{count-nil}
 use Rattle.pack.proofs.EntryRead.{empty-blocks}
 use Rattle.asking.specs.Asked.{entryNo}
 use Rattle.pack.specs.EntryWords.{clearEntry}
-use Rattle.frame.specs.Framed.{Only, Never, Kept}
+use Rattle.frame.specs.Framed.{ChangesOnly, InEntry, Only, Never, Kept}
+use Rattle.frame.specs.Framed.Within.{entry}
 use Rattle.frame.specs.Framing.{Framed}
 use Rattle.frame.proofs.EntrySame.{right-bodies}
 use Rattle.frame.proofs.FramedStays.{geometry-framed, entries-at}
@@ -29,7 +32,7 @@ use Rattle.frame.proofs.Described.{consistent-emptied}
 use Rattle.frame.proofs.UntouchedFramed.{untouched-refl, untouched-one}
 use Rattle.frame.proofs.OwnerFramed.{owner-framed}
 use Rattle.frame.proofs.FramedCompose.{entry-kept}
-use Rattle.frame.proofs.FramedEntryWords.{clear-kept}
+use Rattle.frame.proofs.ChangesWritten.{changes-wider, changes-nothing, changes-cleared}
 use Rattle.pack.proofs.EntryWordsWritten.{clear-empty}
 use Rattle.owners.proofs.OwnerPlaces.{place-none}
 use Rattle.owners.proofs.OneOwner.{owner-free}
@@ -42,10 +45,13 @@ use Rattle.asking.specs.KeysTest.{found}
 use Rattle.asking.proofs.Keys.{absent-iff, one-entry, not-empty}
 use Rattle.directory.proofs.DeletStage.{delet-cleared}
 
+only-cleared : (img : List ℕ) (g : Geometry) (e : ℕ) → ChangesOnly (InEntry g e) img (clearEntry img g e)
+only-cleared img g e = changes-cleared img g e (λ j small. (omega arith, omega arith))
+
 -- the image with the entry cleared
 module _ {img : List ℕ} {key : Key} {g : Geometry} {e : ℕ} (c : Cleared img key g e) where
   kept : Kept (Only e) Never img (clearEntry img g e) g
-  kept = clear-kept img e refl (c .sized .contents) (c .inside)
+  kept = changes-wider (λ w at. entry e refl (c .inside) at) (only-cleared img g e)
 
   empty : Empty (clearEntry img g e) g e
   empty = clear-empty g e img (c .sized) (c .inside)
@@ -96,6 +102,19 @@ module _ (img : List ℕ) (key : Key) (caller : ℕ) where
   pub delet-refused : (delet img key caller .code ≡ 0 → ⊥) → Unchanged (delet img key caller) [] img []
   unfolding delet
   delet-refused never = refusal-keeps (deletRows img key caller) img [] _ never
+
+  -- "clears the entry, bodies untouched": no other word changes, and no byte of a body
+  pub delet-changes : ChangesOnly (InEntry (geometryOf img) (entryNo img key)) img (delet img key caller .image)
+  unfolding delet
+  delet-changes = image-by (deletRows img key caller) img [] _ (ChangesOnly _ img) changes-nothing (λ passed. only-cleared img _ _)
+
+  pub delet-bodies : (k : ℕ) → geometryOf img .bodies .0 * blockBytes (geometryOf img) ≤ k → getD (delet img key caller .image) k 0 ≡ getD img k 0
+  unfolding delet
+  delet-bodies k body =
+      image-by (deletRows img key caller) img [] _ (λ img′. getD img′ k 0 ≡ getD img k 0) refl
+      (λ passed.
+      let c = delet-cleared img key caller passed in
+      only-cleared img _ _ .bytes k (λ at. omega (arith, at .1, body, c .inside, block-room (geometryOf img .segments .0) (c .sized .contents))))
 
   module _ (right : Consistent img) where
     pub delet-consistent : Consistent (delet img key caller .image)

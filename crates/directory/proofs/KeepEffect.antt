@@ -54,7 +54,7 @@ module _ {img : List ℕ} {key : Key} {g : Geometry} {e : ℕ} (c : Cleared img 
   relabelled : Relabelled img (setEntryWord img g e 4 word) g e (entryWord img g e 0) (entryWord img g e 1) (entryWord img g e 2) word
   relabelled =
       record {
-        kept = kept-entry-word img e 4 word refl (c .sized .contents) (c .inside) (omega arith);
+        kept = kept-entry-word img e 4 word refl (c .inside) (omega arith);
         first = entry-set-other img g e 4 word 0 (λ is. omega (arith, is));
         second = entry-set-other img g e 4 word 1 (λ is. omega (arith, is));
         third = entry-set-other img g e 4 word 2 (λ is. omega (arith, is));

@@ -26,10 +26,11 @@ use Rattle.frame.specs.Framed.{Only, Never, Kept}
 use Rattle.frame.specs.Framing.{Distinct}
 use Rattle.frame.specs.Framing.Distinct.{new as unlike-others}
 use Rattle.frame.proofs.FramedStays.{stated-framed}
-use Rattle.frame.proofs.FramedCompose.{kept-compose, entry-kept}
+use Rattle.frame.proofs.FramedCompose.{entry-kept}
 use Rattle.frame.proofs.UntouchedFramed.{untouched-refl, untouched-one}
 use Rattle.frame.proofs.FramedWritten.{kept-entry-word}
 use Rattle.frame.proofs.FramedEntryWords.{words-kept}
+use Rattle.frame.proofs.ChangesWritten.{changes-then}
 use Rattle.pack.proofs.EntryWordsWritten.{entry-set-same, entry-set-other, words-read, words-behind}
 use Rattle.directory.specs.RenamRows.{renamRows}
 use Rattle.directory.specs.Renam.{renamed, renam}
@@ -48,7 +49,7 @@ module _ {img : List ℕ} {old : Key} {g : Geometry} {e : ℕ} (c : Cleared img 
   named = setEntryWords img g e 0 words
 
   named-kept : Kept (Only e) Never img named g
-  named-kept = words-kept words img g e 0 refl (c .sized .contents) (c .inside) (omega arith)
+  named-kept = words-kept words img g e 0 refl (c .inside) (omega arith)
 
   named-sized : Sized named g
   named-sized = sized-same (c .sized) (named-kept .long)
@@ -65,7 +66,7 @@ module _ {img : List ℕ} {old : Key} {g : Geometry} {e : ℕ} (c : Cleared img 
   relabelled : Relabelled img (renamed img g e new protect) g e (new .name1) (new .name2) (new .extension) protect
   relabelled =
       record {
-        kept = kept-compose named-kept (kept-entry-word named e 4 protect refl (c .sized .contents) (c .inside) (omega arith));
+        kept = changes-then named-kept (kept-entry-word named e 4 protect refl (c .inside) (omega arith));
         first = set 0 (omega arith);
         second = set 1 (omega arith);
         third = set 2 (omega arith);

@@ -32,7 +32,7 @@ use Rattle.asking.proofs.Keys.{absent-iff, not-empty}
 use Rattle.asking.proofs.Outcome.{code-is, settled-success, refusal-keeps}
 use Rattle.frame.proofs.ConsistentAlike.{unlike}
 use Rattle.frame.proofs.FramedStays.{geometry-framed}
-use Rattle.frame.proofs.FramedCompose.{entry-kept}
+use Rattle.frame.proofs.FramedCompose.{entry-kept, entries-kept}
 use Rattle.frame.proofs.UntouchedFramed.{untouched-framed}
 use Rattle.finishing.specs.ScratchTest.{isScratch, scratchKeys}
 use Rattle.finishing.specs.FinishRows.{finishRows}
@@ -96,7 +96,7 @@ module _ {img : List ℕ} (right : Consistent img) (caller : ℕ) where
   pub finish-words : (e : ℕ) → e < slots (geometryOf img) → (Scratch img caller e → ⊥)
       → (i : ℕ) → i < 16 → entryWord (finish img caller .image) (geometryOf img) e i ≡ entryWord img (geometryOf img) e i
   finish-words e inside never =
-      after-swept .kept .entries e inside (λ behind. never (scratch-iff right caller e inside .0 (behind .is)))
+      entries-kept (after-swept .kept) e inside (λ behind. never (scratch-iff right caller e inside .0 (behind .is)))
 
   -- no entry has their names any more
   pub finish-absent : (e : ℕ) → Scratch img caller e → found (finish img caller .image) (keyIn (entryOf img (geometryOf img) e)) ≡ none

@@ -66,7 +66,7 @@ module _ {img : List ℕ} {g : Geometry} (stated : g ≡ geometryOf img) (right 
   sized = subst (Sized img) (sym stated) (header-sized img (right .header))
 
   pub here-kept : Kept (Only e) Never img (clearEntry img g e) g
-  here-kept = clear-kept img e refl (sized .contents) inside
+  here-kept = clear-kept img e refl inside
 
   pub here-empty : Empty (clearEntry img g e) g e
   here-empty = clear-empty g e img sized inside

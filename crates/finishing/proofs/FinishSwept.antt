@@ -13,7 +13,8 @@ use Rattle.pack.specs.EntryWords.{clearEntry}
 use Rattle.pack.specs.Consistent.{Consistent}
 use Rattle.frame.specs.Framed.{Never, Kept}
 use Rattle.frame.proofs.EntrySame.{empty-same}
-use Rattle.frame.proofs.FramedCompose.{kept-same, kept-compose, kept-widen}
+use Rattle.frame.proofs.FramedCompose.{kept-widen, entries-kept}
+use Rattle.frame.proofs.ChangesWritten.{changes-nothing, changes-then}
 use Rattle.finishing.specs.ScratchTest.{isScratch, keysFrom}
 use Rattle.finishing.specs.Finish.{deletedAll, EachDeleted}
 use Rattle.finishing.specs.Finish.EachDeleted.{none}
@@ -62,7 +63,7 @@ module _ (caller : ℕ) {g : Geometry} where
         record {
           right = rest .right;
           kept =
-              kept-compose
+              changes-then
               (kept-widen
               (λ i same. record {
                 low = omega (arith, same);
@@ -83,7 +84,7 @@ module _ (caller : ℕ) {g : Geometry} where
         by : (i : ℕ) → e ≤ i → i < e + suc k → isScratch caller (entryOf img g i) ≡ true → Dec (i ≡ e) → Empty img′ g i
         by i low high passed (yes same) =
             subst (Empty img′ g) (sym same)
-            (empty-same (clearEntry img g e) img′ g e (rest .kept .entries e inside (λ behind. omega (arith, behind .low)))
+            (empty-same (clearEntry img g e) img′ g e (entries-kept (rest .kept) e inside (λ behind. omega (arith, behind .low)))
             (here-empty stated right caller e inside is))
         by i low high passed (no other) =
             rest .emptied i (omega (arith, other)) (omega arith) (as-before i (omega (arith, fits)) other ∙ passed)
@@ -92,7 +93,7 @@ module _ (caller : ℕ) {g : Geometry} where
       → EachDeleted caller img (keysFrom img g caller e k) × Swept img (sweptFrom img g caller e k) g caller e k
   unfolding keysFrom deletedAll
   swept zero img stated right e fits =
-      (none, record { right = right; kept = kept-same img g; emptied = λ i low high is. absurd (omega arith) })
+      (none, record { right = right; kept = changes-nothing; emptied = λ i low high is. absurd (omega arith) })
   swept (suc k) img stated right e fits = by (isScratch caller (entryOf img g e)) refl (swept k)
     where
       by : (test : Bool) → isScratch caller (entryOf img g e) ≡ test

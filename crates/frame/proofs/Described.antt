@@ -20,7 +20,7 @@ use Rattle.frame.specs.Described.{Described, Description}
 use Rattle.frame.proofs.FileChainWays.{next-same, chain-same, after-same, last-same}
 use Rattle.frame.proofs.EntrySame.{right-bodies}
 use Rattle.frame.proofs.FramedCompose.{link-kept}
-use Rattle.frame.proofs.FramedStays.{header-segments, entries-at}
+use Rattle.frame.proofs.FramedStays.{header-segments, bodies-behind, entries-at}
 use Rattle.frame.proofs.FramedHeld.{held-once}
 use Rattle.frame.proofs.FramedConsistent.{consistent-one}
 
@@ -29,7 +29,7 @@ pub next-unwritten : {Named : ℕ → Type 0} {img img′ : List ℕ} {g : Geome
     → (e : ℕ) → e < slots g → (b : ℕ) → 0 < count b (blocksAt img g e) → (kind : ℕ) → nextOf img′ g kind b ≡ nextOf img g kind b
 next-unwritten {Named} {img} {img′} {g} stated consistent framed e within b some kind =
     let range = right-bodies img g e b (entries-at img g stated consistent e within) some in
-    next-same img img′ g kind b (link-kept (framed .kept) (header-segments img g stated (consistent .header)) b (range .0) (range .1) (λ never. never))
+    next-same img img′ g kind b (link-kept (framed .kept) (header-segments img g stated (consistent .header)) b (omega (arith, range .0, bodies-behind img g stated)) (λ never. never))
 
 pub next-extent : (img img′ : List ℕ) (g : Geometry) (kind b : ℕ) → kind ≡ 1 → nextOf img′ g kind b ≡ nextOf img g kind b
 next-extent img img′ g kind b is = next-contiguous img′ g kind b is ∙ sym (next-contiguous img g kind b is)

@@ -15,8 +15,9 @@ use Rattle.pack.specs.File.{linkOf, count}
 use Rattle.pack.specs.Entry.{entryWord, entryOf, blocksAt, Empty, RightEntry}
 use Rattle.pack.specs.Key.{keyIn, SameKey}
 use Rattle.pack.specs.Consistent.{heldIn, held, Consistent}
-use Rattle.pack.proofs.FormBounds.{uics-fit}
+use Rattle.pack.proofs.FormBounds.{uics-fit, contents-before}
 use Rattle.frame.specs.Framing.{Framed}
+use Rattle.frame.proofs.FramedCompose.{header-kept, entries-kept, block-kept}
 use Rattle.frame.proofs.EntrySame.{link-same, right-bodies, entry-same, empty-same, blocks-same, right-same}
 
 -- the measures that an image states are those that its header states
@@ -36,6 +37,10 @@ stated-segments img = refl
 
 pub header-segments : (img : List ℕ) (g : Geometry) → g ≡ geometryOf img → RightHeader img → 0 < g .segments .0
 header-segments img g stated right = omega (arith, right .measured .known, stated-segments img, ap (λ (h : Geometry). h .segments .0) stated)
+
+pub bodies-behind : (img : List ℕ) (g : Geometry) → g ≡ geometryOf img → g .contents < g .bodies .0
+unfolding geometryOf
+bodies-behind img g stated = subst (λ (h : Geometry). h .contents < h .bodies .0) (sym stated) (contents-before (wordAt img 0) (wordAt img 2))
 
 -- the header with its list of UICs is within block 0
 header-room : (img : List ℕ) (g : Geometry) → g ≡ geometryOf img → RightHeader img → 4 + uicCount img ≤ blockWords g
@@ -87,7 +92,7 @@ module _
   some-segments = header-segments img g stated (consistent .header)
 
   header-word : (w : ℕ) → w < 4 + uicCount img → wordAt img′ w ≡ wordAt img w
-  header-word w within = framed .kept .header w (omega (arith, header-room img g stated (consistent .header)))
+  header-word w within = header-kept (framed .kept) w (omega (arith, header-room img g stated (consistent .header)))
 
   pub geometry-framed : geometryOf img′ ≡ geometryOf img
   geometry-framed = geometry-same img img′ (λ w within. header-word w (omega arith))
@@ -123,7 +128,7 @@ module _
                   right .uics .apart v w low less (omega (arith, uic-count)) (sym (list-word v low (omega arith)) ∙ same ∙ list-word w (omega arith) high);
             };
         rest = λ w low high.
-            framed .kept .header w (omega (arith, high, segments, segments-at)) ∙ right .rest w (omega (arith, uic-count)) (omega (arith, high, segments));
+            header-kept (framed .kept) w (omega (arith, high, segments, segments-at)) ∙ right .rest w (omega (arith, uic-count)) (omega (arith, high, segments));
       }
 
   pub listed-framed : (uic : ℕ) → Listed img uic ↔ Listed img′ uic
@@ -135,7 +140,7 @@ module _
   -- an entry that is not named
   module _ (e : ℕ) (within : e < slots g) (other : Named e → ⊥) where
     words : (i : ℕ) → i < 16 → entryWord img′ g e i ≡ entryWord img g e i
-    words = framed .kept .entries e within other
+    words = entries-kept (framed .kept) e within other
 
     pub entry-framed : entryOf img′ g e ≡ entryOf img g e
     entry-framed = entry-same img img′ g e words
@@ -147,7 +152,7 @@ module _
     pub bytes-framed : (b : ℕ) → 0 < count b (blocksAt img g e) → (i : ℕ) → i < blockBytes g → getD img′ (b * blockBytes g + i) 0 ≡ getD img (b * blockBytes g + i) 0
     bytes-framed b some =
         let range = right-bodies img g e b (entries-at img g stated consistent e within) some in
-        framed .kept .bodies b (range .0) (range .1) (λ written. omega (arith, some, framed .apart b written e within other))
+        block-kept (framed .kept) b (omega (arith, range .0, bodies-behind img g stated)) (λ written. omega (arith, some, framed .apart b written e within other))
 
     links : (b : ℕ) → 0 < count b (blocksAt img g e) → linkOf img′ g b ≡ linkOf img g b
     links b some = link-same img img′ g b some-segments (bytes-framed b some)

@@ -1,6 +1,7 @@
 -- The laws of what stays.
 pub mod FileChainWays
 pub mod EntrySame
+pub mod ChangesWritten
 pub mod FramedCompose
 pub mod FramedStays
 pub mod ConsistentAlike

@@ -18,6 +18,7 @@ use Rattle.pack.proofs.KeySame.{key-single}
 use Rattle.frame.specs.Framed.{Only, Never, Kept}
 use Rattle.frame.specs.Framing.{Framed}
 use Rattle.frame.proofs.EntrySame.{link-same, entry-same, empty-same, blocks-same}
+use Rattle.frame.proofs.FramedCompose.{entries-kept}
 use Rattle.frame.proofs.FramedStays.{header-segments, geometry-framed, bytes-framed}
 use Rattle.frame.proofs.FramedHeld.{framed-never}
 
@@ -42,7 +43,7 @@ pub untouched-framed : {Named Written : ℕ → Type 0} {img img′ : List ℕ} 
 untouched-framed {Named} {Written} {img} {img′} {g} stated consistent framed key other =
     untouched-of key img img′ g stated (framed .kept .long) (geometry-framed stated consistent framed)
     (record {
-      words = λ e within used keyed. framed .kept .entries e within (λ named. other e within named used keyed);
+      words = λ e within used keyed. entries-kept (framed .kept) e within (λ named. other e within named used keyed);
       bytes = λ e within used keyed. bytes-framed stated consistent framed e within (λ named. other e within named used keyed);
     })
 

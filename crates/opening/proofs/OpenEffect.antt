@@ -1,5 +1,5 @@
 -- OPENI, OPENU and OPENE: what each changes of the entry; a refusal changes nothing; the image stays consistent, other files untouched, each block its owner's.
-use Prim.Native.Nat.{ℕ}
+use Prim.Native.Nat.{ℕ, _+_}
 use mathlib.Core.Path.{_≡_, refl, _∙_}
 use mathlib.Core.List.{List, []}
 use mathlib.Core.Logic.{inr}
@@ -9,7 +9,7 @@ use Rattle.answers.specs.Refusals.{firstOf}
 use Rattle.pack.specs.declared.Entry.{Entry}
 use Rattle.pack.specs.declared.Geometry.{Geometry}
 use Rattle.pack.specs.declared.Key.{Key}
-use Rattle.pack.specs.Geometry.{geometryOf}
+use Rattle.pack.specs.Geometry.{geometryOf, entryAt}
 use Rattle.pack.specs.Entry.{entryOf}
 use Rattle.pack.specs.EntryWords.{setEntryWord}
 use Rattle.pack.specs.Consistent.{Consistent}
@@ -17,8 +17,10 @@ use Rattle.pack.specs.Owner.{ownerOf}
 use Rattle.pack.specs.Untouched.{Untouched}
 use Rattle.asking.specs.Asked.{entryNo, fileOf}
 use Rattle.asking.specs.Outcome.{Unchanged}
-use Rattle.asking.proofs.Outcome.{refusal-keeps}
+use Rattle.asking.proofs.Outcome.{refusal-keeps, image-by}
 use Rattle.asking.proofs.AskedCleared.{Cleared, FileCleared, file-used}
+use Rattle.frame.specs.Framed.{ChangesOnly, Only}
+use Rattle.frame.proofs.ChangesWritten.{changes-nothing, changes-word}
 use Rattle.frame.proofs.Described.{used-description}
 use Rattle.opening.specs.declared.Opening.{Opening}
 use Rattle.opening.specs.declared.Opening.the-variants.{Input, Update, Extension}
@@ -82,3 +84,8 @@ module _ (mode : Opening) (img : List ℕ) (key : Key) (caller : ℕ) where
   pub open-owner : (b : ℕ) → ownerOf (opened mode img key caller .image) b ≡ ownerOf img b
   unfolding opened
   open-owner = request-owner (openRows mode img key caller) sets
+
+  -- no other word changes
+  pub open-changes : ChangesOnly (Only (entryAt (geometryOf img) (entryNo img key) + openWord mode)) img (opened mode img key caller .image)
+  unfolding opened
+  open-changes = image-by (openRows mode img key caller) img [] _ (ChangesOnly _ img) changes-nothing (λ clear. changes-word img _ _ refl)

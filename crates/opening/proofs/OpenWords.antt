@@ -9,7 +9,7 @@ use lib.Dec.{ltb}
 use Rattle.answers.specs.Refusals.{Row, firstOf}
 use Rattle.pack.specs.declared.Geometry.{Geometry}
 use Rattle.pack.specs.declared.Key.{Key}
-use Rattle.pack.specs.Geometry.{geometryOf, slots}
+use Rattle.pack.specs.Geometry.{geometryOf, slots, entryAt}
 use Rattle.pack.specs.File.{one}
 use Rattle.pack.specs.Entry.{entryWord, entryOf, blocksAt}
 use Rattle.pack.specs.EntryWords.{setEntryWord}
@@ -26,11 +26,12 @@ use Rattle.asking.proofs.Keys.{found-iff}
 use Rattle.asking.proofs.AskedStage.{file-found}
 use Rattle.asking.proofs.AskedCleared.{Cleared, FileCleared}
 use Rattle.asking.proofs.Outcome.{code-is, success-image, image-by}
-use Rattle.frame.specs.Framed.{Only, Never, Kept}
+use Rattle.frame.specs.Framed.{ChangesOnly, InWords, Only, Never}
+use Rattle.frame.specs.Framed.Within.{entry}
 use Rattle.frame.specs.Framing.{Framed}
 use Rattle.frame.specs.Framing.Distinct.{known}
 use Rattle.frame.specs.Described.{Described, Description}
-use Rattle.frame.proofs.FramedWritten.{kept-entry-word}
+use Rattle.frame.proofs.ChangesWritten.{word-kept, changes-wider, changes-word}
 use Rattle.frame.proofs.FramedHeld.{framed-never}
 use Rattle.frame.proofs.FramedStays.{stated-framed, listed-framed}
 use Rattle.frame.proofs.Described.{next-unwritten, described-blocks, consistent-described}
@@ -45,11 +46,9 @@ pub record Rules (kind writer readers : ℕ) : Type 0 where
   pub opens : readers + one (ltb 0 writer) ≤ 62
 
 pub record OpensSet (img img′ : List ℕ) (g : Geometry) (e writer readers : ℕ) : Type 0 where
-  pub kept : Kept (Only e) Never img img′ g
+  pub only : ChangesOnly (InWords g e 9 10) img img′
   pub writes : entryWord img′ g e 9 ≡ writer
   pub reads : entryWord img′ g e 10 ≡ readers
-  pub before : (i : ℕ) → i < 9 → entryWord img′ g e i ≡ entryWord img g e i
-  pub behind : (i : ℕ) → 10 < i → entryWord img′ g e i ≡ entryWord img g e i
 
 -- one word is enough for either
 module _ {img : List ℕ} {key : Key} {g : Geometry} {e : ℕ} (c : Cleared img key g e) (word : ℕ) where
@@ -57,41 +56,45 @@ module _ {img : List ℕ} {key : Key} {g : Geometry} {e : ℕ} (c : Cleared img 
   unfolding entryOf
   writer-set =
       record {
-        kept = kept-entry-word img e 9 word refl (c .sized .contents) (c .inside) (omega arith);
+        only = changes-word img _ word (omega arith, omega arith);
         writes = entry-set-same img g e 9 word (entry-room (c .sized) e 9 (c .inside) (omega arith));
         reads = entry-set-other img g e 9 word 10 (λ is. omega (arith, is));
-        before = λ i low. entry-set-other img g e 9 word i (λ is. omega (arith, is));
-        behind = λ i high. entry-set-other img g e 9 word i (λ is. omega (arith, is));
       }
 
   pub readers-set : OpensSet img (setEntryWord img g e 10 word) g e (entryOf img g e .writer) word
   unfolding entryOf
   readers-set =
       record {
-        kept = kept-entry-word img e 10 word refl (c .sized .contents) (c .inside) (omega arith);
+        only = changes-word img _ word (omega arith, omega arith);
         writes = entry-set-other img g e 10 word 9 (λ is. omega (arith, is));
         reads = entry-set-same img g e 10 word (entry-room (c .sized) e 10 (c .inside) (omega arith));
-        before = λ i low. entry-set-other img g e 10 word i (λ is. omega (arith, is));
-        behind = λ i high. entry-set-other img g e 10 word i (λ is. omega (arith, is));
       }
 
 module _ {img img′ : List ℕ} {key : Key} {g : Geometry} {e writer readers : ℕ} (c : Cleared img key g e) (set : OpensSet img img′ g e writer readers) where
   pub opens-framed : Framed (Only e) Never img img′ g
-  opens-framed = framed-never (set .kept)
+  opens-framed = framed-never (changes-wider (λ w at. entry e refl (c .inside) (omega (arith, at .0), omega (arith, at .1))) (set .only))
+
+  before : (i : ℕ) → i < 9 → entryWord img′ g e i ≡ entryWord img g e i
+  unfolding entryWord
+  before i low = word-kept (set .only) (entryAt g e + i) (λ at. omega (arith, at .0, low))
+
+  behind : (i : ℕ) → 10 < i → entryWord img′ g e i ≡ entryWord img g e i
+  unfolding entryWord
+  behind i high = word-kept (set .only) (entryAt g e + i) (λ at. omega (arith, at .1, high))
 
   pub opens-entry : entryOf img′ g e ≡ withOpens (entryOf img g e) writer readers
   unfolding entryOf
   opens-entry =
       λ i. record {
-        name1 = set .before 0 (omega arith) i;
-        name2 = set .before 1 (omega arith) i;
-        extension = set .before 2 (omega arith) i;
-        uic = set .before 3 (omega arith) i;
-        protect = set .before 4 (omega arith) i;
-        kind = set .before 5 (omega arith) i;
-        first = record { 0 = set .before 6 (omega arith) i };
-        length = set .before 7 (omega arith) i;
-        last = record { 0 = set .before 8 (omega arith) i };
+        name1 = before 0 (omega arith) i;
+        name2 = before 1 (omega arith) i;
+        extension = before 2 (omega arith) i;
+        uic = before 3 (omega arith) i;
+        protect = before 4 (omega arith) i;
+        kind = before 5 (omega arith) i;
+        first = record { 0 = before 6 (omega arith) i };
+        length = before 7 (omega arith) i;
+        last = record { 0 = before 8 (omega arith) i };
         writer = set .writes i;
         readers = set .reads i;
       }
@@ -100,17 +103,17 @@ module _ {img img′ : List ℕ} {key : Key} {g : Geometry} {e writer readers : 
   unfolding entryOf
   opens-key =
       record {
-        name1 = set .before 0 (omega arith);
-        name2 = set .before 1 (omega arith);
-        extension = set .before 2 (omega arith);
-        uic = set .before 3 (omega arith);
+        name1 = before 0 (omega arith);
+        name2 = before 1 (omega arith);
+        extension = before 2 (omega arith);
+        uic = before 3 (omega arith);
       }
 
   pub opens-described : Described img img′ g e
   opens-described =
       record {
-        file = λ i low high. set .before i (omega arith);
-        rest = λ i low high. set .behind i low;
+        file = λ i low high. before i (omega arith);
+        rest = λ i low high. behind i low;
         next = λ b some. next-unwritten (c .measures) (c .right) opens-framed e (c .inside) b some (entryOf img g e .kind);
       }
 
@@ -172,7 +175,7 @@ module _ (rows : List Row) {img img′ : List ℕ} {key : Key} {writer readers :
   pub request-untouched : (key′ : Key) → (key′ ≡ key → ⊥) → Untouched key′ img (outcome .image)
   request-untouched key′ other =
       image-by rows img [] _ (Untouched key′ img) (untouched-refl key′ img)
-      (λ none. let f = sets none .file in untouched-one (f .measures) (f .right) (sets none .set .kept) (f .keyed) key′ other)
+      (λ none. let f = sets none .file in untouched-one (f .measures) (f .right) (opens-framed f (sets none .set) .kept) (f .keyed) key′ other)
 
   pub request-owner : (b : ℕ) → ownerOf (outcome .image) b ≡ ownerOf img b
   request-owner b =

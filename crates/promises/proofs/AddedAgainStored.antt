@@ -21,6 +21,7 @@ use Rattle.asking.specs.Rights.{May}
 use Rattle.asking.proofs.Rights.{may-iff}
 use Rattle.asking.proofs.AskedCleared.{Cleared}
 use Rattle.frame.specs.Framed.{Kept}
+use Rattle.frame.proofs.FramedCompose.{block-kept}
 use Rattle.frame.proofs.Described.{described-blocks}
 use Rattle.owners.proofs.EntryBlocks.{blocks-length}
 use Rattle.opening.specs.declared.Opening.the-variants.{Input}
@@ -40,9 +41,9 @@ use Rattle.promises.proofs.FileOpened.{own, asked, file-set, file-close
 
 -- the payload of a block that is not written
 payload-kept : {Named Written : ℕ → Type 0} {img img′ : List ℕ} {g : Geometry} → Kept Named Written img img′ g
-    → (b : ℕ) → g .bodies .0 ≤ b → b < g .blocks → (Written b → ⊥) → payloadOf img′ g b ≡ payloadOf img g b
-payload-kept {Named} {Written} {img} {img′} {g} kept b low high other =
-    payload-same img img′ g b (kept .long) (λ i past small. kept .bodies b low high other i small)
+    → (b : ℕ) → g .contents < b → (Written b → ⊥) → payloadOf img′ g b ≡ payloadOf img g b
+payload-kept {Named} {Written} {img} {img′} {g} kept b behind other =
+    payload-same img img′ g b (kept .long) (λ i past small. block-kept kept b behind other i small)
 
 -- the key's file is linked and the caller may read it, and its block at the place has the payload
 pub record Stored (img : List ℕ) (key : Key) (g : Geometry) (e caller place : ℕ) (payload : List ℕ) : Type 0 where
@@ -90,7 +91,7 @@ module _ {img : List ℕ} {key : Key} {g : Geometry} {e caller place : ℕ} {pay
         linked = ap (λ (x : Entry). x .kind) entry ∙ stored .linked;
         inside = omega (arith, stored .inside, ap (λ (x : Entry). x .length) entry);
         bytes = ap (λ (bs : List ℕ). payloadOf img′ g (getD bs place 0)) (described-blocks (opens-described (stored .file) set))
-            ∙ payload-kept (kept .kept) block (range .0) (range .1) (λ never. never) ∙ stored .bytes;
+            ∙ payload-kept (kept .kept) block (omega (arith, range .0, stored .file .sized .contents)) (λ never. never) ∙ stored .bytes;
       }
 
   -- CLOSE of the writer, 2 or 3

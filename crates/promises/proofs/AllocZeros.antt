@@ -22,11 +22,12 @@ use Rattle.asking.proofs.Keys.{keyed-used}
 use Rattle.asking.proofs.Rights.{may-iff}
 use Rattle.asking.proofs.AskedCleared.{Cleared}
 use Rattle.asking.proofs.AccessRows.{Accessed}
-use Rattle.frame.proofs.FramedStays.{entries-at}
+use Rattle.frame.proofs.FramedCompose.{block-kept}
+use Rattle.frame.proofs.FramedStays.{entries-at, bodies-behind}
 use Rattle.owners.proofs.OwnerSearch.{measured-sized}
 use Rattle.opening.specs.declared.Opening.the-variants.{Input}
 use Rattle.opening.specs.Open.{withOpens, opened}
-use Rattle.opening.proofs.OpenWords.{OpensSet, opens-entry}
+use Rattle.opening.proofs.OpenWords.{OpensSet, opens-entry, opens-framed}
 use Rattle.opening.proofs.OpenEffect.{open-consistent}
 use Rattle.bodies.specs.BlockBytes.{partOf, blockStart, blockOf}
 use Rattle.bodies.specs.BufferSizes.{wrongBlock}
@@ -139,9 +140,13 @@ module _ (img : List ℕ) (key : Key) (caller protect segments : ℕ) (done : al
     bytes-same : (place : ℕ) → place < lengthFor img segments
         → blockOf img₂ (geometryOf img) (startFor img segments + place) ≡ blockOf img₁ (geometryOf img) (startFor img segments + place)
     bytes-same place few =
-        part-same img₁ img₂ (blockStart (geometryOf img) (startFor img segments + place)) (blockBytes (geometryOf img)) (set .kept .long)
-        (set .kept .bodies (startFor img segments + place)
-        (possible .extent .run .free (startFor img segments + place) (omega arith) (omega (arith, few)) .body) (block-inside place few) (λ never. never))
+        part-same img₁ img₂ (blockStart (geometryOf img) (startFor img segments + place)) (blockBytes (geometryOf img)) (set .only .long)
+        (block-kept (opens-framed there set .kept) (startFor img segments + place)
+        (omega (
+          arith,
+          possible .extent .run .free (startFor img segments + place) (omega arith) (omega (arith, few)) .body,
+          bodies-behind img (geometryOf img) refl,
+        )) (λ never. never))
 
     pub alloc-reads : (place : ℕ) → place < lengthFor img segments → (lent : List ℕ) → length lent ≡ blockBytes (geometryOf img)
         → blockIn (readableImage img key caller protect segments reader) key reader place lent

@@ -19,6 +19,7 @@ use Rattle.asking.specs.Rights.{May}
 use Rattle.asking.proofs.Rights.{may-iff}
 use Rattle.asking.proofs.AskedCleared.{Cleared}
 use Rattle.asking.proofs.AccessRows.{Accessed}
+use Rattle.frame.proofs.FramedCompose.{block-kept}
 use Rattle.frame.proofs.Described.{described-blocks}
 use Rattle.owners.proofs.EntryBlocks.{blocks-length}
 use Rattle.opening.specs.declared.Opening.the-variants.{Input}
@@ -88,7 +89,7 @@ module _ {img : List ℕ} {key : Key} {g : Geometry} {e caller : ℕ} {payloads 
             ∙ payloads-same img img′ g (kept .kept .long) (blocksAt img g e)
             (λ b reached i past small.
             let range = held .file .used .bodies b reached in
-            kept .kept .bodies b (range .0) (range .1) (λ never. never) i small) ∙ held .bytes;
+            block-kept (kept .kept) b (omega (arith, range .0, held .file .sized .contents)) (λ never. never) i small) ∙ held .bytes;
       }
 
   -- CLOSE of the writer, 2 or 3

@@ -1,29 +1,22 @@
--- The requests that write more than entries change no other word: Format, ALLOC, APPND, BLOCK output and linked add.
+-- The requests that write more than entries change no other word: Format, ALLOC, APPND and BLOCK output.
 use Prim.Native.Nat.{ℕ, _+_, _*_, _-_, _/_, _≤_, _<_}
 use mathlib.Core.Path.{_≡_, refl, sym, ap, _∙_}
 use mathlib.Core.Logic.{inl, inr}
 use mathlib.Core.List.{List, []}
 use native.Mathlib.Omega.{arith}
-use native.Mathlib.Decide.{decLe, decLt}
-use native.Mathlib.Nat.{div-add-mod', mod-lt, mul-le-mul-right}
 use lib.Dec.{eqb}
 use lib.ListN.{length, getD, drop, replicate, length-replicate}
 use lib.Seq.{getD-drop}
-use Rattle.words.proofs.Word.{length-setWord}
-use Rattle.pack.specs.declared.Geometry.{Geometry}
 use Rattle.pack.specs.declared.Key.{Key}
-use Rattle.pack.specs.Geometry.{geometryOf, blockWords, blockBytes, blockAt}
-use Rattle.pack.proofs.GeometryRoom.{block-room}
-use Rattle.pack.proofs.HeaderRules.{header-sized}
+use Rattle.pack.specs.Geometry.{geometryOf, blockBytes}
 use Rattle.asking.specs.Asked.{entryNo, fileOf}
 use Rattle.asking.proofs.Outcome.{code-is}
-use Rattle.bodies.specs.BlockBytes.{blockStart, payloadStart}
-use Rattle.bodies.specs.BufferSizes.{wrongPayload}
+use Rattle.bodies.specs.BlockBytes.{blockStart}
 use Rattle.bodies.proofs.BlockBytes.{room-of}
-use Rattle.bodies.proofs.BufferSizes.{payload-fits}
-use Rattle.room.specs.Room.{InRun}
+use Rattle.bodies.proofs.EntryChain.{changes-chain}
 use Rattle.room.specs.Cleared.{cleared}
 use Rattle.room.proofs.Cleared.{blocks-room}
+use Rattle.room.proofs.ClearedKept.{word-block}
 use Rattle.creation.specs.Rounding.{lengthFor}
 use Rattle.creation.specs.AllocRows.{allocRows}
 use Rattle.creation.specs.Alloc.{startFor, alloc}
@@ -36,15 +29,13 @@ use Rattle.transfer.specs.BlockRows.{blockOutRows}
 use Rattle.transfer.proofs.BlockWritten.{output-asked, output-fits}
 use Rattle.appending.specs.AppndRows.{appndRows}
 use Rattle.appending.specs.Appnd.{chainJoined, appnd}
-use Rattle.adding.specs.LinkedAddRows.{linkedAddRows}
-use Rattle.adding.specs.LinkedAdd.{addedBlock, blockWith, added, linkedAdd}
-use Rattle.adding.proofs.LinkedAddStage.{admitted, block-free}
-use Rattle.requests.specs.Request.{FORMAT, ALLOC, APPND, BLOCK-OUTPUT, LINKED-ADD}
+use Rattle.requests.specs.Request.{FORMAT, ALLOC, APPND, BLOCK-OUTPUT}
 use Rattle.requests.specs.Changes.{MayChange}
 use Rattle.requests.proofs.RequestFormat.{format-by}
 use Rattle.requests.proofs.ChangesEntries.{created-changes}
-use Rattle.requests.proofs.ChangesWritten.{ChangesOnly, changes-nothing, changes-then, changes-wider, changes-settled, changes-either}
-use Rattle.requests.proofs.ChangesWritten.{changes-word, changes-cleared, changes-chain, changes-part}
+use Rattle.frame.specs.Framed.{ChangesOnly}
+use Rattle.frame.proofs.ChangesWritten.{changes-nothing, changes-then, changes-wider, changes-either, changes-cleared, changes-part}
+use Rattle.requests.proofs.ChangesWritten.{changes-settled}
 
 pub format-changes : (img : List ℕ) (form blocks contents : ℕ) (uics : List ℕ)
     → ChangesOnly (MayChange (FORMAT form blocks contents uics) img) img (format img form blocks contents uics .image)
@@ -66,28 +57,6 @@ format-changes img form blocks contents uics =
         ∙ ap (λ (l : List ℕ). getD l (k - systemBytes form contents) 0) same
         ∙ getD-drop (systemBytes form contents) img (k - systemBytes form contents) 0
         ∙ ap (λ (i : ℕ). getD img i 0) place
-
--- the block of a word among blocks in a row
-word-block : (g : Geometry) (s count w : ℕ) → 0 < g .segments .0 → blockAt g s ≤ w → w < blockAt g (s + count)
-    → (b : ℕ) × (InRun s count b × ((blockAt g b ≤ w) × (w < blockAt g b + blockWords g)))
-word-block g s count w some low high =
-    let words : 0 < blockWords g = omega (arith, some) in
-    let split = div-add-mod' w (blockWords g) in
-    let rest = mod-lt w words in
-    (w / blockWords g, ((from (decLe s (w / blockWords g)), below (decLt (w / blockWords g) (s + count))), (omega (arith, split), omega (arith, split, rest))))
-  where
-    from : Dec (s ≤ w / blockWords g) → s ≤ w / blockWords g
-    from (yes is) = is
-    from (no not) =
-        let words : 0 < blockWords g = omega (arith, some) in
-        let less : w / blockWords g < s = omega (arith, not) in
-        absurd (omega (arith, low, div-add-mod' w (blockWords g), mod-lt w words, block-room (blockWords g) less))
-
-    below : Dec (w / blockWords g < s + count) → w / blockWords g < s + count
-    below (yes is) = is
-    below (no not) =
-        let over : s + count ≤ w / blockWords g = omega (arith, not) in
-        absurd (omega (arith, high, div-add-mod' w (blockWords g), mul-le-mul-right (blockWords g) over))
 
 pub alloc-changes : (img : List ℕ) (key : Key) (caller protect segments : ℕ)
     → ChangesOnly (MayChange (ALLOC key caller protect segments) img) img (alloc img key caller protect segments .image)
@@ -133,20 +102,3 @@ block-output-changes img key caller place buffer =
     changes-part img buffer (blockStart (geometryOf img) (blockAtPlace (fileOf img key) place))
     (omega (arith, fits, room-of img (geometryOf img) (blockAtPlace (fileOf img key) place) (asked .sized) (asked .below) .inside))
     (λ w low high. (omega arith, omega (arith, fits))))
-
-pub linked-add-changes : (img : List ℕ) (key : Key) (caller : ℕ) (payload : List ℕ)
-    → ChangesOnly (MayChange (LINKED-ADD key caller payload) img) img (linkedAdd img key caller payload .image)
-unfolding linkedAdd added blockWith
-linked-add-changes img key caller payload =
-    changes-settled (linkedAddRows img key caller (wrongPayload img payload) 1) img payload _
-    (λ clear.
-    let admission = admitted img key caller (wrongPayload img payload) 1 (omega arith) clear in
-    let free = block-free (admission .file .right) (admission .more) in
-    let room = room-of img (geometryOf img) (addedBlock img) (header-sized img (admission .file .right .header)) (free .below) in
-    let fits = payload-fits img payload (geometryOf img) (admission .file .argument) refl in
-    changes-then
-    (changes-then (changes-word img _ _ (inr (inl (omega arith, omega (arith, room .some)))))
-    (changes-part _ payload (payloadStart (geometryOf img) (addedBlock img))
-    (omega (arith, fits, room .some, room .inside, length-setWord img (blockAt (geometryOf img) (addedBlock img)) 0))
-    (λ w low high. inr (inl (omega arith, omega (arith, fits, room .some))))))
-    (changes-chain _ (geometryOf img) (entryNo img key) (fileOf img key) _ _ _ _ _ _ _ (λ j low high. inl (omega arith, omega arith)) (λ some. inr (inr (some, refl)))))

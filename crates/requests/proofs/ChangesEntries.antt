@@ -1,39 +1,31 @@
 -- The requests that write words of entries alone change no other word.
-use Prim.Native.Nat.{ℕ, _+_, _*_, _≤_}
+use Prim.Native.Nat.{ℕ, _+_}
 use mathlib.Core.Path.{_≡_, refl}
 use mathlib.Core.Logic.{inl, inr}
 use mathlib.Core.List.{List, [], _∷_}
 use native.Mathlib.Omega.{arith}
 use native.Mathlib.Decide.{ℕ-discrete}
-use lib.ListN.{getD}
 use borrow.Author.Tests.{eq-eqb, ne-eqb}
 use Rattle.pack.specs.declared.Entry.{Entry}
 use Rattle.pack.specs.declared.Key.{Key}
-use Rattle.pack.specs.Geometry.{geometryOf, blockBytes, entryAt}
+use Rattle.pack.specs.Geometry.{geometryOf, entryAt}
 use Rattle.pack.specs.EntryWords.{wordsOf}
-use Rattle.pack.proofs.GeometryRoom.{block-room}
 use Rattle.asking.specs.Asked.{entryNo}
-use Rattle.asking.proofs.Outcome.{image-by}
 use Rattle.creation.specs.Creating.{LowestEmpty, entryFor, created}
 use Rattle.creation.specs.OpenoRows.{openoRows}
 use Rattle.creation.specs.Openo.{openo}
 use Rattle.creation.proofs.CreatingStage.{creatable}
-use Rattle.opening.specs.declared.Opening.{Opening}
-use Rattle.opening.specs.declared.Opening.the-variants.{Input, Update, Extension}
-use Rattle.opening.specs.OpenRows.{openRows, openWord}
-use Rattle.opening.specs.Open.{opened}
 use Rattle.opening.specs.CloseRows.{closeRows, closeWord}
 use Rattle.opening.specs.Close.{close}
-use Rattle.directory.specs.DeletRows.{deletRows}
-use Rattle.directory.specs.Delet.{delet}
 use Rattle.directory.specs.KeepRows.{keepRows}
 use Rattle.directory.specs.Keep.{keep}
 use Rattle.directory.specs.RenamRows.{renamRows}
 use Rattle.directory.specs.Renam.{newKey, renam}
-use Rattle.directory.proofs.DeletStage.{delet-cleared}
-use Rattle.requests.specs.Request.{OPENO, OPEN, CLOSE, DELET, RENAM, KEEP}
-use Rattle.requests.specs.Changes.{InEntry, InLowestEmpty, MayChange}
-use Rattle.requests.proofs.ChangesWritten.{ChangesOnly, changes-then, changes-settled, changes-word, changes-words, changes-cleared}
+use Rattle.requests.specs.Request.{OPENO, CLOSE, RENAM, KEEP}
+use Rattle.requests.specs.Changes.{InLowestEmpty, MayChange}
+use Rattle.frame.specs.Framed.{ChangesOnly}
+use Rattle.frame.proofs.ChangesWritten.{changes-then, changes-word, changes-words}
+use Rattle.requests.proofs.ChangesWritten.{changes-settled}
 
 -- a new file
 pub created-changes : (img : List ℕ) (x : Entry) → LowestEmpty img (entryFor img) → ChangesOnly (InLowestEmpty img) img (created img x)
@@ -46,18 +38,7 @@ unfolding openo
 openo-changes img key caller protect =
     changes-settled (openoRows img key caller protect) img [] _ (λ clear. created-changes img _ (creatable img key caller protect _ clear .entry))
 
--- opens and CLOSE
-open-word : (mode : Opening) (img : List ℕ) (key : Key) (caller : ℕ)
-    → MayChange (OPEN mode key caller) img (entryAt (geometryOf img) (entryNo img key) + openWord mode)
-open-word Input img key caller = refl
-open-word Update img key caller = refl
-open-word Extension img key caller = refl
-
-pub open-changes : (mode : Opening) (img : List ℕ) (key : Key) (caller : ℕ) → ChangesOnly (MayChange (OPEN mode key caller) img) img (opened mode img key caller .image)
-unfolding opened
-open-changes mode img key caller =
-    changes-settled (openRows mode img key caller) img [] _ (λ clear. changes-word img _ _ (open-word mode img key caller))
-
+-- CLOSE
 close-word : (img : List ℕ) (key : Key) (mode : ℕ) → MayChange (CLOSE key mode) img (entryAt (geometryOf img) (entryNo img key) + closeWord mode)
 close-word img key mode = by (ℕ-discrete mode 4)
   where
@@ -69,23 +50,6 @@ pub close-changes : (img : List ℕ) (key : Key) (mode : ℕ) → ChangesOnly (M
 unfolding close
 close-changes img key mode =
     changes-settled (closeRows img key mode) img [] _ (λ clear. changes-word img _ _ (close-word img key mode))
-
-pub delet-changes : (img : List ℕ) (key : Key) (caller : ℕ) → ChangesOnly (MayChange (DELET key caller) img) img (delet img key caller .image)
-unfolding delet
-delet-changes img key caller =
-    changes-settled (deletRows img key caller) img [] _
-    (λ clear. changes-cleared img (geometryOf img) (entryNo img key) (λ j small. (omega arith, omega arith)))
-
--- "bodies untouched"
-pub delet-bodies : (img : List ℕ) (key : Key) (caller k : ℕ) → geometryOf img .bodies .0 * blockBytes (geometryOf img) ≤ k
-    → getD (delet img key caller .image) k 0 ≡ getD img k 0
-unfolding delet
-delet-bodies img key caller k body =
-    image-by (deletRows img key caller) img [] _ (λ img′. getD img′ k 0 ≡ getD img k 0) refl
-    (λ clear.
-    let c = delet-cleared img key caller clear in
-    changes-cleared {May = InEntry img (entryNo img key)} img (geometryOf img) (entryNo img key) (λ j small. (omega arith, omega arith)) .bytes k
-    (λ may. omega (arith, may .1, body, c .inside, block-room (geometryOf img .segments .0) (c .sized .contents))))
 
 pub keep-changes : (img : List ℕ) (key : Key) (caller : ℕ) → ChangesOnly (MayChange (KEEP key caller) img) img (keep img key caller .image)
 unfolding keep

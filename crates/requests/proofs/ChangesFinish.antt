@@ -12,7 +12,9 @@ use Rattle.finishing.proofs.FinishSwept.{swept-each}
 use Rattle.finishing.proofs.FinishEffect.{clear-right}
 use Rattle.requests.specs.Request.{FINISH}
 use Rattle.requests.specs.Changes.{MayChange}
-use Rattle.requests.proofs.ChangesWritten.{ChangesOnly, changes-nothing, changes-then, changes-settled, changes-cleared}
+use Rattle.frame.specs.Framed.{ChangesOnly}
+use Rattle.frame.proofs.ChangesWritten.{changes-nothing, changes-then, changes-cleared}
+use Rattle.requests.proofs.ChangesWritten.{changes-settled}
 
 pub finish-changes : (img : List ℕ) (caller : ℕ) → ChangesOnly (MayChange (FINISH caller) img) img (finish img caller .image)
 unfolding finish scratchKeys

@@ -15,7 +15,7 @@ use Rattle.pack.proofs.FileCount.{count-same, count-more}
 use Rattle.pack.proofs.HeaderRules.{header-sized}
 use Rattle.asking.specs.Asked.{entryNo, fileOf}
 use Rattle.adding.specs.LinkedAdd.{addedBlock, linkedAdd}
-use Rattle.adding.proofs.LinkedAddEffect.{add-refused, add-admitted, add-enlarged}
+use Rattle.adding.proofs.LinkedAddEffect.{add-refused, add-admitted, add-enlarged, add-changes}
 use Rattle.adding.proofs.LinkedAddAgain.{again-measures, again-number}
 use Rattle.stream.specs.AddedAll.{addedAll, takenBlocks}
 use Rattle.lines.specs.LineReading.{modeOf}
@@ -24,8 +24,9 @@ use Rattle.lines.specs.BytesWriting.{gatheredIn, writingRows, bytesWritten}
 use Rattle.lines.specs.LineWriting.{nulsFor, lineWrite, lineEnd}
 use Rattle.requests.specs.Request.{LINKED-ADD, LINE-WRITE, LINE-END}
 use Rattle.requests.specs.Changes.{IsLastLink, MayAdd, MayChange}
-use Rattle.requests.proofs.ChangesWritten.{ChangesOnly, changes-nothing, changes-then, changes-wider, changes-settled}
-use Rattle.requests.proofs.ChangesBodies.{linked-add-changes}
+use Rattle.frame.specs.Framed.{ChangesOnly}
+use Rattle.frame.proofs.ChangesWritten.{changes-nothing, changes-then, changes-wider}
+use Rattle.requests.proofs.ChangesWritten.{changes-settled}
 
 module _ (key : Key) (caller : ℕ) (img payload : List ℕ) (more : List (List ℕ)) where
   abbrev image : List ℕ
@@ -87,7 +88,7 @@ pub added-all-changes : (key : Key) (caller : ℕ) (img : List ℕ) (payloads : 
 unfolding addedAll
 added-all-changes key caller img [] = changes-nothing
 added-all-changes key caller img (payload ∷ more) =
-    changes-then (changes-wider (wider-first key caller img payload more) (linked-add-changes img key caller payload))
+    changes-then (changes-wider (wider-first key caller img payload more) (add-changes img key caller payload))
     (changes-wider (wider key caller img payload more) (added-all-changes key caller (linkedAdd img key caller payload .image) more))
 
 bytes-changes : (img : List ℕ) (key : Key) (caller : ℕ) (wrong : Bool) (gather : List ℕ) (filled : ℕ) (bytes numbers : List ℕ)

@@ -12,7 +12,7 @@ use borrow.Rule.Slice.PartMut.{putMid}
 use Rattle.pack.specs.declared.Geometry.{Geometry}
 use Rattle.pack.specs.Geometry.{blockBytes}
 use Rattle.pack.specs.GeometrySized.{Sized}
-use Rattle.frame.proofs.FramedWritten.{replaced-length, replaced-other, replaced-inside}
+use Rattle.frame.proofs.ChangesWritten.{replaced-length, replaced-other, replaced-inside}
 use Rattle.bodies.specs.BlockBytes.{partOf, blockStart, withPart}
 use Rattle.bodies.proofs.BlockBytes.{part-written, start-read}
 use Rattle.room.specs.Cleared.{cleared, ClearedBlocks}

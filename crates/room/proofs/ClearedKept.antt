@@ -1,39 +1,44 @@
--- Cleared blocks as crate `frame` knows them: nothing is written but the bytes of these blocks.
-use Prim.Native.Nat.{ℕ, _+_, _*_, _≤_, _<_}
-use mathlib.Core.Path.{_≡_}
-use mathlib.Core.Logic.{inl, inr}
+-- Cleared blocks as crate `frame` knows them: nothing is written but the words of these blocks.
+use Prim.Native.Nat.{ℕ, _+_, _*_, _/_, _≤_, _<_}
 use mathlib.Core.List.{List}
 use native.Mathlib.Omega.{arith}
-use native.Mathlib.Nat.{mul-le-mul-right}
-use native.Mathlib.Decide.{decLt}
-use lib.ListN.{getD}
+use native.Mathlib.Nat.{div-add-mod', mod-lt, mul-le-mul-right}
+use native.Mathlib.Decide.{decLt, decLe}
 use Rattle.pack.specs.declared.Geometry.{Geometry}
-use Rattle.pack.specs.Geometry.{blockBytes, entryAt}
-use Rattle.pack.specs.Entry.{entryWord}
+use Rattle.pack.specs.Geometry.{blockWords, blockBytes, blockAt}
 use Rattle.pack.proofs.GeometryRoom.{block-room}
-use Rattle.frame.specs.Framed.{Kept}
-use Rattle.frame.proofs.EntrySame.{word-same}
+use Rattle.frame.specs.Framed.{InBlock, Kept}
+use Rattle.frame.specs.Framed.Within.{block}
+use Rattle.frame.proofs.ChangesWritten.{changes-run}
+use Rattle.bodies.specs.BlockBytes.{blockStart}
 use Rattle.room.specs.Room.{InRun}
 use Rattle.room.specs.Cleared.{ClearedBlocks}
 
-pub cleared-kept : {Named : ℕ → Type 0} {img img′ : List ℕ} {g : Geometry} {b count : ℕ} → ClearedBlocks img img′ g b count → g .contents < b
-    → Kept Named (InRun b count) img img′ g
-unfolding entryWord
-cleared-kept {Named} {img} {img′} {g} {b} {count} clear above =
-    let system = block-room (g .segments .0) {b = g .contents} {n = b} above in
-    record {
-      long = clear .long;
-      header = λ w small. word-same img img′ w (clear .others (2 * w) (inl (omega arith))) (clear .others (2 * w + 1) (inl (omega arith)));
-      entries = λ e inside other i small.
-          word-same img img′ (entryAt g e + i) (clear .others (2 * (entryAt g e + i)) (inl (omega arith)))
-          (clear .others (2 * (entryAt g e + i) + 1) (inl (omega arith)));
-      bodies = λ z low high other i small. body z i small other (decLt z b) (decLt z (b + count));
-    }
+-- the block of a word among blocks in a row
+pub word-block : (g : Geometry) (s count w : ℕ) → 0 < g .segments .0 → blockAt g s ≤ w → w < blockAt g (s + count) → (b : ℕ) × (InRun s count b × InBlock g b w)
+word-block g s count w some low high =
+    let words : 0 < blockWords g = omega (arith, some) in
+    let split = div-add-mod' w (blockWords g) in
+    let rest = mod-lt w words in
+    (w / blockWords g, ((from (decLe s (w / blockWords g)), below (decLt (w / blockWords g) (s + count))), (omega (arith, split), omega (arith, split, rest))))
   where
-    body : (z i : ℕ) → i < blockBytes g → (InRun b count z → ⊥) → Dec (z < b) → Dec (z < b + count)
-        → getD img′ (z * blockBytes g + i) 0 ≡ getD img (z * blockBytes g + i) 0
-    body z i small other (yes less) d = clear .others (z * blockBytes g + i) (inl (omega (arith, block-room (g .segments .0) less)))
-    body z i small other (no not) (yes high) = absurd (other (omega (arith, not), high))
-    body z i small other (no not) (no behind) =
-        let over : b + count ≤ z = omega (arith, behind) in
-        clear .others (z * blockBytes g + i) (inr (omega (arith, mul-le-mul-right (g .segments .0) over)))
+    from : Dec (s ≤ w / blockWords g) → s ≤ w / blockWords g
+    from (yes is) = is
+    from (no not) =
+        let words : 0 < blockWords g = omega (arith, some) in
+        let less : w / blockWords g < s = omega (arith, not) in
+        absurd (omega (arith, low, div-add-mod' w (blockWords g), mod-lt w words, block-room (blockWords g) less))
+
+    below : Dec (w / blockWords g < s + count) → w / blockWords g < s + count
+    below (yes is) = is
+    below (no not) =
+        let over : s + count ≤ w / blockWords g = omega (arith, not) in
+        absurd (omega (arith, high, div-add-mod' w (blockWords g), mul-le-mul-right (blockWords g) over))
+
+pub cleared-kept : {Named : ℕ → Type 0} {img img′ : List ℕ} {g : Geometry} {b count : ℕ} → ClearedBlocks img img′ g b count → g .contents < b → 0 < g .segments .0
+    → Kept Named (InRun b count) img img′ g
+cleared-kept {g = g} {b} {count} clear above some =
+    changes-run (blockStart g b) (count * blockBytes g) (clear .long) (clear .others)
+    (λ w low high.
+    let at = word-block g b count w some (omega arith) (omega arith) in
+    block (at .0) (at .1 .0) (omega (arith, above, at .1 .0 .0)) (at .1 .1))

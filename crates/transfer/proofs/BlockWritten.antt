@@ -20,16 +20,17 @@ use Rattle.pack.specs.Key.{keyIn, SameKey}
 use Rattle.pack.specs.Untouched.{Untouched}
 use Rattle.pack.specs.Owner.{placeFrom, ownerOf}
 use Rattle.frame.specs.Framed.{Only, Never, Kept}
+use Rattle.frame.specs.Framed.Within.{block}
 use Rattle.frame.specs.Framing.{Framed}
 use Rattle.frame.specs.Framing.Distinct.{known}
 use Rattle.frame.specs.Described.{Described, Description}
 use Rattle.frame.proofs.FramedStays.{geometry-framed, listed-framed}
-use Rattle.frame.proofs.FramedCompose.{entry-kept}
+use Rattle.frame.proofs.FramedCompose.{entry-kept, entries-kept}
 use Rattle.frame.proofs.FramedHeld.{framed-one}
 use Rattle.frame.proofs.Described.{next-extent, used-description, described-blocks, consistent-described}
 use Rattle.frame.proofs.UntouchedFramed.{untouched-refl, untouched-framed}
 use Rattle.frame.proofs.OwnerFramed.{owner-framed}
-use Rattle.frame.proofs.FramedWritten.{Outside, kept-block, replaced-length, replaced-other, replaced-inside}
+use Rattle.frame.proofs.ChangesWritten.{Outside, replaced-length, replaced-other, replaced-inside, changes-part}
 use Rattle.asking.specs.declared.Right.the-variants.{Write}
 use Rattle.asking.specs.Outcome.{Outcome, settled}
 use Rattle.asking.specs.Asked.{entryNo, fileOf}
@@ -57,13 +58,8 @@ module _ {img : List ℕ} {key : Key} {wrong : Bool} {g : Geometry} {e : ℕ} {x
 
   pub written-kept : {Named : ℕ → Type 0} → Kept Named (Only (blockAtPlace x place)) img (blockWritten img g x place buffer) g
   written-kept =
-      kept-block (blockAtPlace x place) refl (omega (arith, asked .sized .contents, asked .body))
-      (replaced-length img buffer (blockStart g (blockAtPlace x place)) within) same
-    where
-      same : (k : ℕ) → Outside (blockAtPlace x place * blockBytes g) (blockBytes g) k
-          → getD (blockWritten img g x place buffer) k 0 ≡ getD img k 0
-      same k (inl low) = replaced-other img buffer (blockStart g (blockAtPlace x place)) within k (inl low)
-      same k (inr high) = replaced-other img buffer (blockStart g (blockAtPlace x place)) within k (inr (omega (arith, high, fits)))
+      changes-part img buffer (blockStart g (blockAtPlace x place)) within
+      (λ w low high. block (blockAtPlace x place) refl (omega (arith, asked .sized .contents, asked .body)) (omega arith, omega (arith, high, fits)))
 
   pub written-framed : Framed (Only e) (Only (blockAtPlace x place)) img (blockWritten img g x place buffer) g
   written-framed =
@@ -71,7 +67,7 @@ module _ {img : List ℕ} {key : Key} {wrong : Bool} {g : Geometry} {e : ℕ} {x
       (λ b is. inl (subst (λ (y : Entry). 0 < count b (blocksOf img g y)) (asked .file .entry) (rw is (asked .held))))
 
   words-same : (i : ℕ) → i < 16 → entryWord (blockWritten img g x place buffer) g e i ≡ entryWord img g e i
-  words-same = written-kept {Named = Never} .entries e (asked .file .inside) (λ never. never)
+  words-same = entries-kept (written-kept {Named = Never}) e (asked .file .inside) (λ never. never)
 
   pub entry-written : (i : ℕ) → i < slots g → entryOf (blockWritten img g x place buffer) g i ≡ entryOf img g i
   entry-written i inside = entry-kept (written-kept {Named = Never}) i inside (λ never. never)
