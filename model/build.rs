@@ -1,4 +1,4 @@
-//! Links the library that `rt staticlib service` made; ABEZOLIT_LIB_DIR names its folder if it is another.
+//! Links the library that `host/archive` made; ABEZOLIT_LIB_DIR names its folder if it is another.
 
 use std::env;
 use std::path::PathBuf;

@@ -7,7 +7,8 @@
 
 #include "check.h"
 
-#define LISTING "target/bin/listing"
+/* $EMULATOR is empty where the machine runs the program itself (host/tests/run) */
+#define LISTING "$EMULATOR target/bin/listing"
 #define LISTED "target/host/listed.image"
 
 enum { LISTING_ROOM = 8192 }; /* more than any listing needs */
