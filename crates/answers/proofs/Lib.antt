@@ -4,3 +4,4 @@ pub mod RefusalsTests
 pub mod RefusalsLadder
 pub mod Conversion
 pub mod Missing
+pub mod Stage

@@ -2,3 +2,4 @@
 pub mod Refusals
 pub mod Missing
 pub mod Conversion
+pub mod Stage
