@@ -7,7 +7,10 @@ use native.Mathlib.Omega.{arith}
 use lib.Dec.{eqb}
 use borrow.Author.Tests.{eq-eqb, ne-eqb, eqb-false, not-false}
 use Rattle.answers.specs.Refusals.{firstOf}
+use Rattle.answers.specs.Stage.{verdictOf}
+use Rattle.answers.specs.declared.Verdict.the-variants.{Clear, Refused}
 use Rattle.answers.proofs.Refusals.{none-given, coded}
+use Rattle.answers.proofs.Stage.{makes-clear, makes-refused}
 use Rattle.pack.specs.declared.Entry.{Entry}
 use Rattle.asking.specs.declared.Right.{Right}
 use Rattle.asking.specs.declared.Grant.{Grant}
@@ -23,30 +26,46 @@ module _ (x : Entry) (caller : ℕ) (right : Right) (other : ℕ) (closed : Bool
     pub kind : x .kind ≡ other → ⊥
     pub opened : closed ≡ false
 
-  pub access-6 : (grant : Grant) → granted grant ≡ may right caller (x .uic) (x .protect) → grant ≡ Denied → 0o6 ≡ firstOf (accessRows x caller right other closed)
+  verdict-by : {code : ℕ} → code ≡ firstOf (accessRows x caller right other closed) → (code ≡ 0 → ⊥) → Refused code ≡ verdictOf (accessRows x caller right other closed)
+  verdict-by = makes-refused (accessRows x caller right other closed)
+
+  code-6 : (grant : Grant) → granted grant ≡ may right caller (x .uic) (x .protect) → grant ≡ Denied → 0o6 ≡ firstOf (accessRows x caller right other closed)
   unfolding firstOf accessRows
-  access-6 grant says is = rw (sym says, is)
+  code-6 grant says is = rw (sym says, is)
+
+  pub access-6 : (grant : Grant) → granted grant ≡ may right caller (x .uic) (x .protect) → grant ≡ Denied
+      → Refused 0o6 ≡ verdictOf (accessRows x caller right other closed)
+  access-6 grant says is = verdict-by (code-6 grant says is) (λ zero. omega (arith, zero))
 
   module _ (grant : Grant) (says : granted grant ≡ may right caller (x .uic) (x .protect)) (is : grant ≡ Granted) where
-    pub access-43 : x .kind ≡ other → 0o43 ≡ firstOf (accessRows x caller right other closed)
+    code-43 : x .kind ≡ other → 0o43 ≡ firstOf (accessRows x caller right other closed)
     unfolding firstOf accessRows
-    access-43 kind = rw (sym says, is, eq-eqb (x .kind) other kind)
+    code-43 kind = rw (sym says, is, eq-eqb (x .kind) other kind)
+
+    pub access-43 : x .kind ≡ other → Refused 0o43 ≡ verdictOf (accessRows x caller right other closed)
+    access-43 kind = verdict-by (code-43 kind) (λ zero. omega (arith, zero))
 
     module _ (kind : x .kind ≡ other → ⊥) where
-      pub access-45 : closed ≡ true → 0o45 ≡ firstOf (accessRows x caller right other closed)
+      code-45 : closed ≡ true → 0o45 ≡ firstOf (accessRows x caller right other closed)
       unfolding firstOf accessRows
-      access-45 shut = rw (sym says, is, ne-eqb (x .kind) other kind, shut)
+      code-45 shut = rw (sym says, is, ne-eqb (x .kind) other kind, shut)
 
-      pub access-0 : closed ≡ false → 0 ≡ firstOf (accessRows x caller right other closed)
+      pub access-45 : closed ≡ true → Refused 0o45 ≡ verdictOf (accessRows x caller right other closed)
+      access-45 shut = verdict-by (code-45 shut) (λ zero. omega (arith, zero))
+
+      code-0 : closed ≡ false → 0 ≡ firstOf (accessRows x caller right other closed)
       unfolding firstOf accessRows
-      access-0 opened = rw (sym says, is, ne-eqb (x .kind) other kind, opened)
+      code-0 opened = rw (sym says, is, ne-eqb (x .kind) other kind, opened)
+
+      pub access-clear : closed ≡ false → Clear ≡ verdictOf (accessRows x caller right other closed)
+      access-clear opened = makes-clear (accessRows x caller right other closed) (code-0 opened)
 
   pub access-coded : coded (accessRows x caller right other closed) ≡ true
   unfolding accessRows
   access-coded = refl
 
   pub accessed-clear : Accessed → firstOf (accessRows x caller right other closed) ≡ 0
-  accessed-clear a = sym (access-0 Granted (sym (a .right-given)) refl (a .kind) (a .opened))
+  accessed-clear a = sym (code-0 Granted (sym (a .right-given)) refl (a .kind) (a .opened))
 
   pub clear-accessed : firstOf (accessRows x caller right other closed) ≡ 0 → Accessed
   unfolding accessRows

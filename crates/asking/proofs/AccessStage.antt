@@ -6,7 +6,11 @@ use mathlib.Core.List.{List, _++_, append-assoc}
 use lib.Dec.{eqb}
 use lib.ListN.{length}
 use Rattle.answers.specs.Refusals.{Row, firstOf}
+use Rattle.answers.specs.declared.Verdict.{Verdict}
+use Rattle.answers.specs.declared.Verdict.the-variants.{Clear, Refused as Stopped}
+use Rattle.answers.specs.Stage.{verdictOf}
 use Rattle.answers.proofs.Refusals.{behind-refused, behind-clear, first-front}
+use Rattle.answers.proofs.Stage.{told-clear, told-refused}
 use Rattle.pack.specs.declared.Geometry.{Geometry}
 use Rattle.pack.specs.declared.Entry.{Entry}
 use Rattle.pack.specs.declared.Key.{Key}
@@ -41,15 +45,17 @@ module _ (img : List ℕ) (key : Key) (wrong : Bool) (caller : ℕ) (right : Rig
     access-refused code told = told ∙ stage-refused img key wrong of asked is code told
 
     module _ (g : Geometry) (e : ℕ) (x : Entry) (told : asked ≡ File g e x) (shut : Bool) (says : shut ≡ closed x)
-        (code : ℕ) (judged : code ≡ firstOf (accessRows x caller right other shut)) where
-      judged-own : firstOf (of x) ≡ code
-      judged-own = sym (judged ∙ ap (λ (t : Bool). firstOf (accessRows x caller right other t)) says)
+        (verdict : Verdict) (judged : verdict ≡ verdictOf (accessRows x caller right other shut)) where
+      own : verdict ≡ verdictOf (of x)
+      own = judged ∙ ap (λ (t : Bool). verdictOf (accessRows x caller right other t)) says
 
-      pub access-stopped : (code ≡ 0 → ⊥) → Refused code ≡ accessedOf img key wrong caller right other closed
-      access-stopped never = stage-stopped img key wrong of asked is g e x told judged-own never
+      pub access-stopped : (code : ℕ) → verdict ≡ Stopped code → Refused code ≡ accessedOf img key wrong caller right other closed
+      access-stopped code told-so =
+          let r = told-refused (of x) verdict own code told-so in
+          stage-stopped img key wrong of asked is g e x told (r .first) (r .never)
 
-      pub access-passed : code ≡ 0 → File g e x ≡ accessedOf img key wrong caller right other closed
-      access-passed none = stage-passed img key wrong of asked is g e x told judged-own none
+      pub access-passed : verdict ≡ Clear → File g e x ≡ accessedOf img key wrong caller right other closed
+      access-passed told-so = stage-passed img key wrong of asked is g e x told (told-clear (of x) verdict own told-so) refl
 
   -- what is known of a file that passed the stage
   pub record Reached (g : Geometry) (e : ℕ) (x : Entry) : Type 0 where

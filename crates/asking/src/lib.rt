@@ -2,12 +2,8 @@
 pub mod access;
 
 ghost use mathlib.Core.Path.{_≡_};
-ghost use mathlib.Core.Bool.{true};
-ghost use Prim.Native.Nat.{ℕ, _<_};
-ghost use lib.ListN.{getD, replicate};
-ghost use Rattle.pack.specs.GeometrySized.{mostBlocks, Sized};
-ghost use Rattle.pack.specs.Consistent.{held};
-ghost use Rattle.consistency.specs.ConsistentTest.{consistent};
+ghost use Rattle.pack.specs.GeometrySized.{Sized};
+ghost use Rattle.consistency.specs.ConsistentTest.{openedOf};
 ghost use Rattle.pack.specs.Geometry.{slots};
 ghost use Rattle.asking.specs.OpensTest.{isOpen, isFull};
 ghost use Rattle.asking.specs.KeysTest.{legalKey, findFrom};
@@ -129,13 +125,12 @@ pub fn ask_right(right: Right, caller: usize, x: Entry) -> Grant
     Grant::Denied
 }
 
-// The map is lent all zero, and where the image is consistent it then says how often each block is held.
-pub fn ask_file(img: &[u8], map: &mut [u8], key: Key, wrong: bool) -> Asked
-    requires { ⌜ now map ≡ replicate mostBlocks 0 ⌝ }
+// In a pack that was opened: what else can refuse comes behind 40.
+pub fn ask_file(img: &[u8], opened: Opened, key: Key, wrong: bool) -> Asked
+    requires { ⌜ opened ≡ openedOf (now img) ⌝ }
     ensures { λ r. ⌜ r ≡ askedOf (now (img .entry)) key wrong ⌝ }
-    ensures { λ r. ⌜ (consistent (now (img .entry)) ≡ true → (b : ℕ) → getD (now (map .exit)) b 0 ≡ held (now (img .entry)) b) ⌝ }
 {
-    let Opened::Good(g) = consistency::open_pack(img, map) else {
+    let Opened::Good(g) = opened else {
         return Asked::Refused(0o40);
     };
     if !is_legal(key) {

@@ -8,7 +8,7 @@ use native.Mathlib.Omega.{arith}
 use native.Mathlib.Decide.{decLt}
 use lib.ListN.{length, getD, length-replicate, getD-replicate, List·getD-eq-default}
 use Rattle.pack.specs.declared.Geometry.{Geometry}
-use Rattle.pack.specs.GeometrySized.{mostBlocks, Sized}
+use Rattle.pack.specs.GeometrySized.{Sized}
 use Rattle.pack.specs.Geometry.{geometryOf, slots}
 use Rattle.pack.specs.HeaderTest.{headerTest}
 use Rattle.pack.specs.File.{count}
@@ -27,14 +27,14 @@ use Rattle.consistency.proofs.DifferTest.{differ-iff}
 use Rattle.consistency.proofs.WalkSystem.{system-length, system-own, system-others}
 use Rattle.consistency.proofs.ConsistentTestScan.{right-range, scan-fine, fine-scan, scan-counts, marks-length}
 
-pub empty-long : length emptyMap ≡ mostBlocks
-empty-long = length-replicate {A = ℕ} mostBlocks 0
+pub empty-long : (long : ℕ) → length (emptyMap long) ≡ long
+empty-long long = length-replicate {A = ℕ} long 0
 
-pub empty-zero : (b : ℕ) → getD emptyMap b 0 ≡ 0
-empty-zero b =
-    elim (decLt b mostBlocks) [
-      | yes inside ↦ getD-replicate mostBlocks b 0 0 inside
-      | no outside ↦ let beyond : length emptyMap ≤ b = omega (arith, outside, empty-long) in List·getD-eq-default emptyMap 0 beyond
+pub empty-zero : (long b : ℕ) → getD (emptyMap long) b 0 ≡ 0
+empty-zero long b =
+    elim (decLt b long) [
+      | yes inside ↦ getD-replicate long b 0 0 inside
+      | no outside ↦ let beyond : length (emptyMap long) ≤ b = omega (arith, outside, empty-long long) in List·getD-eq-default (emptyMap long) 0 beyond
     ]
 
 -- the rules of all entries, at given measures
@@ -62,78 +62,88 @@ module _ (img : List ℕ) (g : Geometry) where
         | no free ↦ omega (arith, free)
       ]
 
-  module _ (sized : Sized img g) where
-    pub system-long : length (systemMap g) ≡ mostBlocks
-    system-long = system-length emptyMap (g .bodies .0) 1 ∙ empty-long
+  -- on a map with a place for each block
+  module _ (sized : Sized img g) (places : ℕ) (enough : g .blocks ≤ places) where
+    pub system-long : length (systemMap places g) ≡ places
+    system-long = system-length (emptyMap places) (g .bodies .0) 1 ∙ empty-long places
 
-    long : g .blocks ≤ length (systemMap g)
-    long = omega (arith, system-long, sized .most)
+    long : g .blocks ≤ length (systemMap places g)
+    long = omega (arith, system-long, enough)
 
     -- the system's map has 1 at each of the system's blocks and 0 elsewhere
-    system-one : (b : ℕ) → b < g .bodies .0 → getD (systemMap g) b 0 ≡ 1
-    system-one b own = system-own emptyMap 1 b (g .bodies .0) (omega (arith, empty-long, sized .most, sized .bodies)) own
+    system-one : (b : ℕ) → b < g .bodies .0 → getD (systemMap places g) b 0 ≡ 1
+    system-one b own = system-own (emptyMap places) 1 b (g .bodies .0) (omega (arith, empty-long places, enough, sized .bodies)) own
 
-    system-zero : (b : ℕ) → g .bodies .0 ≤ b → getD (systemMap g) b 0 ≡ 0
-    system-zero b from = system-others emptyMap 1 b (g .bodies .0) from ∙ empty-zero b
+    system-zero : (b : ℕ) → g .bodies .0 ≤ b → getD (systemMap places g) b 0 ≡ 0
+    system-zero b from = system-others (emptyMap places) 1 b (g .bodies .0) from ∙ empty-zero places b
 
-    flags : (b : ℕ) → getD (systemMap g) b 0 ≤ 1
+    flags : (b : ℕ) → getD (systemMap places g) b 0 ≤ 1
     flags b = elim (decLt b (g .bodies .0)) [ yes own ↦ omega (arith, system-one b own) | no other ↦ omega (arith, system-zero b (omega (arith, other))) ]
 
-    once-with : ((e : ℕ) → e < slots g → RightEntry img g e) → ((b : ℕ) → heldIn img g b ≤ 1) → (b : ℕ) → getD (systemMap g) b 0 + heldIn img g b ≤ 1
+    once-with : ((e : ℕ) → e < slots g → RightEntry img g e) → ((b : ℕ) → heldIn img g b ≤ 1) → (b : ℕ) → getD (systemMap places g) b 0 + heldIn img g b ≤ 1
     once-with right once b = elim (decLt b (g .bodies .0)) [
       | yes own ↦ omega (arith, system-one b own, system-held right b own)
       | no other ↦ omega (arith, once b, system-zero b (omega (arith, other)))
     ]
 
-    entries-means : entriesTest img g ≡ true → Entries
+    entries-means : entriesTest places img g ≡ true → Entries
     unfolding entriesTest
     entries-means test =
-        let fine = scan-fine img g (systemMap g) 0 (slots g) long flags (and-left (scanTest img g (systemMap g) 0 (slots g)) _ test) in
-        let apart = differ-iff img g (slots g) .0 (and-right (scanTest img g (systemMap g) 0 (slots g)) _ test) in
+        let fine = scan-fine img g (systemMap places g) 0 (slots g) long flags (and-left (scanTest img g (systemMap places g) 0 (slots g)) _ test) in
+        let apart = differ-iff img g (slots g) .0 (and-right (scanTest img g (systemMap places g) 0 (slots g)) _ test) in
         record {
           entries = λ e below. fine .right e (omega arith) (omega arith);
           differ = λ e f less below used same. apart e f less (omega arith) (named e (fine .right e (omega arith) (omega arith)) used) same;
           once = λ b. omega (arith, fine .once b);
         }
 
-    entries-tested : Entries → entriesTest img g ≡ true
+    entries-tested : Entries → entriesTest places img g ≡ true
     unfolding entriesTest
     entries-tested h =
-        and-both (fine-scan img g (systemMap g) 0 (slots g) long (record { right = λ e low high. h .entries e (omega arith); once = once-with (h .entries) (h .once) }))
+        and-both (fine-scan img g (systemMap places g) 0 (slots g) long (record { right = λ e low high. h .entries e (omega arith); once = once-with (h .entries) (h .once) }))
         (differ-iff img g (slots g) .1 (λ e f less high used same. h .differ e f less (omega arith) (λ empty. used (empty .zero 0 (omega arith))) same))
 
-    pub entries-iff : entriesTest img g ≡ true ↔ Entries
+    pub entries-iff : entriesTest places img g ≡ true ↔ Entries
     entries-iff = (entries-means, entries-tested)
 
     -- the map that the scan leaves, once the system's blocks are given back
-    pub entries-held : entriesTest img g ≡ true → (b : ℕ) → getD (systemSet (markAll img g (systemMap g) 0 (slots g)) (g .bodies .0) 0) b 0 ≡ heldIn img g b
+    pub entries-held : entriesTest places img g ≡ true → (b : ℕ) → getD (systemSet (markAll img g (systemMap places g) 0 (slots g)) (g .bodies .0) 0) b 0 ≡ heldIn img g b
     unfolding entriesTest
     entries-held test b =
-        let scanned = and-left (scanTest img g (systemMap g) 0 (slots g)) _ test in
-        let counts = scan-counts img g (systemMap g) 0 (slots g) long scanned b in
-        let marks = markAll img g (systemMap g) 0 (slots g) in
+        let scanned = and-left (scanTest img g (systemMap places g) 0 (slots g)) _ test in
+        let counts = scan-counts img g (systemMap places g) 0 (slots g) long scanned b in
+        let marks = markAll img g (systemMap places g) 0 (slots g) in
         elim (decLt b (g .bodies .0)) [
           | yes own ↦
-              system-own marks 0 b (g .bodies .0) (omega (arith, marks-length img g (systemMap g) 0 (slots g), system-long, sized .most, sized .bodies)) own
+              system-own marks 0 b (g .bodies .0) (omega (arith, marks-length img g (systemMap places g) 0 (slots g), system-long, enough, sized .bodies)) own
               ∙ sym (system-held (entries-means test .entries) b own)
           | no other ↦ omega (arith, system-others marks 0 b (g .bodies .0) (omega (arith, other)), counts, system-zero b (omega (arith, other)))
         ]
+
+-- how many places the map has does not matter, if they are enough
+same-tests : {A : Type 0} (a b : Bool) → a ≡ true ↔ A → b ≡ true ↔ A → a ≡ b
+same-tests true b one two = sym (two .1 (one .0 refl))
+same-tests false true one two = one .1 (two .0 refl)
+same-tests false false one two = refl
+
+pub entries-any : (img : List ℕ) (g : Geometry) → Sized img g → (places : ℕ) → g .blocks ≤ places → entriesTest places img g ≡ entriesTest (g .blocks) img g
+entries-any img g sized places enough = same-tests _ _ (entries-iff img g sized places enough) (entries-iff img g sized (g .blocks) (omega arith))
 
 -- the check says exactly whether the image is consistent
 pub consistent-iff : (img : List ℕ) → consistent img ≡ true ↔ Consistent img
 unfolding consistent held
 consistent-iff img = (means, tested)
   where
-    means : (headerTest img && entriesTest img (geometryOf img)) ≡ true → Consistent img
+    means : (headerTest img && entriesTest (geometryOf img .blocks) img (geometryOf img)) ≡ true → Consistent img
     means test =
         let header = header-iff img .0 (and-left (headerTest img) _ test) in
-        let h = entries-iff img (geometryOf img) (header-sized img header) .0 (and-right (headerTest img) _ test) in
+        let h = entries-iff img (geometryOf img) (header-sized img header) (geometryOf img .blocks) (omega arith) .0 (and-right (headerTest img) _ test) in
         record { header = header; entries = h .entries; differ = h .differ; once = h .once }
 
-    tested : Consistent img → (headerTest img && entriesTest img (geometryOf img)) ≡ true
+    tested : Consistent img → (headerTest img && entriesTest (geometryOf img .blocks) img (geometryOf img)) ≡ true
     tested h =
         and-both (header-iff img .1 (h .header))
-        (entries-iff img (geometryOf img) (header-sized img (h .header)) .1 (record { entries = h .entries; differ = h .differ; once = h .once }))
+        (entries-iff img (geometryOf img) (header-sized img (h .header)) (geometryOf img .blocks) (omega arith) .1 (record { entries = h .entries; differ = h .differ; once = h .once }))
 
 -- what the answer of a pack opened says
 by-good : (test : Bool) (g h : Geometry) → cond test (Good g) Bad ≡ Good h → (test ≡ true) × (g ≡ h)

@@ -20,9 +20,11 @@ use Rattle.consistency.specs.declared.Opened.{Opened}
 use Rattle.consistency.specs.declared.Opened.the-variants.{Good, Bad}
 use Rattle.consistency.specs.DifferTest.{differTest}
 use Rattle.consistency.specs.Walk.{systemSet, SystemTaken}
-use Rattle.consistency.specs.ConsistentTest.{scanTest, markAll, emptyMap, systemMap, entriesTest, consistent, openedOf}
-use Rattle.consistency.proofs.WalkSystem.{system-taken}
-use Rattle.consistency.proofs.ConsistentTestIff.{empty-long, system-long, entries-held}
+use Rattle.consistency.specs.ConsistentTest.{scanTest, markAll, systemMap, entriesTest, consistent, openedOf}
+use Rattle.consistency.specs.Mapped.{Lent, MappedIf}
+use Rattle.consistency.proofs.WalkSystem.{system-length, system-taken}
+use Rattle.consistency.proofs.ConsistentTestScan.{marks-length}
+use Rattle.consistency.proofs.ConsistentTestIff.{system-long, entries-any, entries-held}
 
 -- an answer that an image is not consistent: of the map it says nothing
 abbrev Refused : List ℕ → Type 0 → Type 0
@@ -43,7 +45,7 @@ by-wrong false g is = refl
 module _ (img : List ℕ) (r : Header) (is : r ≡ headerOf img) where
   pub open-wrong : {A : Type 0} → r ≡ Wrong → Refused img A
   unfolding headerOf consistent
-  open-wrong wrong = refused img (sym (stop (headerTest img) (entriesTest img (geometryOf img)) (by-wrong _ _ (sym is ∙ wrong))))
+  open-wrong wrong = refused img (sym (stop (headerTest img) (entriesTest (geometryOf img .blocks) img (geometryOf img)) (by-wrong _ _ (sym is ∙ wrong))))
 
   module _ (g : Geometry) (right : r ≡ Right g) where
     passed : (headerTest img ≡ true) × (geometryOf img ≡ g)
@@ -56,43 +58,54 @@ module _ (img : List ℕ) (r : Header) (is : r ≡ headerOf img) where
     pub open-sized : Sized img g
     open-sized = subst (Sized img) (passed .1) (header-sized img open-header)
 
-    by-entries : consistent img ≡ entriesTest img g
+    by-entries : consistent img ≡ entriesTest (g .blocks) img g
     unfolding consistent
-    by-entries = sym (go-on (passed .0) refl) ∙ ap (entriesTest img) (passed .1)
+    by-entries = sym (go-on (passed .0) refl) ∙ ap (λ (h : Geometry). entriesTest (h .blocks) img h) (passed .1)
 
-    pub open-room : (lent : List ℕ) → lent ≡ emptyMap → g .bodies .0 ≤ length lent
-    open-room lent empty = omega (arith, ap length empty, empty-long, open-sized .most, open-sized .bodies)
+    open-enough : {lent : List ℕ} → Lent lent img → g .blocks ≤ length lent
+    open-enough l = omega (arith, l .enough open-header, ap (λ (h : Geometry). h .blocks) (passed .1))
+
+    pub open-room : {lent : List ℕ} → Lent lent img → g .bodies .0 ≤ length lent
+    open-room l = omega (arith, open-enough l, open-sized .bodies)
 
     -- on the map that was lent, with the system's blocks taken
-    module _ (lent map : List ℕ) (empty : lent ≡ emptyMap) (is-system : map ≡ systemSet lent (g .bodies .0) 1) where
-      is-map : map ≡ systemMap g
-      is-map = is-system ∙ ap (λ (m : List ℕ). systemSet m (g .bodies .0) 1) empty
+    module _ (lent map : List ℕ) (l : Lent lent img) (is-system : map ≡ systemSet lent (g .bodies .0) 1) where
+      is-map : map ≡ systemMap (length lent) g
+      is-map = is-system ∙ ap (λ (m : List ℕ). systemSet m (g .bodies .0) 1) (l .empty)
+
+      on-map : entriesTest (length lent) img g ≡ consistent img
+      on-map = entries-any img g open-sized (length lent) (open-enough l) ∙ sym by-entries
 
       pub open-long : g .blocks ≤ length map
-      open-long = omega (arith, ap length is-map, system-long img g open-sized, open-sized .most)
+      open-long = omega (arith, ap length is-map, system-long img g open-sized (length lent) (open-enough l), open-enough l)
 
       pub open-system : SystemTaken map g
-      open-system = system-taken lent g (open-room lent empty) map is-system
+      open-system = system-taken lent g (open-room l) map is-system
 
       pub open-entries : {A : Type 0} → (scanTest img g map 0 (slots g) && differTest img g 0 (slots g)) ≡ false → Refused img A
       unfolding entriesTest
-      open-entries wrong = refused img (by-entries ∙ (rw is-map at wrong))
+      open-entries wrong = refused img (sym on-map ∙ (rw is-map at wrong))
 
-      all-right : (scanTest img g map 0 (slots g) && differTest img g 0 (slots g)) ≡ true → entriesTest img g ≡ true
+      all-right : (scanTest img g map 0 (slots g) && differTest img g 0 (slots g)) ≡ true → entriesTest (length lent) img g ≡ true
       unfolding entriesTest
       all-right right = rw is-map at right
 
       pub open-good : (marks left : List ℕ) → (scanTest img g map 0 (slots g) && differTest img g 0 (slots g)) ≡ true
           → marks ≡ markAll img g map 0 (slots g) → left ≡ systemSet marks (g .bodies .0) 0
-          → (Good g ≡ openedOf img) × (consistent img ≡ true → (b : ℕ) → getD left b 0 ≡ held img b)
+          → (Good g ≡ openedOf img) × MappedIf left img
       unfolding openedOf held
       open-good marks left right marked given =
-          let good = by-entries ∙ all-right right in
-          let whole : left ≡ systemSet (markAll img g (systemMap g) 0 (slots g)) (g .bodies .0) 0 =
-          given ∙ ap (λ (m : List ℕ). systemSet m (g .bodies .0) 0) (marked ∙ ap (λ (m : List ℕ). markAll img g m 0 (slots g)) is-map) in (
+          let good = sym on-map ∙ all-right right in
+          let whole : left ≡ systemSet (markAll img g (systemMap (length lent) g) 0 (slots g)) (g .bodies .0) 0 =
+          given ∙ ap (λ (m : List ℕ). systemSet m (g .bodies .0) 0) (marked ∙ ap (λ (m : List ℕ). markAll img g m 0 (slots g)) is-map) in
+          let long : length left ≡ length map =
+          ap length given ∙ (system-length marks (g .bodies .0) 0 ∙ (ap length marked ∙ marks-length img g map 0 (slots g))) in (
             simp (good, passed .1),
-            λ test b. ap (λ (m : List ℕ). getD m b 0) whole
-                ∙ (entries-held img g open-sized (all-right right) b ∙ ap (λ (h : Geometry). heldIn img h b) (sym (passed .1))),
+            λ test. record {
+              enough = omega (arith, open-long, long, ap (λ (h : Geometry). h .blocks) (passed .1));
+              says = λ b. ap (λ (m : List ℕ). getD m b 0) whole
+                  ∙ (entries-held img g open-sized (length lent) (open-enough l) (all-right right) b ∙ ap (λ (h : Geometry). heldIn img h b) (sym (passed .1)));
+            },
           )
 
 -- whether a pack was opened

@@ -9,3 +9,4 @@ pub mod ConsistentTestScan
 pub mod EntryTestAnswers
 pub mod ConsistentTestIff
 pub mod ConsistentTestOpened
+pub mod MappedLent

@@ -4,7 +4,6 @@ use mathlib.Core.Bool.{Bool, true, cond, _&&_}
 use mathlib.Core.List.{List}
 use lib.ListN.{replicate}
 use Rattle.pack.specs.declared.Geometry.{Geometry}
-use Rattle.pack.specs.GeometrySized.{mostBlocks}
 use Rattle.pack.specs.Geometry.{geometryOf, slots}
 use Rattle.pack.specs.HeaderTest.{headerTest}
 use Rattle.pack.specs.Entry.{blocksAt, Empty}
@@ -24,24 +23,24 @@ unfoldable pub markAll : List ℕ → Geometry → List ℕ → ℕ → ℕ → 
 markAll img g map e zero = map
 markAll img g map e (suc k) = markAll img g (mark map (blocksAt img g e)) (e + 1) k
 
--- the map on which no block is taken, and that with the system's
-abbrev pub emptyMap : List ℕ
-emptyMap = replicate mostBlocks 0
+-- the map with so many places on which no block is taken, and that with the system's
+abbrev pub emptyMap : ℕ → List ℕ
+emptyMap long = replicate long 0
 
-abbrev pub systemMap : Geometry → List ℕ
-systemMap g = systemSet emptyMap (g .bodies .0) 1
+abbrev pub systemMap : ℕ → Geometry → List ℕ
+systemMap long g = systemSet (emptyMap long) (g .bodies .0) 1
 
 -- from entry `end` on all are empty
 pub record UsedEnd (img : List ℕ) (g : Geometry) (end : ℕ) : Type 0 where
   pub most : end ≤ slots g
   pub empty : (e : ℕ) → end ≤ e → e < slots g → Empty img g e
 
--- the entries of an image are right, and their files differ
-unfoldable pub entriesTest : List ℕ → Geometry → Bool
-entriesTest img g = scanTest img g (systemMap g) 0 (slots g) && differTest img g 0 (slots g)
+-- the entries of an image are right, and their files differ; judged on a map of so many places (`entries-any`: any number that is enough)
+unfoldable pub entriesTest : ℕ → List ℕ → Geometry → Bool
+entriesTest long img g = scanTest img g (systemMap long g) 0 (slots g) && differTest img g 0 (slots g)
 
 unfoldable pub consistent : List ℕ → Bool
-consistent img = headerTest img && entriesTest img (geometryOf img)
+consistent img = headerTest img && entriesTest (geometryOf img .blocks) img (geometryOf img)
 
 unfoldable pub openedOf : List ℕ → Opened
 openedOf img = cond (consistent img) (Good (geometryOf img)) Bad

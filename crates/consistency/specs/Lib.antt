@@ -3,3 +3,4 @@ pub mod Walk
 pub mod EntryTest
 pub mod DifferTest
 pub mod ConsistentTest
+pub mod Mapped

@@ -4,23 +4,28 @@ mod differing;
 ghost use mathlib.Core.Path.{_≡_};
 ghost use mathlib.Core.Bool.{true, _&&_};
 ghost use Prim.Native.Nat.{ℕ, _+_, _<_, _≤_};
-ghost use lib.ListN.{length, getD, replicate};
+ghost use lib.ListN.{length};
 ghost use Rattle.radix.specs.NamesTest.{legalName};
-ghost use Rattle.pack.specs.GeometrySized.{mostBlocks, Sized};
+ghost use Rattle.pack.specs.GeometrySized.{Sized};
 ghost use Rattle.pack.specs.Geometry.{slots};
 ghost use Rattle.pack.specs.Header.{RightHeader};
 ghost use Rattle.pack.specs.File.{blocksOf};
 ghost use Rattle.pack.specs.Entry.{entryWord, entryOf, blocksAt};
-ghost use Rattle.pack.specs.Consistent.{held};
 ghost use Rattle.consistency.specs.Walk.{mark, blocksFrom, walkOf, ended, systemSet, SystemTaken};
 ghost use Rattle.consistency.specs.EntryTest.{keyTest, kindTest, opensTest, fieldsTest, bodyTest, restTest, entryTest};
 ghost use Rattle.consistency.specs.DifferTest.{remainders, newTest, differTest, Marked};
-ghost use Rattle.consistency.specs.ConsistentTest.{scanTest, markAll, UsedEnd, consistent, openedOf};
+ghost use Rattle.consistency.specs.ConsistentTest.{scanTest, markAll, UsedEnd, openedOf};
+ghost use Rattle.consistency.specs.Mapped.{Lent, MappedIf};
 use pack::BlockNo;
 use pack::Entry;
 use pack::Geometry;
 use pack::Header;
 use radix::Radix50;
+
+// An image of at most so many bytes has at most so many blocks, in whatever form.
+pub const FEW_BYTES: usize = 8192;
+
+pub const FEW_BLOCKS: usize = 64;
 
 // What a walk over the blocks of a file finds: its last block and the number behind it, or a block that cannot be taken.
 enum Walked {
@@ -277,11 +282,11 @@ fn are_entries_right(img: &[u8], map: &mut [u8], marks: &mut [u8], g: Geometry) 
     true
 }
 
-// The map is lent all zero; where the pack is consistent it then says how often each block is held.
-pub fn open_pack(img: &[u8], map: &mut [u8]) -> Opened
-    requires { ⌜ now map ≡ replicate mostBlocks 0 ⌝ }
+// On a lent map, which says how often each block is held where the pack is consistent.
+pub fn open_mapped(img: &[u8], map: &mut [u8]) -> Opened
+    requires { ⌜ Lent (now map) (now img) ⌝ }
     ensures { λ r. ⌜ r ≡ openedOf (now (img .entry)) ⌝ }
-    ensures { λ r. ⌜ (consistent (now (img .entry)) ≡ true → (b : ℕ) → getD (now (map .exit)) b 0 ≡ held (now (img .entry)) b) ⌝ }
+    ensures { λ r. ⌜ MappedIf (now (map .exit)) (now (img .entry)) ⌝ }
 {
     let Header::Right(g) = pack::read_header(img) else {
         return Opened::Bad;
@@ -293,4 +298,16 @@ pub fn open_pack(img: &[u8], map: &mut [u8]) -> Opened
     }
     set_system(map, g, 0);
     Opened::Good(g)
+}
+
+// For a request that neither takes blocks nor gives any up, and so needs no map afterwards. A small pack does not pay for the clearing of a large map.
+pub fn open_pack(img: &[u8]) -> Opened
+    ensures { λ r. ⌜ r ≡ openedOf (now (img .entry)) ⌝ }
+{
+    if img.len() <= FEW_BYTES {
+        let mut map = [0u8; FEW_BLOCKS];
+        return open_mapped(img, &mut map);
+    }
+    let mut map = [0u8; pack::MOST_BLOCKS];
+    open_mapped(img, &mut map)
 }

@@ -1,5 +1,6 @@
 // Asking whose a block is, for the audit: no request of document 01.
 ghost use mathlib.Core.Path.{_≡_};
+ghost use Rattle.consistency.specs.ConsistentTest.{openedOf};
 ghost use Rattle.owners.specs.OwnerQuestion.{ownerOutcome, owner};
 use crate::OwnerAnswer;
 use consistency::Opened;
@@ -20,8 +21,15 @@ fn refused(code: usize) -> OwnerAnswer
 pub fn owner(img: &[u8], block: BlockNo) -> OwnerAnswer
     ensures { λ r. ⌜ ownerOutcome (now (img .entry)) r ≡ owner (now (img .entry)) (block .0) ⌝ }
 {
-    let mut map = [0u8; pack::MOST_BLOCKS];
-    let Opened::Good(g) = consistency::open_pack(img, &mut map) else {
+    owner_opened(img, consistency::open_pack(img), block)
+}
+
+// In a pack that was opened.
+pub fn owner_opened(img: &[u8], opened: Opened, block: BlockNo) -> OwnerAnswer
+    requires { ⌜ opened ≡ openedOf (now img) ⌝ }
+    ensures { λ r. ⌜ ownerOutcome (now (img .entry)) r ≡ owner (now (img .entry)) (block .0) ⌝ }
+{
+    let Opened::Good(g) = opened else {
         return refused(0o40);
     };
     if g.blocks <= block.0 {

@@ -2,7 +2,7 @@
 use borrow.Author.Needs.{needs}
 use Rattle.asking.proofs.access.judge_access.Statement.{statement}
 use Rattle.asking.proofs.access.judge_access.Tie as tie
-use Rattle.asking.proofs.AccessRows.{access-6, access-43, access-45, access-0}
+use Rattle.asking.proofs.AccessRows.{access-6, access-43, access-45, access-clear}
 
 ask-right-requires : tie.Need-ask-right-requires
 ask-right-requires c κs = search needs
@@ -23,7 +23,7 @@ returns-3 : tie.Need-returns-3
 returns-3 c = access-45 _ _ _ _ _ _ (c .before .before .before .before .before .ask-right .ensures) (c .before .before .before .enum-told .given .1) (c .before .if1 .left) (c .if2 .taken)
 
 returns-4 : tie.Need-returns-4
-returns-4 c = access-0 _ _ _ _ _ _ (c .before .before .before .before .before .ask-right .ensures) (c .before .before .before .enum-told .given .1) (c .before .if1 .left) (c .if2 .left)
+returns-4 c = access-clear _ _ _ _ _ _ (c .before .before .before .before .before .ask-right .ensures) (c .before .before .before .enum-told .given .1) (c .before .if1 .left) (c .if2 .left)
 
 pub judge-access-spec : {M : Type 1} → statement M
 judge-access-spec =

@@ -1,0 +1,98 @@
+-- Rests on `ConsistentTestOpened`: what header and entries decide one after another, and that the map then says how often each block is held.
+use borrow.Author.Needs.{needs}
+use native.Mathlib.Omega.{arith}
+use mathlib.Core.Path.{refl, sym, _∙_}
+use borrow.Author.Tests.{not-true, not-false}
+use Rattle.consistency.proofs.ConsistentTestOpened.{open-wrong, open-header, open-sized, open-room, open-long, open-system, open-entries, open-good}
+use Rattle.consistency.proofs.open_mapped.Statement.{statement}
+use Rattle.consistency.proofs.open_mapped.Tie as tie
+
+read-header-requires : tie.Need-read-header-requires
+read-header-requires c κs = search needs
+
+enum-known-g : tie.Need-enum-known-g
+enum-known-g c = search needs
+
+enum-told : tie.Need-enum-told
+enum-told c = search needs
+
+returns : tie.Need-returns
+returns c = open-wrong _ _ (c .before .before .read-header .ensures) (c .enum-told .given .1)
+
+set-system-requires : tie.Need-set-system-requires
+set-system-requires c κs =
+    let pre = c .before .before .before .before .before .before .before .pre in
+    let read-header = c .before .before .before .before .read-header in
+    let g = c .before .before .g in
+    open-room _ _ (read-header .ensures) _ (g .given .1) pre
+
+slice-aggregate-are-entries-right : tie.Need-slice-aggregate-are-entries-right
+slice-aggregate-are-entries-right c = search needs
+
+are-entries-right-requires : tie.Need-are-entries-right-requires
+are-entries-right-requires c κs = let is = c .before .before .before .before .before .before .before .before .before .read-header .ensures in
+    let right = c .before .before .before .before .before .before .before .g .given .1 in
+    let lent = c .before .before .before .before .before .before .before .before .before .before .before .before .pre in
+    let system = c .before .before .before .before .set-system .ensures in
+    (open-sized _ _ is _ right, (open-header _ _ is _ right, (open-long _ _ is _ right _ _ lent system, open-system _ _ is _ right _ _ lent system, refl)))
+
+same-length : tie.Need-same-length
+same-length c = search needs
+
+returns-2 : tie.Need-returns-2
+returns-2 c = let is = c .before .before .before .before .before .before .before .before .before .before .before .before .before .before .read-header .ensures in
+    let right = c .before .before .before .before .before .before .before .before .before .before .before .before .g .given .1 in
+    let lent = c .before .before .before .before .before .before .before .before .before .before .before .before .before .before .before .before .before .pre in
+    let system = c .before .before .before .before .before .before .before .before .before .set-system .ensures in
+    open-entries _ _ is _ right _ _ lent system (sym (c .before .before .before .before .are-entries-right .ensures .0) ∙ not-true _ (c .if1 .taken))
+
+set-system-requires-2 : tie.Need-set-system-requires-2
+set-system-requires-2 c κs =
+    let pre = c .before .before .before .before .before .before .before .before .before .before .before .before .before .before .before .before .before .before .pre in
+    let read-header = c .before .before .before .before .before .before .before .before .before .before .before .before .before .before .before .read-header in
+    let g = c .before .before .before .before .before .before .before .before .before .before .before .before .before .g in
+    let set-system = c .before .before .before .before .before .before .before .before .before .before .set-system in
+    let are-entries-right = c .before .before .before .before .before .are-entries-right in
+    let is = read-header .ensures in
+    let right = g .given .1 in
+    let lent = pre in
+    let system = set-system .ensures in
+    let sized = open-sized _ _ is _ right in
+    omega (arith, are-entries-right .kept .1 .0, open-long _ _ is _ right _ _ lent system, sized .bodies)
+
+same-length-2 : tie.Need-same-length-2
+same-length-2 c = search needs
+
+returns-3 : tie.Need-returns-3
+returns-3 c =
+    let pre = c .before .before .before .before .before .before .before .before .before .before .before .before .before .before .before .before .before .before .before .before .before .pre in
+    let read-header = c .before .before .before .before .before .before .before .before .before .before .before .before .before .before .before .before .before .before .read-header in
+    let g = c .before .before .before .before .before .before .before .before .before .before .before .before .before .before .before .before .g in
+    let set-system = c .before .before .before .before .before .before .before .before .before .before .before .before .before .set-system in
+    let are-entries-right = c .before .before .before .before .before .before .before .before .are-entries-right in
+    let if1 = c .before .before .before .before .if1 in
+    let set-system2 = c .before .before .set-system2 in
+    let is = read-header .ensures in
+    let right = g .given .1 in
+    let lent = pre in
+    let system = set-system .ensures in
+    let entries = are-entries-right in
+    let good = not-false _ (if1 .left) in
+    open-good _ _ is _ right _ _ lent system _ _ (sym (entries .ensures .0) ∙ good) (entries .ensures .1 good) (set-system2 .ensures)
+
+pub open-mapped-spec : {M : Type 1} → statement M
+open-mapped-spec =
+    tie.close
+    (tie.spec
+    read-header-requires
+    enum-known-g
+    enum-told
+    returns
+    set-system-requires
+    slice-aggregate-are-entries-right
+    are-entries-right-requires
+    same-length
+    returns-2
+    set-system-requires-2
+    same-length-2
+    returns-3)
