@@ -35,11 +35,6 @@ module _ (img img′ map : List ℕ) (b : ℕ) (says : Says map img) (inside : b
   map-added more nobody =
       kept-up 1 (omega (arith, more b, nobody, one-here b b refl)) (λ z other. omega (arith, more z, one-else z b other))
 
-  -- a block that was held once and that nobody then holds
-  pub map-given : ((z : ℕ) → held img z ≡ held img′ z + one (eqb z b)) → held img b ≤ 1 → Says (set map b 0) img′
-  map-given less once =
-      kept-up 0 (omega (arith, less b, once, one-here b b refl)) (λ z other. omega (arith, less z, one-else z b other))
-
 -- what is free in the image is free on the map
 pub free-on : {img map : List ℕ} {g : Geometry} {b : ℕ} → Says map img → geometryOf img ≡ g → FreeBlock img b → FreeOn map g b
 free-on {img} {map} {g} {b} says measures free =

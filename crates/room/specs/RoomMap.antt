@@ -2,7 +2,7 @@
 use Prim.Native.Nat.{ℕ, suc, zero, _+_, _≤_, _<_}
 use mathlib.Core.Path.{_≡_}
 use mathlib.Core.Bool.{Bool, true, cond, _&&_}
-use mathlib.Core.List.{List}
+use mathlib.Core.List.{List, [], _∷_}
 use mathlib.Core.Option.{Option, none, some}
 use lib.Dec.{eqb, leb, ltb}
 use lib.ListN.{getD, set}
@@ -69,3 +69,8 @@ startIn Nowhere = none
 unfoldable pub markedFrom : List ℕ → ℕ → ℕ → List ℕ
 markedFrom map b zero = map
 markedFrom map b (suc k) = set (markedFrom map b k) (b + k) 1
+
+-- the map with those blocks held by nobody
+unfoldable pub unmarked : List ℕ → List ℕ → List ℕ
+unmarked map [] = map
+unmarked map (b ∷ bs) = unmarked (set map b 0) bs

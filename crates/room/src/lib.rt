@@ -1,5 +1,5 @@
 // What is free in a pack, on the map that the check of an image fills: the free run with the highest start, how many blocks are free; and the
-// taking of blocks.
+// taking and the giving up of blocks.
 ghost use mathlib.Core.Path.{_≡_};
 ghost use mathlib.Core.Bool.{true};
 ghost use Prim.Native.Nat.{ℕ, _+_, _-_, _≤_, _<_};
@@ -7,9 +7,11 @@ ghost use lib.Dec.{eqb, leb};
 ghost use lib.ListN.{length, set};
 ghost use Rattle.pack.specs.GeometrySized.{mostBlocks, Sized};
 ghost use Rattle.room.specs.Room.{InRun};
-ghost use Rattle.room.specs.RoomMap.{runOn, freeAfter, startIn, freeOn, FreeOn, HeldFrom, markedFrom};
+ghost use Rattle.pack.specs.File.{blocksOf, count};
+ghost use Rattle.room.specs.RoomMap.{runOn, freeAfter, startIn, freeOn, FreeOn, HeldFrom, markedFrom, unmarked};
 ghost use Rattle.room.specs.Cleared.{cleared};
 use pack::BlockNo;
+use pack::Entry;
 use pack::Geometry;
 
 // A count of blocks.
@@ -56,7 +58,7 @@ fn skip_held(map: &[u8], end: usize) -> usize
 
 // Downwards, with a count of the free blocks from here on: the first run that is long enough has the highest start.
 pub fn highest_run(map: &[u8], g: Geometry, count: Blocks) -> Run
-    requires { ⌜ (length (now map) ≡ mostBlocks) × (g .blocks ≤ mostBlocks) × (0 < count .0) ⌝ }
+    requires { ⌜ (g .blocks ≤ length (now map)) × (g .blocks ≤ mostBlocks) × (0 < count .0) ⌝ }
     ensures { λ r. ⌜ startIn r ≡ runOn (now (map .entry)) (g .bodies .0) (g .blocks) (count .0) (g .blocks) ⌝ }
 {
     let low = g.bodies.0;
@@ -164,6 +166,32 @@ pub fn take_run(img: &mut [u8], map: &mut [u8], g: Geometry, start: BlockNo, cou
     let mut left = count.0;
     while 0 < left {
         take_block(img, map, g, BlockNo(end - left));
+        left -= 1;
+    }
+}
+
+// Who gives up a block gives it up here.
+fn give_up_block(map: &mut [u8], b: BlockNo)
+    requires { ⌜ b .0 < length (now map) ⌝ }
+    ensures { λ r. ⌜ now (map .exit) ≡ set (now (map .entry)) (b .0) 0 ⌝ }
+{
+    let at = b.0;
+    map[at] = 0;
+}
+
+// The blocks of a file, each given up by itself.
+pub fn give_up(img: &[u8], map: &mut [u8], g: Geometry, x: Entry)
+    requires { ⌜ Sized (now img) g ⌝ }
+    requires { ⌜ g .blocks ≤ length (now map) ⌝ }
+    requires { ⌜ ((z : ℕ) → 0 < count z (blocksOf (now img) g x) → z < g .blocks) ⌝ }
+    ensures { λ r. ⌜ now (map .exit) ≡ unmarked (now (map .entry)) (blocksOf (now (img .entry)) g x) ⌝ }
+{
+    let kind = x.kind;
+    let mut left = x.length;
+    let mut b = x.first;
+    while 0 < left {
+        give_up_block(map, b);
+        b = pack::next_block(img, g, kind, b);
         left -= 1;
     }
 }
