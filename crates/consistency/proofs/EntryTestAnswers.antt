@@ -1,7 +1,7 @@
 -- The answers of the code that tests one entry: what each has to show, from the tests that led to it.
 use Prim.Native.Nat.{ℕ, _≤_, _<_}
 use mathlib.Core.Path.{_≡_, sym, ap, _∙_}
-use mathlib.Core.Bool.{Bool, true, false, _&&_, and-true}
+use mathlib.Core.Bool.{Bool, true, false, not, _&&_, and-true}
 use mathlib.Core.List.{List}
 use native.Mathlib.Omega.{arith}
 use native.Mathlib.Numerals.{add-one}
@@ -20,7 +20,7 @@ use Rattle.pack.proofs.EntryRead.{empty-blocks}
 use Rattle.consistency.specs.declared.Walked.{Walked}
 use Rattle.consistency.specs.declared.Walked.the-variants.{End, Stopped}
 use Rattle.consistency.specs.Walk.{mark, blocksFrom, walkOf}
-use Rattle.consistency.specs.EntryTest.{keyTest, kindTest, opensTest, fieldsTest, endTest, bodyTest, restTest, entryTest}
+use Rattle.consistency.specs.EntryTest.{keyTest, writerTest, kindTest, opensTest, fieldsTest, endTest, bodyTest, restTest, entryTest}
 use Rattle.consistency.proofs.WalkSteps.{Walks, walks, walks-not}
 use Rattle.consistency.specs.DifferTest.{newTest}
 use Rattle.consistency.proofs.EntryTestWhole.{rest-iff}
@@ -41,28 +41,35 @@ module _ (img : List ℕ) (g : Geometry) (e : ℕ) {name1 name2 : ℕ} (is₀ : 
     unfolding keyTest entryOf
     key-uic extended r uic is₃ is = go-on (rw (is₀, is₁) at named) (go-on (rw is₂ at extended) (rw is₃ at is))
 
--- of the test of length and writer by the kind
+-- of the test of the writer by the kind
+module _ (kind writer : ℕ) where
+  pub run-writer : kind ≡ 1 → leb writer 1 ≡ writerTest kind writer
+  unfolding writerTest
+  run-writer is = simp (eq-eqb _ _ is)
+
+  module _ (other : kind ≡ 1 → ⊥) where
+    pub no-kind : (kind ≡ 2 → ⊥) → false ≡ writerTest kind writer
+    unfolding writerTest
+    no-kind another = simp (ne-eqb _ _ other, ne-eqb _ _ another)
+
+    module _ (is : kind ≡ 2) where
+      pub chain-updated : writer ≡ 1 → false ≡ writerTest kind writer
+      unfolding writerTest
+      chain-updated u = simp (ne-eqb _ _ other, eq-eqb _ _ is, eq-eqb _ _ u)
+
+      pub chain-writer : (writer ≡ 1 → ⊥) → leb writer 3 ≡ writerTest kind writer
+      unfolding writerTest
+      chain-writer not-u = simp (ne-eqb _ _ other, eq-eqb _ _ is, ne-eqb _ _ not-u)
+
+-- and with it of the length
 module _ (kind count writer : ℕ) where
-  pub run-empty : kind ≡ 1 → count < 1 → false ≡ kindTest kind count writer
+  pub run-empty : (eqb kind 1 && ltb count 1) ≡ true → false ≡ kindTest kind count writer
   unfolding kindTest
-  run-empty is none = simp (eq-eqb _ _ is, lt-leb _ _ none)
+  run-empty none = simp none
 
-  pub run-writer : kind ≡ 1 → 1 ≤ count → leb writer 1 ≡ kindTest kind count writer
+  pub kind-written : (eqb kind 1 && ltb count 1) ≡ false → (r : Bool) → r ≡ writerTest kind writer → r ≡ kindTest kind count writer
   unfolding kindTest
-  run-writer is some = simp (eq-eqb _ _ is, le-leb _ _ some)
-
-  pub no-kind : (kind ≡ 1 → ⊥) → (kind ≡ 2 → ⊥) → false ≡ kindTest kind count writer
-  unfolding kindTest
-  no-kind other another = simp (ne-eqb _ _ other, ne-eqb _ _ another)
-
-  module _ (other : kind ≡ 1 → ⊥) (is : kind ≡ 2) where
-    pub chain-updated : writer ≡ 1 → false ≡ kindTest kind count writer
-    unfolding kindTest
-    chain-updated u = simp (ne-eqb _ _ other, eq-eqb _ _ is, eq-eqb _ _ u)
-
-    pub chain-writer : (writer ≡ 1 → ⊥) → leb writer 3 ≡ kindTest kind count writer
-    unfolding kindTest
-    chain-writer not-u = simp (ne-eqb _ _ other, eq-eqb _ _ is, ne-eqb _ _ not-u)
+  kind-written some r is = go-on (ap not some) is
 
 -- of the test of readers and writer
 pub opens-written : (writer readers : ℕ) → 0 < writer → ltb readers 62 ≡ opensTest writer readers

@@ -7,7 +7,7 @@ use mathlib.Core.Logic.{_⊎_, inl, inr, _↔_}
 use native.Mathlib.Omega.{arith}
 use native.Mathlib.Decide.{ℕ-discrete}
 use lib.Dec.{eqb, leb, ltb}
-use borrow.Author.Tests.{eq-eqb, ne-eqb, eqb-true, eqb-false, le-leb, leb-true, not-true}
+use borrow.Author.Tests.{eq-eqb, ne-eqb, eqb-true, eqb-false, le-leb, leb-true, le-ltb, ltb-false, not-true}
 use Rattle.radix.specs.Names.{LegalName, LegalExtension}
 use Rattle.radix.specs.NamesTest.{legalName, legalExtension}
 use Rattle.radix.proofs.Names.{name-iff, extension-iff}
@@ -18,7 +18,7 @@ use Rattle.pack.specs.File.{nextOf, after, lastOf, one}
 use Rattle.pack.specs.Entry.{Contiguous, Linked}
 use Rattle.answers.proofs.RefusalsTests.{and-left, and-right, and-both}
 use Rattle.pack.proofs.HeaderTestWords.{listed-iff}
-use Rattle.consistency.specs.EntryTest.{keyTest, kindTest, opensTest, fieldsTest, endTest}
+use Rattle.consistency.specs.EntryTest.{keyTest, WriterRight, writerTest, kindTest, opensTest, fieldsTest, endTest}
 use Rattle.consistency.proofs.WalkSteps.{last-run}
 
 pub record Fields (img : List ℕ) (x : Entry) : Type 0 where
@@ -53,41 +53,6 @@ fields-iff img x = (means, tested)
         and-both (and-both (name-iff _ _ .1 (f .name)) (and-both (extension-iff _ .1 (f .extension)) (listed-iff img _ .1 (f .uic))))
         (and-both (le-leb _ _ (f .protect)) (and-both (f .kind) (le-leb _ _ (f .opens))))
 
--- kind, length and writer by the kind
-pub record ContiguousFields (kind length writer : ℕ) : Type 0 where
-  pub is : kind ≡ 1
-  pub some : 1 ≤ length
-  pub who : writer ≤ 1
-
-pub record LinkedFields (kind writer : ℕ) : Type 0 where
-  pub is : kind ≡ 2
-  pub not-u : writer ≡ 1 → ⊥
-  pub who : writer ≤ 3
-
-pub by-kind : (kind length writer : ℕ) → kindTest kind length writer ≡ true → ContiguousFields kind length writer ⊎ LinkedFields kind writer
-unfolding kindTest
-by-kind kind length writer test = at (ℕ-discrete kind 1)
-  where
-    at : Dec (kind ≡ 1) → ContiguousFields kind length writer ⊎ LinkedFields kind writer
-    at (yes is) =
-        let h = simp (eq-eqb kind 1 is) at test in
-        inl (record { is = is; some = leb-true _ _ (and-left (leb 1 length) (leb writer 1) h); who = leb-true _ _ (and-right (leb 1 length) (leb writer 1) h) })
-    at (no other) =
-        let h = simp (ne-eqb kind 1 other) at test in
-        let behind = and-right (eqb kind 2) (not (eqb writer 1) && leb writer 3) h in
-        inr (record {
-          is = eqb-true kind 2 (and-left (eqb kind 2) (not (eqb writer 1) && leb writer 3) h);
-          not-u = eqb-false writer 1 (not-true _ (and-left (not (eqb writer 1)) (leb writer 3) behind));
-          who = leb-true writer 3 (and-right (not (eqb writer 1)) (leb writer 3) behind);
-        })
-
--- the two ends that the test looks at, at a kind
-abbrev LastAt : List ℕ → Geometry → Entry → ℕ → ℕ
-LastAt img g x kind = lastOf (nextOf img g kind) 0 (x .length) (x .first .0)
-
-abbrev AfterAt : List ℕ → Geometry → Entry → ℕ → ℕ
-AfterAt img g x kind = after (nextOf img g kind) (x .length) (x .first .0)
-
 none-or-u : (writer : ℕ) → writer ≤ 1 → (writer ≡ 0) ⊎ (writer ≡ 1)
 none-or-u writer few = elim (ℕ-discrete writer 0) [ yes e ↦ inl e | no e ↦ inr (omega (arith, e)) ]
 
@@ -97,6 +62,51 @@ none-o-or-e writer few other =
       | yes e ↦ inl e
       | no e ↦ elim (ℕ-discrete writer 2) [ yes f ↦ inr (inl f) | no f ↦ inr (inr (omega (arith, e, f, other))) ]
     ]
+
+-- the writer goes with the kind
+module _ (kind writer : ℕ) where
+  written : Dec (kind ≡ 1) → writerTest kind writer ≡ true → WriterRight kind writer
+  unfolding writerTest
+  written (yes is) test = inl (is, none-or-u writer (leb-true _ _ (simp (eq-eqb kind 1 is) at test)))
+  written (no other) test =
+      let h = simp (ne-eqb kind 1 other) at test in
+      let behind = and-right (eqb kind 2) (not (eqb writer 1) && leb writer 3) h in
+      let not-u = eqb-false writer 1 (not-true _ (and-left (not (eqb writer 1)) (leb writer 3) behind)) in
+      let few = leb-true writer 3 (and-right (not (eqb writer 1)) (leb writer 3) behind) in
+      inr (eqb-true kind 2 (and-left (eqb kind 2) (not (eqb writer 1) && leb writer 3) h), none-o-or-e writer few not-u)
+
+  tested : WriterRight kind writer → writerTest kind writer ≡ true
+  unfolding writerTest
+  tested (inl (is, who)) = simp (eq-eqb kind 1 is, le-leb writer 1 (few who))
+    where
+      few : (writer ≡ 0) ⊎ (writer ≡ 1) → writer ≤ 1
+      few (inl is) = omega arith
+      few (inr is) = omega arith
+  tested (inr (is, who)) = simp (ne-eqb kind 1 (λ other. omega (arith, other, is)), eq-eqb kind 2 is, ne-eqb writer 1 (not-u who), le-leb writer 3 (few who))
+    where
+      few : (writer ≡ 0) ⊎ ((writer ≡ 2) ⊎ (writer ≡ 3)) → writer ≤ 3
+      few (inl is) = omega arith
+      few (inr (inl is)) = omega arith
+      few (inr (inr is)) = omega arith
+
+      not-u : (writer ≡ 0) ⊎ ((writer ≡ 2) ⊎ (writer ≡ 3)) → writer ≡ 1 → ⊥
+      not-u (inl is) u = omega arith
+      not-u (inr (inl is)) u = omega arith
+      not-u (inr (inr is)) u = omega arith
+
+  pub writer-iff : (writerTest kind writer ≡ true) ↔ WriterRight kind writer
+  writer-iff = (written (ℕ-discrete kind 1), tested)
+
+-- a contiguous file has some length
+some-length : (kind length : ℕ) → kind ≡ 1 → not (eqb kind 1 && ltb length 1) ≡ true → 1 ≤ length
+some-length kind length is test = ltb-false length 1 (not-true _ (simp (eq-eqb kind 1 is) at test))
+
+-- the two ends that the test looks at, at a kind
+abbrev LastAt : List ℕ → Geometry → Entry → ℕ → ℕ
+LastAt img g x kind = lastOf (nextOf img g kind) 0 (x .length) (x .first .0)
+
+abbrev AfterAt : List ℕ → Geometry → Entry → ℕ → ℕ
+AfterAt img g x kind = after (nextOf img g kind) (x .length) (x .first .0)
 
 -- an entry whose kind, length, writer and end are right is that of a contiguous or a linked file, and the other way
 module _ (img : List ℕ) (g : Geometry) (x : Entry) where
@@ -109,42 +119,32 @@ module _ (img : List ℕ) (g : Geometry) (x : Entry) where
   after-is other test = let h = and-right (eqb (LastAt img g x (x .kind)) (x .last .0)) _ test in eqb-true _ _ (simp (ne-eqb _ _ other) at h)
 
   kind-of : kindTest (x .kind) (x .length) (x .writer) ≡ true → endTest img g x ≡ true → Contiguous x ⊎ Linked img g x
-  kind-of kind test = at (by-kind _ _ _ kind)
+  unfolding kindTest
+  kind-of kind test =
+      at (and-left (not (eqb (x .kind) 1 && ltb (x .length) 1)) _ kind) (writer-iff _ _ .0 (and-right (not (eqb (x .kind) 1 && ltb (x .length) 1)) _ kind))
     where
-      at : ContiguousFields (x .kind) (x .length) (x .writer) ⊎ LinkedFields (x .kind) (x .writer) → Contiguous x ⊎ Linked img g x
-      at (inl f) =
+      at : not (eqb (x .kind) 1 && ltb (x .length) 1) ≡ true → WriterRight (x .kind) (x .writer) → Contiguous x ⊎ Linked img g x
+      at long (inl (is, who)) =
+          let some : 1 ≤ x .length = some-length (x .kind) (x .length) is long in
           inl (record {
-            kind = f .is;
-            length = f .some;
-            last = omega (arith, last-is test, last-run img g 0 (x .length) (x .first .0) (f .some), ap (LastAt img g x) (f .is));
-            writer = none-or-u (x .writer) (f .who);
+            kind = is;
+            length = some;
+            last = omega (arith, last-is test, last-run img g 0 (x .length) (x .first .0) some, ap (LastAt img g x) is);
+            writer = who;
           })
-      at (inr f) =
+      at long (inr (is, who)) =
           inr (record {
-            kind = f .is;
-            end = sym (ap (AfterAt img g x) (f .is)) ∙ after-is (λ one. omega (arith, one, f .is)) test;
-            last = sym (ap (LastAt img g x) (f .is)) ∙ last-is test;
-            writer = none-o-or-e (x .writer) (f .who) (f .not-u);
+            kind = is;
+            end = sym (ap (AfterAt img g x) is) ∙ after-is (λ other. omega (arith, other, is)) test;
+            last = sym (ap (LastAt img g x) is) ∙ last-is test;
+            writer = who;
           })
 
   of-kind : Contiguous x ⊎ Linked img g x → kindTest (x .kind) (x .length) (x .writer) ≡ true
   unfolding kindTest
-  of-kind (inl f) = simp (eq-eqb _ _ (f .kind), le-leb _ _ (f .length), le-leb (x .writer) 1 (few (f .writer)))
-    where
-      few : (x .writer ≡ 0) ⊎ (x .writer ≡ 1) → x .writer ≤ 1
-      few (inl is) = omega arith
-      few (inr is) = omega arith
-  of-kind (inr f) = simp (ne-eqb (x .kind) 1 (λ one. omega (arith, one, f .kind)), eq-eqb _ _ (f .kind), ne-eqb (x .writer) 1 (not-u (f .writer)), le-leb (x .writer) 3 (few (f .writer)))
-    where
-      few : (x .writer ≡ 0) ⊎ ((x .writer ≡ 2) ⊎ (x .writer ≡ 3)) → x .writer ≤ 3
-      few (inl is) = omega arith
-      few (inr (inl is)) = omega arith
-      few (inr (inr is)) = omega arith
-
-      not-u : (x .writer ≡ 0) ⊎ ((x .writer ≡ 2) ⊎ (x .writer ≡ 3)) → x .writer ≡ 1 → ⊥
-      not-u (inl is) one = omega arith
-      not-u (inr (inl is)) one = omega arith
-      not-u (inr (inr is)) one = omega arith
+  of-kind (inl f) = simp (eq-eqb _ _ (f .kind), le-ltb _ _ (f .length), writer-iff (x .kind) (x .writer) .1 (inl (f .kind, f .writer)))
+  of-kind (inr f) =
+      simp (ne-eqb (x .kind) 1 (λ other. omega (arith, other, f .kind)), writer-iff (x .kind) (x .writer) .1 (inr (f .kind, f .writer)))
 
   of-end : Contiguous x ⊎ Linked img g x → endTest img g x ≡ true
   unfolding endTest

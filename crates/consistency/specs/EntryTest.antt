@@ -1,6 +1,8 @@
 -- Means: the rules of one entry as tests, in the order in which the code makes them.
 use Prim.Native.Nat.{ℕ, _+_, _-_}
+use mathlib.Core.Path.{_≡_}
 use mathlib.Core.Bool.{Bool, true, cond, not, _&&_}
+use mathlib.Core.Logic.{_⊎_}
 use mathlib.Core.List.{List}
 use lib.Dec.{eqb, leb, ltb}
 use Rattle.radix.specs.NamesTest.{legalName, legalExtension}
@@ -16,10 +18,16 @@ use Rattle.consistency.specs.Walk.{takes}
 unfoldable pub keyTest : List ℕ → Entry → Bool
 keyTest img x = legalName (x .name1) (x .name2) && (legalExtension (x .extension) && listed img (x .uic))
 
--- length and writer go with the kind
+-- "a contiguous file's writer is 0 or 1, a linked one's 0, 2 or 3": as a rule and as a test (`writer-iff`)
+abbrev pub WriterRight : ℕ → ℕ → Type 0
+WriterRight kind writer = ((kind ≡ 1) × ((writer ≡ 0) ⊎ (writer ≡ 1))) ⊎ ((kind ≡ 2) × ((writer ≡ 0) ⊎ ((writer ≡ 2) ⊎ (writer ≡ 3))))
+
+unfoldable pub writerTest : ℕ → ℕ → Bool
+writerTest kind writer = cond (eqb kind 1) (leb writer 1) (eqb kind 2 && (not (eqb writer 1) && leb writer 3))
+
+-- the length goes with the kind too
 unfoldable pub kindTest : ℕ → ℕ → ℕ → Bool
-kindTest kind length writer =
-    cond (eqb kind 1) (leb 1 length && leb writer 1) (eqb kind 2 && (not (eqb writer 1) && leb writer 3))
+kindTest kind length writer = not (eqb kind 1 && ltb length 1) && writerTest kind writer
 
 -- readers, plus 1 if there is a writer, are at most 62
 unfoldable pub opensTest : ℕ → ℕ → Bool

@@ -12,7 +12,7 @@ ghost use Rattle.pack.specs.Header.{RightHeader};
 ghost use Rattle.pack.specs.File.{blocksOf};
 ghost use Rattle.pack.specs.Entry.{entryWord, entryOf, blocksAt};
 ghost use Rattle.consistency.specs.Walk.{mark, blocksFrom, walkOf, ended, systemSet, SystemTaken};
-ghost use Rattle.consistency.specs.EntryTest.{keyTest, kindTest, opensTest, fieldsTest, bodyTest, restTest, entryTest};
+ghost use Rattle.consistency.specs.EntryTest.{keyTest, writerTest, kindTest, opensTest, fieldsTest, bodyTest, restTest, entryTest};
 ghost use Rattle.consistency.specs.DifferTest.{remainders, newTest, differTest, Marked};
 ghost use Rattle.consistency.specs.ConsistentTest.{scanTest, markAll, UsedEnd, openedOf};
 ghost use Rattle.consistency.specs.Mapped.{Lent, MappedIf};
@@ -115,13 +115,11 @@ fn is_key_right(img: &[u8], g: Geometry, e: usize) -> bool
     pack::is_listed(img, pack::entry_word(img, g, e, 3))
 }
 
-fn is_kind_right(kind: usize, count: usize, writer: usize) -> bool
-    ensures { λ r. ⌜ r ≡ kindTest kind count writer ⌝ }
+// "a contiguous file's writer is 0 or 1, a linked one's 0, 2 or 3": judged here for the check and for the report.
+pub fn is_writer_right(kind: usize, writer: usize) -> bool
+    ensures { λ r. ⌜ r ≡ writerTest kind writer ⌝ }
 {
     if kind == 1 {
-        if count < 1 {
-            return false;
-        }
         return writer <= 1;
     }
     if kind != 2 {
@@ -133,7 +131,17 @@ fn is_kind_right(kind: usize, count: usize, writer: usize) -> bool
     writer <= 3
 }
 
-fn is_few_opens(writer: usize, readers: usize) -> bool
+fn is_kind_right(kind: usize, count: usize, writer: usize) -> bool
+    ensures { λ r. ⌜ r ≡ kindTest kind count writer ⌝ }
+{
+    if (kind == 1) & (count < 1) {
+        return false;
+    }
+    is_writer_right(kind, writer)
+}
+
+// "readers, plus 1 if there is a writer, are at most 62": so is this.
+pub fn is_few_opens(writer: usize, readers: usize) -> bool
     ensures { λ r. ⌜ r ≡ opensTest writer readers ⌝ }
 {
     if 0 < writer {

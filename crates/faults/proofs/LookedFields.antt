@@ -28,7 +28,9 @@ use Rattle.pack.specs.KeyTest.{sameKey}
 use Rattle.pack.proofs.HeaderTestWords.{listed-iff}
 use Rattle.pack.proofs.KeySame.{same-key-iff, same-read}
 use Rattle.faults.specs.Rules.{RightField}
-use Rattle.faults.specs.Looking.{FirstWrong, FieldRight, WriterRight, OtherKey}
+use Rattle.consistency.specs.EntryTest.{WriterRight, writerTest, opensTest}
+use Rattle.consistency.proofs.EntryTestFields.{writer-iff}
+use Rattle.faults.specs.Looking.{FirstWrong, FieldRight, OtherKey}
 
 -- a legal name begins with a word if it is one with a second word of blanks
 blank-extension : legalExtension 0 ≡ true
@@ -194,100 +196,39 @@ module _ (img : List ℕ) (x : Entry) (e : ℕ) where
         rest = λ low. absurd (omega arith);
       }
 
-  module _ {r : Bool} (w : (r ≡ true) ↔ WriterRight (x .kind) (x .writer)) where
+  module _ {r : Bool} (w : r ≡ writerTest (x .kind) (x .writer)) where
+    writer-right : r ≡ true → WriterRight (x .kind) (x .writer)
+    writer-right known = writer-iff _ _ .0 (sym w ∙ known)
+
     pub opens-writer : r ≡ false → FirstWrong (FieldRight img e x) 9 11 9
     opens-writer wrong =
         record {
           low = omega arith;
           high = omega arith;
           before = λ i low less. absurd (omega arith);
-          wrong = λ inside right. true-not-false (sym (w .1 (right .writer refl)) ∙ wrong);
+          wrong = λ inside right. true-not-false (sym (w ∙ writer-iff _ _ .1 (right .writer refl)) ∙ wrong);
         }
 
-    module _ (known : r ≡ true) where
-      pub opens-wrong : (x .readers + one (ltb 0 (x .writer)) ≤ 62 → ⊥) → FirstWrong (FieldRight img e x) 9 11 10
-      opens-wrong many =
+    module _ (known : r ≡ true) {few : Bool} (o : few ≡ opensTest (x .writer) (x .readers)) where
+      pub opens-many : few ≡ false → FirstWrong (FieldRight img e x) 9 11 10
+      unfolding opensTest
+      opens-many many =
           record {
             low = omega arith;
             high = omega arith;
-            before = λ i low less. opens-field low (omega arith) (w .0 known) (later less (omega arith));
-            wrong = λ inside right. many (right .opens refl);
+            before = λ i low less. opens-field low (omega arith) (writer-right known) (later less (omega arith));
+            wrong = λ inside right. true-not-false (sym (o ∙ le-leb _ _ (right .opens refl)) ∙ many);
           }
 
-      pub opens-many : 62 < x .readers → FirstWrong (FieldRight img e x) 9 11 10
-      opens-many many = opens-wrong (λ few. omega (arith, few, many))
-
-      module _ (most : x .readers ≤ 62) where
-        pub opens-full : (eqb (x .readers) 62 && ltb 0 (x .writer)) ≡ true → FirstWrong (FieldRight img e x) 9 11 10
-        opens-full full =
-            opens-wrong (λ few.
-            let is = eqb-true (x .readers) 62 (and-left (eqb (x .readers) 62) _ full) in
-            let written : ltb 0 (x .writer) ≡ true = and-right (eqb (x .readers) 62) _ full in
-            let more : x .readers + 1 ≤ 62 = rw written at few in
-            omega (arith, is, more))
-
-        pub opens-right : (eqb (x .readers) 62 && ltb 0 (x .writer)) ≡ false → FirstWrong (FieldRight img e x) 9 11 11
-        opens-right free =
-            record {
-              low = omega arith;
-              high = omega arith;
-              before = λ i low less. opens-field low less (w .0 known) (λ at. by (ltb 0 (x .writer)) (either-fails _ _ free));
-              wrong = λ inside. absurd (omega arith);
-            }
-          where
-            by : (t : Bool) → (eqb (x .readers) 62 ≡ false) ⊎ (t ≡ false) → x .readers + one t ≤ 62
-            by true (inl other) = let less = eqb-false (x .readers) 62 other in omega (arith, less, most)
-            by true (inr never) = true-not-false never
-            by false which = omega (arith, most)
-
--- the writer, by the kind
-module _ (kind writer : ℕ) where
-  pub writer-one : kind ≡ 1 → (leb writer 1 ≡ true) ↔ WriterRight kind writer
-  writer-one is = (
-    λ few. inl (is, decide (leb-true writer 1 few)),
-    λ right. le-leb writer 1 (most right),
-  )
-    where
-      decide : writer ≤ 1 → (writer ≡ 0) ⊎ (writer ≡ 1)
-      decide few = elim (ℕ-discrete writer 0) [ yes none ↦ inl none | no some ↦ inr (omega (arith, some, few)) ]
-
-      most : WriterRight kind writer → writer ≤ 1
-      most (inl (one, inl none)) = omega (arith, none)
-      most (inl (one, inr u)) = omega (arith, u)
-      most (inr (two, which)) = absurd (omega (arith, two, is))
-
-  pub writer-none : (kind ≡ 1 → ⊥) → (kind ≡ 2 → ⊥) → (false ≡ true) ↔ WriterRight kind writer
-  writer-none other another = (λ never. true-not-false (sym never), λ right. absurd (by right))
-    where
-      by : WriterRight kind writer → ⊥
-      by (inl (one, which)) = other one
-      by (inr (two, which)) = another two
-
-  module _ (is : kind ≡ 2) where
-    pub writer-update : writer ≡ 1 → (false ≡ true) ↔ WriterRight kind writer
-    writer-update u = (λ never. true-not-false (sym never), λ right. absurd (by right))
-      where
-        by : WriterRight kind writer → ⊥
-        by (inl (one, which)) = omega (arith, one, is)
-        by (inr (two, inl none)) = omega (arith, u, none)
-        by (inr (two, inr (inl o))) = omega (arith, u, o)
-        by (inr (two, inr (inr e))) = omega (arith, u, e)
-
-    pub writer-two : (writer ≡ 1 → ⊥) → (leb writer 3 ≡ true) ↔ WriterRight kind writer
-    writer-two other = (λ few. inr (is, decide (leb-true writer 3 few)), λ right. le-leb writer 3 (most right))
-      where
-        decide : writer ≤ 3 → (writer ≡ 0) ⊎ ((writer ≡ 2) ⊎ (writer ≡ 3))
-        decide few =
-            elim (ℕ-discrete writer 0) [
-              | yes none ↦ inl none
-              | no some ↦ elim (ℕ-discrete writer 2) [ yes o ↦ inr (inl o) | no not-o ↦ inr (inr (omega (arith, few, some, not-o, other))) ]
-            ]
-
-        most : WriterRight kind writer → writer ≤ 3
-        most (inl (one, which)) = absurd (omega (arith, one, is))
-        most (inr (two, inl none)) = omega (arith, none)
-        most (inr (two, inr (inl o))) = omega (arith, o)
-        most (inr (two, inr (inr e))) = omega (arith, e)
+      pub opens-right : few ≡ true → FirstWrong (FieldRight img e x) 9 11 11
+      unfolding opensTest
+      opens-right is =
+          record {
+            low = omega arith;
+            high = omega arith;
+            before = λ i low less. opens-field low less (writer-right known) (λ at. leb-true _ _ (sym o ∙ is));
+            wrong = λ inside. absurd (omega arith);
+          }
 
 -- words 11 to 15
 module _ (img : List ℕ) {g : Geometry} (is : geometryOf img ≡ g) (x : Entry) (e : ℕ) {w word : ℕ} (low : 11 ≤ w) (u : word ≡ entryWord img g e w) where

@@ -44,7 +44,7 @@ mark-here : (marks : List ℕ) {c b : ℕ} → b < length marks → c ≡ b → 
 mark-here marks {c} {b} inside is = ap (λ (n : ℕ). getD (set marks b 1) n 0) is ∙ getD-set-same marks b 1 0 inside
 
 module _ {img : List ℕ} {g : Geometry} {x : Entry} (most : g .blocks ≤ mostBlocks) where
-  pub walked-start : x .kind ≡ 2 → 0 < x .length → Body g (x .first .0) → Walked img g x (set emptyMap (x .first .0) 1) 0 (x .first .0)
+  pub walked-start : x .kind ≡ 2 → 0 < x .length → Body g (x .first .0) → Walked img g x (set (emptyMap mostBlocks) (x .first .0) 1) 0 (x .first .0)
   unfolding after
   walked-start linked some body =
       record {
@@ -54,19 +54,19 @@ module _ {img : List ℕ} {g : Geometry} {x : Entry} (most : g .blocks ≤ mostB
         body = body;
         links = λ q less. absurd (omega arith);
         once = λ q less. absurd (omega arith);
-        long = length-set emptyMap (x .first .0) 1 ∙ empty-long;
+        long = length-set (emptyMap mostBlocks) (x .first .0) 1 ∙ empty-long mostBlocks;
         marked = λ s less. marks s less;
         places = λ c taken. elim (ℕ-discrete c (x .first .0)) [
           | yes here ↦ record { place = 0; within = omega arith; is = sym here }
-          | no other ↦ absurd (taken (getD-set-other emptyMap (x .first .0) c 1 0 other ∙ empty-zero c))
+          | no other ↦ absurd (taken (getD-set-other (emptyMap mostBlocks) (x .first .0) c 1 0 other ∙ empty-zero mostBlocks c))
         ];
       }
     where
-      inside : x .first .0 < length emptyMap
-      inside = omega (arith, body, most, empty-long)
+      inside : x .first .0 < length (emptyMap mostBlocks)
+      inside = omega (arith, body, most, empty-long mostBlocks)
 
-      marks : (s : ℕ) → s ≤ 0 → getD (set emptyMap (x .first .0) 1) (chainAt img x s) 0 ≡ 1
-      marks s less = let none : s ≡ 0 = omega arith in mark-here emptyMap inside (ap (chainAt img x) none)
+      marks : (s : ℕ) → s ≤ 0 → getD (set (emptyMap mostBlocks) (x .first .0) 1) (chainAt img x s) 0 ≡ 1
+      marks s less = let none : s ≡ 0 = omega arith in mark-here (emptyMap mostBlocks) inside (ap (chainAt img x) none)
 
   -- one block on
   module _ (is : geometryOf img ≡ g) {marks : List ℕ} {p b : ℕ} (walked : Walked img g x marks p b) {next : ℕ} (link : next ≡ nextOf img g 2 b) where

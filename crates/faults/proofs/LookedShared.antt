@@ -161,13 +161,13 @@ module _ {img : List ℕ} {g : Geometry} (all : AllRight img g) where
           (λ low some. right-range img (geometryOf img) e (entry-fine img e (all .entries e low) .right) b some)
 
   -- all files counted
-  pub counted-start : {counts : List ℕ} → counts ≡ emptyMap → Counted counts (filesFrom img g 0) (held img)
+  pub counted-start : {counts : List ℕ} (long : ℕ) → counts ≡ emptyMap long → Counted counts (filesFrom img g 0) (held img)
   unfolding held
-  counted-start {counts} is =
+  counted-start {counts} long is =
       record {
         so-far = λ b. 0;
         told = λ b.
-            let nil : getD counts b 0 ≡ 0 = ap (λ (m : List ℕ). getD m b 0) is ∙ empty-zero b in
+            let nil : getD counts b 0 ≡ 0 = ap (λ (m : List ℕ). getD m b 0) is ∙ empty-zero long b in
             record { none = λ at. refl; one = λ at. absurd (omega (arith, nil, at)); more = λ at. absurd (omega (arith, nil, at)) };
         whole = λ b.
             let from : slots g - 0 ≡ slots g = omega arith in

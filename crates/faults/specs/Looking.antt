@@ -2,7 +2,6 @@
 use Prim.Native.Nat.{ℕ, _+_, _≤_, _<_}
 use mathlib.Core.Path.{_≡_}
 use mathlib.Core.List.{List}
-use mathlib.Core.Logic.{_⊎_}
 use Rattle.pack.specs.declared.Geometry.{Geometry}
 use Rattle.pack.specs.declared.Entry.{Entry}
 use Rattle.pack.specs.Geometry.{geometryOf, slots}
@@ -23,10 +22,6 @@ pub record FirstWrong (Right : ℕ → Type 0) (from end at : ℕ) : Type 0 wher
 -- what is sought: among the words of an entry, the words of an extent, the entries before one
 abbrev pub FieldRight : List ℕ → ℕ → Entry → ℕ → Type 0
 FieldRight img e x w = RightField img e w x
-
--- "a contiguous file's writer is 0 or 1, a linked one's 0, 2 or 3"
-abbrev pub WriterRight : ℕ → ℕ → Type 0
-WriterRight kind writer = ((kind ≡ 1) × ((writer ≡ 0) ⊎ (writer ≡ 1))) ⊎ ((kind ≡ 2) × ((writer ≡ 0) ⊎ ((writer ≡ 2) ⊎ (writer ≡ 3))))
 
 abbrev pub ExtentRight : Geometry → Entry → ℕ → Type 0
 ExtentRight g x w = RightExtent g w x

@@ -1,14 +1,11 @@
 // The words of an entry in use but 6 to 8, one by one, and whether an earlier entry has its name.
-ghost use mathlib.Core.Path.{_≡_};
-ghost use mathlib.Core.Bool.{true};
 ghost use mathlib.Core.List.{List};
-ghost use mathlib.Core.Logic.{_↔_};
 ghost use Prim.Native.Nat.{ℕ, _<_};
 ghost use Rattle.pack.specs.declared.Entry.{Entry as EntryRead};
 ghost use Rattle.pack.specs.Geometry.{slots};
 ghost use Rattle.pack.specs.GeometrySized.{Sized};
 ghost use Rattle.pack.specs.Header.{RightHeader};
-ghost use Rattle.faults.specs.Looking.{FirstWrong, FieldRight, WriterRight, OtherKey, Measures};
+ghost use Rattle.faults.specs.Looking.{FirstWrong, FieldRight, OtherKey, Measures};
 use pack::Entry;
 use pack::Geometry;
 use radix::Radix50;
@@ -63,32 +60,14 @@ pub fn wrong_kind(x: Entry) -> usize
     6
 }
 
-fn is_writer_right(kind: usize, writer: usize) -> bool
-    ensures { λ r. ⌜ (r ≡ true) ↔ WriterRight kind writer ⌝ }
-{
-    if kind == 1 {
-        return writer <= 1;
-    }
-    if kind != 2 {
-        return false;
-    }
-    if writer == 1 {
-        return false;
-    }
-    writer <= 3
-}
-
-// The first wrong one of words 9 and 10, or 11: readers, plus 1 if there is a writer, are at most 62.
+// The first wrong one of words 9 and 10, or 11.
 fn wrong_opens(x: Entry) -> usize
     ensures { λ r. ⌜ ((img : List ℕ) (e : ℕ) → FirstWrong (FieldRight img e x) 9 11 r) ⌝ }
 {
-    if !is_writer_right(x.kind, x.writer) {
+    if !consistency::is_writer_right(x.kind, x.writer) {
         return 9;
     }
-    if 62 < x.readers {
-        return 10;
-    }
-    if (x.readers == 62) & (0 < x.writer) {
+    if !consistency::is_few_opens(x.writer, x.readers) {
         return 10;
     }
     11

@@ -36,8 +36,7 @@ fn look(img: &[u8]) -> ReportAnswer
 pub fn report(img: &[u8]) -> ReportAnswer
     ensures { λ r. ⌜ Report (now (img .entry)) r ⌝ }
 {
-    let mut map = [0u8; pack::MOST_BLOCKS];
-    let Opened::Good(g) = consistency::open_pack(img, &mut map) else {
+    let Opened::Good(g) = consistency::open_pack(img) else {
         return look(img);
     };
     ReportAnswer {

@@ -175,6 +175,20 @@ fn put_refusal(out: &mut [u8], at: usize) -> usize
     put_bytes(out, at, b"REFUSED 40\n")
 }
 
+// The listing of an image that is not too long, on a lent map.
+fn print_lent(img: &[u8], map: &mut [u8], out: &mut [u8]) -> usize
+    requires { ⌜ longestText ≤ length (now out) ⌝ }
+    requires { ⌜ Lent (now map) (now img) × (length (now img) ≤ longestImage) ⌝ }
+    ensures { λ r. ⌜ Put (now (out .entry)) (now (out .exit)) 0 r (listing (now (img .entry))) ⌝ }
+    ensures { λ r. ⌜ r ≤ longestText ⌝ }
+{
+    let Opened::Good(g) = consistency::open_mapped(img, map) else {
+        return put_refusal(out, 0);
+    };
+    let at = put_head(out, 0, g.blocks, room::free_count(map, g));
+    put_lines(out, at, img, g)
+}
+
 // The listing is put at the start of the buffer, whose rest stays; the answer is its length.
 pub fn print_listing(img: &[u8], out: &mut [u8]) -> usize
     requires { ⌜ longestText ≤ length (now out) ⌝ }
@@ -185,10 +199,10 @@ pub fn print_listing(img: &[u8], out: &mut [u8]) -> usize
     if LONGEST_IMAGE < img.len() {
         return put_refusal(out, 0);
     }
+    if img.len() <= consistency::FEW_BYTES {
+        let mut map = [0u8; consistency::FEW_BLOCKS];
+        return print_lent(img, &mut map, out);
+    }
     let mut map = [0u8; pack::MOST_BLOCKS];
-    let Opened::Good(g) = consistency::open_pack(img, &mut map) else {
-        return put_refusal(out, 0);
-    };
-    let at = put_head(out, 0, g.blocks, room::free_count(&map, g));
-    put_lines(out, at, img, g)
+    print_lent(img, &mut map, out)
 }

@@ -1,15 +1,11 @@
 -- Rests on `report-good`: a consistent image has rule 0; another is looked at.
-use mathlib.Core.Path.{refl}
 use borrow.Author.Needs.{needs}
 use Rattle.faults.proofs.LookedWhole.{report-good}
 use Rattle.faults.proofs.report.Statement.{statement}
 use Rattle.faults.proofs.report.Tie as tie
 
-slice-aggregate-open-pack : tie.Need-slice-aggregate-open-pack
-slice-aggregate-open-pack c = search needs
-
 open-pack-requires : tie.Need-open-pack-requires
-open-pack-requires c κs = refl
+open-pack-requires c κs = search needs
 
 enum-known-g : tie.Need-enum-known-g
 enum-known-g c = search needs
@@ -24,13 +20,12 @@ returns : tie.Need-returns
 returns c = search needs
 
 returns-2 : tie.Need-returns-2
-returns-2 c = report-good _ (c .before .before .before .before .open-pack .ensures .0) (c .before .g .given .1)
+returns-2 c = report-good _ (c .before .before .before .open-pack .ensures) (c .before .g .given .1)
 
 pub report-spec : {M : Type 1} → statement M
 report-spec =
     tie.close
     (tie.spec
-    slice-aggregate-open-pack
     open-pack-requires
     enum-known-g
     enum-told

@@ -26,9 +26,8 @@ slot-count-requires c κs = sized-few (measures-sized (c .before .before .pre .0
 loop-holds : tie.Need-loop-holds Inv-loop μ-loop
 loop-holds c = (
   c .slot-count .ensures .0,
-  ap length (c .before .before .before .pre .1) ∙ empty-long,
-  counted-start (c .before .before .before .pre .0)
-      (c .before .before .before .pre .1),
+  ap length (c .before .before .before .pre .1) ∙ empty-long mostBlocks,
+  counted-start (c .before .before .before .pre .0) mostBlocks (c .before .before .before .pre .1),
 )
 
 read-entry-requires : tie.Need-read-entry-requires Inv-loop μ-loop
@@ -59,7 +58,7 @@ loop-again c = let l = c .before .before .before .before .before .before .loop .
 )
 
 same-length : tie.Need-same-length Inv-loop μ-loop
-same-length c = c .before .loop .inv .1 ∙ sym (ap length (c .before .before .before .before .before .pre .1) ∙ empty-long)
+same-length c = c .before .loop .inv .1 ∙ sym (ap length (c .before .before .before .before .before .pre .1) ∙ empty-long mostBlocks)
 
 returns : tie.Need-returns Inv-loop μ-loop
 returns c = (
