@@ -1,9 +1,10 @@
--- What APPND promises: refusals change nothing, consistent images stay so, other files are untouched, and the joined file is the first's blocks and
--- then the second's.
+-- What APPND promises: refusals change nothing, consistent images stay so, every block is held as often as before, other files are untouched, and the
+-- joined file is the first's blocks and then the second's.
 use Prim.Native.Nat.{ℕ, _+_, _*_, _≤_, _<_}
 use mathlib.Core.Path.{_≡_, refl, sym, ap, subst, _∙_}
 use mathlib.Core.List.{List, [], _++_}
 use mathlib.Core.Logic.{inl, inr}
+use native.Mathlib.Omega.{arith}
 use native.Mathlib.Decide.{ℕ-discrete}
 use lib.ListN.{getD}
 use Rattle.answers.specs.Refusals.{firstOf}
@@ -12,10 +13,12 @@ use Rattle.pack.specs.declared.Key.{Key}
 use Rattle.pack.specs.Geometry.{geometryOf, blockWords, blockBytes}
 use Rattle.pack.specs.File.{count}
 use Rattle.pack.specs.Entry.{entryOf, blocksAt, Empty}
-use Rattle.pack.specs.Consistent.{Consistent}
+use Rattle.pack.specs.Consistent.{held, Consistent}
 use Rattle.pack.specs.Key.{keyIn, SameKey}
 use Rattle.pack.specs.Untouched.{Untouched}
 use Rattle.pack.proofs.HeaderRules.{header-sized}
+use Rattle.pack.proofs.FileCount.{count-nil, count-append}
+use Rattle.pack.proofs.EntryRead.{empty-blocks}
 use Rattle.asking.specs.Outcome.{Outcome, settled, Unchanged}
 use Rattle.asking.specs.Asked.{entryNo, fileOf}
 use Rattle.pack.specs.EntryWords.{clearEntry}
@@ -26,6 +29,7 @@ use Rattle.frame.specs.Growth.{Joined}
 use Rattle.frame.proofs.EntrySame.{right-bodies}
 use Rattle.frame.proofs.UntouchedFramed.{untouched-framed, untouched-refl}
 use Rattle.frame.proofs.FramedCompose.{header-kept}
+use Rattle.frame.proofs.FramedHeld.{held-two}
 use Rattle.frame.proofs.GrowthConsistent.{joined-framed, joined-blocks, joined-consistent}
 use Rattle.bodies.proofs.EntryChainLinked.{Joint}
 use Rattle.appending.specs.AppndRows.{appndRows}
@@ -80,6 +84,14 @@ module _ (img : List ℕ) (first second : Key) (caller : ℕ) where
         let a = appnd-accepted in
         joined-blocks refl (a .right) (a .one .within) (a .two .within) (a .other) (a .one .linked) (a .two .linked) appnd-joined
 
+    pub appnd-count : (b : ℕ) → count b (blocksAt (appnd img first second caller .image) (geometryOf img) (entryNo img first))
+        ≡ count b (blocksAt img (geometryOf img) (entryNo img first)) + count b (blocksAt img (geometryOf img) (entryNo img second))
+    appnd-count b = ap (count b) appnd-blocks ∙ count-append b (blocksAt img (geometryOf img) (entryNo img first)) (blocksAt img (geometryOf img) (entryNo img second))
+
+    -- and the second has none
+    pub appnd-none : (b : ℕ) → count b (blocksAt (appnd img first second caller .image) (geometryOf img) (entryNo img second)) ≡ 0
+    appnd-none b = ap (count b) (empty-blocks (appnd img first second caller .image) (geometryOf img) (entryNo img second) appnd-cleared) ∙ count-nil b
+
     reached-first : (b : ℕ) → 0 < count b (blocksAt img (geometryOf img) (entryNo img first)) → (geometryOf img .bodies .0 ≤ b) × (b < geometryOf img .blocks)
     reached-first b = right-bodies img (geometryOf img) (entryNo img first) b (appnd-accepted .right .entries (entryNo img first) (appnd-accepted .one .within))
 
@@ -110,35 +122,44 @@ module _ (img : List ℕ) (first second : Key) (caller : ℕ) where
         ∙ ap (λ (s : List ℕ). payloadsOf img (geometryOf img) (blocksAt img (geometryOf img) (entryNo img first)) ++ s)
         (payloads-kept (blocksAt img (geometryOf img) (entryNo img second)) reached-second)))
 
-  pub appnd-consistent : Consistent img → Consistent (appnd img first second caller .image)
-  appnd-consistent right = by (ℕ-discrete (appnd img first second caller .code) 0)
+  -- what holds of the image before, and of the one with the two files joined, holds of the image afterwards
+  pub appnd-by : (P : List ℕ → Type 0) → P img → (appnd img first second caller .code ≡ 0 → P (appnd img first second caller .image))
+      → P (appnd img first second caller .image)
+  appnd-by P before after = by (ℕ-discrete (appnd img first second caller .code) 0)
     where
-      by : Dec (appnd img first second caller .code ≡ 0) → Consistent (appnd img first second caller .image)
-      by (yes done) =
-          let a = appnd-accepted done in
-          joined-consistent refl right (a .one .within) (a .two .within) (a .other) (a .one .linked) (a .two .linked) (appnd-joined done)
-      by (no refused) = subst Consistent (sym (appnd-refused refused .same-image)) right
+      by : Dec (appnd img first second caller .code ≡ 0) → P (appnd img first second caller .image)
+      by (yes done) = after done
+      by (no refused) = subst P (sym (appnd-refused refused .same-image)) before
+
+  pub appnd-consistent : Consistent img → Consistent (appnd img first second caller .image)
+  appnd-consistent right =
+      appnd-by Consistent right
+      (λ done.
+      let a = appnd-accepted done in
+      joined-consistent refl right (a .one .within) (a .two .within) (a .other) (a .one .linked) (a .two .linked) (appnd-joined done))
+
+  -- every block is held as often as before: what the first file has more, the second has no longer
+  pub appnd-held : Consistent img → (b : ℕ) → held (appnd img first second caller .image) b ≡ held img b
+  appnd-held right b =
+      appnd-by (λ img′. held img′ b ≡ held img b) refl
+      (λ done.
+      let a = appnd-accepted done in
+      omega (arith, held-two refl right (appnd-framed done) (a .one .within) (a .two .within) (a .other) b, appnd-count done b, appnd-none done b))
 
   -- no link, nor anything else, is written into block 0
   pub appnd-block-zero : (w : ℕ) → w < blockWords (geometryOf img) → wordAt (appnd img first second caller .image) w ≡ wordAt img w
-  appnd-block-zero w within = by (ℕ-discrete (appnd img first second caller .code) 0)
-    where
-      by : Dec (appnd img first second caller .code ≡ 0) → wordAt (appnd img first second caller .image) w ≡ wordAt img w
-      by (yes done) = header-kept (appnd-joined done .kept) w within
-      by (no refused) = ap (λ (img′ : List ℕ). wordAt img′ w) (appnd-refused refused .same-image)
+  appnd-block-zero w within = appnd-by (λ img′. wordAt img′ w ≡ wordAt img w) refl (λ done. header-kept (appnd-joined done .kept) w within)
 
   -- a file that the request does not name
   pub appnd-untouched : (key : Key) → (key ≡ first → ⊥) → (key ≡ second → ⊥) → Untouched key img (appnd img first second caller .image)
-  appnd-untouched key not-first not-second = by (ℕ-discrete (appnd img first second caller .code) 0)
+  appnd-untouched key not-first not-second =
+      appnd-by (Untouched key img) (untouched-refl key img)
+      (λ done.
+      let a = appnd-accepted done in
+      untouched-framed refl (a .right) (appnd-framed done) key (λ e within is used keyed. named a e is keyed))
     where
       named : Accepted img first second → (e : ℕ) → Either (entryNo img first) (entryNo img second) e → SameKey (keyIn (entryOf img (geometryOf img) e)) key → ⊥
       named a e (inl is) keyed =
           not-first (key-single (a .one .keyed) (subst (λ (i : ℕ). SameKey (keyIn (entryOf img (geometryOf img) i)) key) is keyed))
       named a e (inr is) keyed =
           not-second (key-single (a .two .keyed) (subst (λ (i : ℕ). SameKey (keyIn (entryOf img (geometryOf img) i)) key) is keyed))
-
-      by : Dec (appnd img first second caller .code ≡ 0) → Untouched key img (appnd img first second caller .image)
-      by (yes done) =
-          let a = appnd-accepted done in
-          untouched-framed refl (a .right) (appnd-framed done) key (λ e within is used keyed. named a e is keyed)
-      by (no refused) = subst (Untouched key img) (sym (appnd-refused refused .same-image)) (untouched-refl key img)

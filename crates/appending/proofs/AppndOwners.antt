@@ -4,7 +4,6 @@ use mathlib.Core.Path.{_≡_, refl, sym, ap, subst, _∙_}
 use mathlib.Core.List.{List, _++_}
 use mathlib.Core.Logic.{inl, inr}
 use native.Mathlib.Omega.{arith}
-use native.Mathlib.Decide.{ℕ-discrete}
 use lib.ListN.{length, getD, length-append, List·getD-append}
 use lib.Seq.{getD-append-add}
 use Rattle.pack.specs.declared.Key.{Key}
@@ -13,8 +12,6 @@ use Rattle.pack.specs.Geometry.{geometryOf}
 use Rattle.pack.specs.File.{count}
 use Rattle.pack.specs.Entry.{entryOf, blocksAt}
 use Rattle.pack.specs.Owner.{placeFrom, ownerOf}
-use Rattle.pack.proofs.FileCount.{count-nil, count-append}
-use Rattle.pack.proofs.EntryRead.{empty-blocks}
 use Rattle.asking.specs.Asked.{entryNo, fileOf}
 use Rattle.owners.proofs.OwnerPlaces.{place-none}
 use Rattle.owners.proofs.EntryBlocks.{blocks-length}
@@ -24,7 +21,7 @@ use Rattle.frame.proofs.FramedCompose.{either-decided}
 use Rattle.frame.proofs.FramedStays.{geometry-framed}
 use Rattle.frame.proofs.OwnerFramed.{owner-framed}
 use Rattle.appending.specs.Appnd.{appnd}
-use Rattle.appending.proofs.AppndEffect.{appnd-refused, appnd-accepted, appnd-joined, appnd-framed, appnd-blocks, appnd-consistent}
+use Rattle.appending.proofs.AppndEffect.{appnd-accepted, appnd-framed, appnd-blocks, appnd-count, appnd-none, appnd-by, appnd-consistent}
 
 nowhere : (b : ℕ) (xs ys : List ℕ) → count b xs ≡ 0 → count b ys ≡ 0 → placeFrom b 0 xs ≡ placeFrom b 0 ys
 nowhere b xs ys none none₂ = place-none b 0 xs .1 none ∙ sym (place-none b 0 ys .1 none₂)
@@ -33,30 +30,23 @@ module _ (img : List ℕ) (first second : Key) (caller : ℕ) where
   -- a block of neither file
   pub appnd-owner : (b : ℕ) → count b (blocksAt img (geometryOf img) (entryNo img first)) ≡ 0 → count b (blocksAt img (geometryOf img) (entryNo img second)) ≡ 0
       → ownerOf (appnd img first second caller .image) b ≡ ownerOf img b
-  appnd-owner b none none₂ = by (ℕ-discrete (appnd img first second caller .code) 0)
+  appnd-owner b none none₂ =
+      appnd-by img first second caller (λ img′. ownerOf img′ b ≡ ownerOf img b) refl
+      (λ done.
+      owner-framed refl (appnd-accepted img first second caller done .right) (appnd-framed img first second caller done)
+      (either-decided (entryNo img first) (entryNo img second)) b (λ e within is. place done e is))
     where
       place : appnd img first second caller .code ≡ 0 → (e : ℕ) → Either (entryNo img first) (entryNo img second) e
           → placeFrom b 0 (blocksAt (appnd img first second caller .image) (geometryOf img) e) ≡ placeFrom b 0 (blocksAt img (geometryOf img) e)
       place done e (inl is) =
           nowhere b _ _
           (ap (λ (i : ℕ). count b (blocksAt (appnd img first second caller .image) (geometryOf img) i)) is
-          ∙ (ap (count b) (appnd-blocks img first second caller done)
-          ∙ omega
-          (arith, none, none₂, count-append b (blocksAt img (geometryOf img) (entryNo img first)) (blocksAt img (geometryOf img) (entryNo img second)))))
+          ∙ omega (arith, none, none₂, appnd-count img first second caller done b))
           (ap (λ (i : ℕ). count b (blocksAt img (geometryOf img) i)) is ∙ none)
       place done e (inr is) =
           nowhere b _ _
-          (ap (λ (i : ℕ). count b (blocksAt (appnd img first second caller .image) (geometryOf img) i)) is
-          ∙ (ap (count b)
-          (empty-blocks (appnd img first second caller .image) (geometryOf img) (entryNo img second) (appnd-joined img first second caller done .emptied))
-          ∙ count-nil b))
+          (ap (λ (i : ℕ). count b (blocksAt (appnd img first second caller .image) (geometryOf img) i)) is ∙ appnd-none img first second caller done b)
           (ap (λ (i : ℕ). count b (blocksAt img (geometryOf img) i)) is ∙ none₂)
-
-      by : Dec (appnd img first second caller .code ≡ 0) → ownerOf (appnd img first second caller .image) b ≡ ownerOf img b
-      by (yes done) =
-          owner-framed refl (appnd-accepted img first second caller done .right) (appnd-framed img first second caller done)
-          (either-decided (entryNo img first) (entryNo img second)) b (λ e within is. place done e is)
-      by (no refused) = ap (λ (s : List ℕ). ownerOf s b) (appnd-refused img first second caller refused .same-image)
 
   module _ (done : appnd img first second caller .code ≡ 0) where
     stated : geometryOf img ≡ geometryOf (appnd img first second caller .image)
