@@ -8,30 +8,39 @@ use mathlib.Core.Option.{Option, none, some}
 use native.Mathlib.Omega.{arith}
 use borrow.Author.Tests.{ne-eqb, not-false}
 use Rattle.answers.specs.Refusals.{Row, row, firstOf, onSuccess}
+use Rattle.answers.specs.declared.Verdict.{Verdict}
+use Rattle.answers.specs.declared.Verdict.the-variants.{Clear, Refused as Stopped}
+use Rattle.answers.specs.Stage.{verdictOf}
 use Rattle.answers.specs.Missing.{missing}
 use Rattle.answers.proofs.Refusals.{pass, none-given, behind-refused}
+use Rattle.answers.proofs.Stage.{told-clear, told-refused}
 use Rattle.pack.specs.declared.Geometry.{Geometry}
 use Rattle.pack.specs.declared.Entry.{Entry}
 use Rattle.pack.specs.declared.Key.{Key}
 use Rattle.pack.specs.Geometry.{geometryOf, slots}
 use Rattle.pack.specs.Entry.{entryOf}
-use Rattle.consistency.specs.ConsistentTest.{consistent}
+use Rattle.consistency.specs.declared.Opened.{Opened}
+use Rattle.consistency.specs.declared.Opened.the-variants.{Good, Bad}
+use Rattle.consistency.specs.ConsistentTest.{consistent, openedOf}
+use Rattle.consistency.proofs.ConsistentTestIff.{opened-good, opened-bad}
+use Rattle.consistency.proofs.ConsistentTestOpened.{consistent-good}
 use Rattle.asking.specs.KeysTest.{legalKey, found, findFrom}
 use Rattle.asking.specs.Asked.{entryNo, fileOf}
 use Rattle.asking.proofs.AskedStage.{found-at, number-found}
 use Rattle.pack.specs.KeyTest.{sameKey}
 use Rattle.appending.specs.AppndRows.{nameRows, permitRows, appndRows}
 use Rattle.appending.specs.AppndStage.{bothAt, bothOf, appendingOf}
+use Rattle.appending.specs.declared.appnd.Both.{Both}
 use Rattle.appending.specs.declared.appnd.Both.the-variants.{Files, Missing}
 use Rattle.appending.specs.declared.appnd.Appending.the-variants.{Join, Refused}
 
 -- what is known of two names that nothing is wrong with
-pub record Named (first second : Key) : Type 0 where
-  pub legal : legalKey first ≡ true
-  pub legal₂ : legalKey second ≡ true
-  pub apart : sameKey first second ≡ false
+record Named (first second : Key) : Type 0 where
+  legal : legalKey first ≡ true
+  legal₂ : legalKey second ≡ true
+  apart : sameKey first second ≡ false
 
-pub named : (first second : Key) → firstOf (nameRows first second) ≡ 0 → Named first second
+named : (first second : Key) → firstOf (nameRows first second) ≡ 0 → Named first second
 unfolding nameRows
 named first second is =
     let one = none-given _ _ _ (λ is. omega (arith, is)) is in
@@ -40,11 +49,11 @@ named first second is =
     record { legal = not-false _ (one .0); legal₂ = not-false _ (two .0); apart = three .0 }
 
 -- two files looked for, at the measures that the code read
-pub record Pair (img : List ℕ) (g : Geometry) (first second : Key) (e : ℕ) (x : Entry) (f : ℕ) (y : Entry) : Type 0 where
-  pub there : findFrom img g first 0 (slots g) ≡ some e
-  pub there₂ : findFrom img g second 0 (slots g) ≡ some f
-  pub entry : x ≡ entryOf img g e
-  pub entry₂ : y ≡ entryOf img g f
+record Pair (img : List ℕ) (g : Geometry) (first second : Key) (e : ℕ) (x : Entry) (f : ℕ) (y : Entry) : Type 0 where
+  there : findFrom img g first 0 (slots g) ≡ some e
+  there₂ : findFrom img g second 0 (slots g) ≡ some f
+  entry : x ≡ entryOf img g e
+  entry₂ : y ≡ entryOf img g f
 
 module _ (img : List ℕ) (g : Geometry) (first second : Key) where
   pub both-first : findFrom img g first 0 (slots g) ≡ none → Missing ≡ bothOf img g first second
@@ -78,7 +87,7 @@ module _ (img : List ℕ) (g : Geometry) (first second : Key) where
         entry₂ = sym entry₂ ∙ ap (entryOf img g) same₂;
       }
 
-  pub both-found : (e : ℕ) (x : Entry) (f : ℕ) (y : Entry) → bothOf img g first second ≡ Files e x f y → Pair img g first second e x f y
+  both-found : (e : ℕ) (x : Entry) (f : ℕ) (y : Entry) → bothOf img g first second ≡ Files e x f y → Pair img g first second e x f y
   unfolding bothOf
   both-found e x f y is = both-by (findFrom img g first 0 (slots g)) (findFrom img g second 0 (slots g)) refl refl e x f y is
 
@@ -90,7 +99,7 @@ module _ (img : List ℕ) (g : Geometry) (first second : Key) where
   both-none (some e) none one two is = inr (e, one, two)
   both-none (some e) (some f) one two is = let z : _≡_ {A = ℕ} 0 1 = cc in absurd (omega arith)
 
-  pub both-missing : bothOf img g first second ≡ Missing
+  both-missing : bothOf img g first second ≡ Missing
       → (findFrom img g first 0 (slots g) ≡ none) ⊎ ((e : ℕ) × (findFrom img g first 0 (slots g) ≡ some e) × (findFrom img g second 0 (slots g) ≡ none))
   unfolding bothOf
   both-missing is = both-none (findFrom img g first 0 (slots g)) (findFrom img g second 0 (slots g)) refl refl is
@@ -100,8 +109,8 @@ found-entry : (img : List ℕ) (key : Key) (g : Geometry) (e : ℕ) (x : Entry) 
 unfolding fileOf entryNo
 found-entry img key g e x measures there is = rw there (is ∙ ap (λ (h : Geometry). entryOf img h e) (sym measures))
 
--- what the rows decide
-module _ (img : List ℕ) (first second : Key) (caller : ℕ) where
+-- what the rows decide in a pack that was opened
+module _ (img : List ℕ) (first second : Key) (caller : ℕ) (opened : Opened) (known : opened ≡ openedOf img) where
   code-decided : {code : ℕ} → firstOf (appndRows img first second caller) ≡ code → (code ≡ 0 → ⊥) → Refused code ≡ appendingOf img first second caller
   unfolding appendingOf onSuccess
   code-decided {code} is never = rw (is, ne-eqb code 0 never)
@@ -110,18 +119,28 @@ module _ (img : List ℕ) (first second : Key) (caller : ℕ) where
   behind : List Row
   behind = row (missing (found img first)) 0o2 ∷ (row (missing (found img second)) 0o2 ∷ permitRows caller (fileOf img first) (fileOf img second))
 
-  pub decided-40 : consistent img ≡ false → Refused 0o40 ≡ appendingOf img first second caller
+  pub decided-40 : opened ≡ Bad → Refused 0o40 ≡ appendingOf img first second caller
   unfolding appndRows nameRows firstOf
-  decided-40 h = code-decided (rw h) (λ is. omega (arith, is))
+  decided-40 bad = code-decided (rw (opened-bad img (sym known ∙ bad))) (λ is. omega (arith, is))
 
-  module _ (right : consistent img ≡ true) where
-    pub decided-named : {code : ℕ} → code ≡ firstOf (nameRows first second) → (code ≡ 0 → ⊥) → Refused code ≡ appendingOf img first second caller
+  module _ (g : Geometry) (good : opened ≡ Good g) (verdict : Verdict) (judged : verdict ≡ verdictOf (nameRows first second)) where
+    right : consistent img ≡ true
+    right = sym (consistent-good img opened g known good)
+
+    measures : geometryOf img ≡ g
+    measures = opened-good img g (sym known ∙ good) .1
+
+    pub decided-named : (code : ℕ) → verdict ≡ Stopped code → Refused code ≡ appendingOf img first second caller
     unfolding appndRows behind
-    decided-named {code} is never =
-        let wrong : firstOf (nameRows first second ++ behind) ≡ code = behind-refused behind (nameRows first second) (sym is) never in
-        code-decided (pass 0o40 (nameRows first second ++ behind) (ap not right) ∙ wrong) never
+    decided-named code told =
+        let r = told-refused (nameRows first second) verdict judged code told in
+        let wrong : firstOf (nameRows first second ++ behind) ≡ code = behind-refused behind (nameRows first second) (r .first) (r .never) in
+        code-decided (pass 0o40 (nameRows first second ++ behind) (ap not right) ∙ wrong) (r .never)
 
-    module _ (names : Named first second) where
+    module _ (clear : verdict ≡ Clear) (both : Both) (sought : both ≡ bothOf img g first second) where
+      names : Named first second
+      names = named first second (told-clear (nameRows first second) verdict judged clear)
+
       decided-first : found img first ≡ none → Refused 0o2 ≡ appendingOf img first second caller
       unfolding appndRows nameRows firstOf
       decided-first h = code-decided (rw (right, names .legal, names .legal₂, names .apart, h)) (λ is. omega (arith, is))
@@ -130,8 +149,8 @@ module _ (img : List ℕ) (first second : Key) (caller : ℕ) where
       unfolding appndRows nameRows firstOf
       decided-second e there h = code-decided (rw (right, names .legal, names .legal₂, names .apart, there, h)) (λ is. omega (arith, is))
 
-      pub decided-missing : (g : Geometry) → geometryOf img ≡ g → bothOf img g first second ≡ Missing → Refused 0o2 ≡ appendingOf img first second caller
-      decided-missing g measures is = by (both-missing img g first second is)
+      pub decided-missing : both ≡ Missing → Refused 0o2 ≡ appendingOf img first second caller
+      decided-missing told = by (both-missing img g first second (sym sought ∙ told))
         where
           by : (findFrom img g first 0 (slots g) ≡ none) ⊎ ((e : ℕ) × (findFrom img g first 0 (slots g) ≡ some e) × (findFrom img g second 0 (slots g) ≡ none))
               → Refused 0o2 ≡ appendingOf img first second caller
@@ -139,9 +158,10 @@ module _ (img : List ℕ) (first second : Key) (caller : ℕ) where
           by (inr two) =
               decided-second (two .0) (found-at img first g (some (two .0)) measures (sym (two .1))) (found-at img second g none measures (sym (two .2)))
 
-      module _ (g : Geometry) (e : ℕ) (x : Entry) (f : ℕ) (y : Entry) (measures : geometryOf img ≡ g) (is : bothOf img g first second ≡ Files e x f y) where
+      module _ (e : ℕ) (x : Entry) (f : ℕ) (y : Entry) (told : both ≡ Files e x f y)
+          (files : Verdict) (permitted : files ≡ verdictOf (permitRows caller x y)) where
         pair : Pair img g first second e x f y
-        pair = both-found img g first second e x f y is
+        pair = both-found img g first second e x f y (sym sought ∙ told)
 
         there-first : found img first ≡ some e
         there-first = found-at img first g (some e) measures (sym (pair .there))
@@ -160,9 +180,20 @@ module _ (img : List ℕ) (first second : Key) (caller : ℕ) where
         unfolding appndRows nameRows permitRows firstOf
         files-decide = rw (right, names .legal, names .legal₂, names .apart, there-first, there-second, x-is, y-is)
 
-        pub decided-forbidden : {code : ℕ} → code ≡ firstOf (permitRows caller x y) → (code ≡ 0 → ⊥) → Refused code ≡ appendingOf img first second caller
-        decided-forbidden code-is never = code-decided (files-decide ∙ sym code-is) never
+        pub decided-forbidden : (code : ℕ) → files ≡ Stopped code → Refused code ≡ appendingOf img first second caller
+        decided-forbidden code refused =
+            let r = told-refused (permitRows caller x y) files permitted code refused in
+            code-decided (files-decide ∙ r .first) (r .never)
 
-        pub decided-join : 0 ≡ firstOf (permitRows caller x y) → Join g e x f y ≡ appendingOf img first second caller
+        pub decided-join : files ≡ Clear → Join g e x f y ≡ appendingOf img first second caller
         unfolding appendingOf onSuccess
-        decided-join clear = rw (files-decide, ← clear, measures, x-is, y-is, sym (number-found img first there-first), sym (number-found img second there-second))
+        decided-join passed =
+            rw (
+              files-decide,
+              told-clear (permitRows caller x y) files permitted passed,
+              measures,
+              x-is,
+              y-is,
+              sym (number-found img first there-first),
+              sym (number-found img second there-second),
+            )

@@ -1,5 +1,5 @@
 -- Means: the rows of tests of APPND; `code-iff` (promises) ties them to the propositions of the paper.
-use Prim.Native.Nat.{ℕ, _+_}
+use Prim.Native.Nat.{ℕ}
 use mathlib.Core.Bool.{not}
 use mathlib.Core.List.{List, [], _∷_, _++_}
 use lib.Dec.{eqb}

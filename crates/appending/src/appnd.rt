@@ -1,10 +1,12 @@
 // APPND: the chain of one linked file joined to that of another.
 ghost use mathlib.Core.Path.{_≡_};
 ghost use Rattle.pack.specs.GeometrySized.{Sized};
-ghost use Rattle.answers.specs.Refusals.{firstOf};
+ghost use Rattle.answers.specs.Stage.{verdictOf};
+ghost use Rattle.consistency.specs.ConsistentTest.{openedOf};
 ghost use Rattle.appending.specs.AppndRows.{nameRows, permitRows};
 ghost use Rattle.appending.specs.Appnd.{chainJoined, appnd};
 ghost use Rattle.appending.specs.AppndStage.{bothOf, appendingOf, Joinable};
+use answers::Verdict;
 use asking::Found;
 use asking::Grant;
 use asking::Right;
@@ -25,20 +27,19 @@ enum Appending {
     Refused(usize),
 }
 
-// The code of what is wrong with two names, 0 where nothing is.
-fn judge_names(first: Key, second: Key) -> usize
-    ensures { λ r. ⌜ r ≡ firstOf (nameRows first second) ⌝ }
+fn judge_names(first: Key, second: Key) -> Verdict
+    ensures { λ r. ⌜ r ≡ verdictOf (nameRows first second) ⌝ }
 {
     if !asking::is_legal(first) {
-        return 0o15;
+        return Verdict::Refused(0o15);
     }
     if !asking::is_legal(second) {
-        return 0o15;
+        return Verdict::Refused(0o15);
     }
     if pack::is_same_key(first, second) {
-        return 0o41;
+        return Verdict::Refused(0o41);
     }
-    0
+    Verdict::Clear
 }
 
 fn find_both(img: &[u8], g: Geometry, first: Key, second: Key) -> Both
@@ -56,49 +57,46 @@ fn find_both(img: &[u8], g: Geometry, first: Key, second: Key) -> Both
     Both::Files(e, x, f, y)
 }
 
-// The code of what forbids joining two files, 0 where nothing does.
-fn judge_files(caller: usize, x: Entry, y: Entry) -> usize
-    ensures { λ r. ⌜ r ≡ firstOf (permitRows caller x y) ⌝ }
+fn judge_files(caller: usize, x: Entry, y: Entry) -> Verdict
+    ensures { λ r. ⌜ r ≡ verdictOf (permitRows caller x y) ⌝ }
 {
     let Grant::Granted = asking::ask_right(Right::Write, caller, x) else {
-        return 0o6;
+        return Verdict::Refused(0o6);
     };
     let Grant::Granted = asking::ask_right(Right::Delete, caller, y) else {
-        return 0o6;
+        return Verdict::Refused(0o6);
     };
     if x.kind == 1 {
-        return 0o43;
+        return Verdict::Refused(0o43);
     }
     if y.kind == 1 {
-        return 0o43;
+        return Verdict::Refused(0o43);
     }
     if asking::is_open(x) {
-        return 0o14;
+        return Verdict::Refused(0o14);
     }
     if asking::is_open(y) {
-        return 0o14;
+        return Verdict::Refused(0o14);
     }
-    0
+    Verdict::Clear
 }
 
 // All that can refuse, in the order of the table; nothing is written here.
-fn decide_append(img: &[u8], first: Key, second: Key, caller: usize) -> Appending
+fn decide_appnd(img: &[u8], opened: Opened, first: Key, second: Key, caller: usize) -> Appending
+    requires { ⌜ opened ≡ openedOf (now img) ⌝ }
     ensures { λ r. ⌜ r ≡ appendingOf (now (img .entry)) first second caller ⌝ }
 {
-    let mut map = [0u8; pack::MOST_BLOCKS];
-    let Opened::Good(g) = consistency::open_pack(img, &mut map) else {
+    let Opened::Good(g) = opened else {
         return Appending::Refused(0o40);
     };
-    let wrong = judge_names(first, second);
-    if wrong != 0 {
-        return Appending::Refused(wrong);
+    if let Verdict::Refused(code) = judge_names(first, second) {
+        return Appending::Refused(code);
     }
     let Both::Files(e, x, f, y) = find_both(img, g, first, second) else {
         return Appending::Refused(0o2);
     };
-    let forbidden = judge_files(caller, x, y);
-    if forbidden != 0 {
-        return Appending::Refused(forbidden);
+    if let Verdict::Refused(code) = judge_files(caller, x, y) {
+        return Appending::Refused(code);
     }
     Appending::Join(g, e, x, f, y)
 }
@@ -118,11 +116,21 @@ fn join(img: &mut [u8], g: Geometry, e: usize, x: Entry, y: Entry)
     bodies::resize(img, g, e, x.first, x.length + y.length, y.last);
 }
 
-pub fn append(img: &mut [u8], first: Key, second: Key, caller: usize) -> usize
+pub fn appnd(img: &mut [u8], first: Key, second: Key, caller: usize) -> usize
     ensures { λ r. ⌜ r ≡ appnd (now (img .entry)) first second caller .code ⌝ }
     ensures { λ r. ⌜ now (img .exit) ≡ appnd (now (img .entry)) first second caller .image ⌝ }
 {
-    match decide_append(img, first, second, caller) {
+    let opened = consistency::open_pack(img);
+    appnd_opened(img, opened, first, second, caller)
+}
+
+// In a pack that was opened.
+pub fn appnd_opened(img: &mut [u8], opened: Opened, first: Key, second: Key, caller: usize) -> usize
+    requires { ⌜ opened ≡ openedOf (now img) ⌝ }
+    ensures { λ r. ⌜ r ≡ appnd (now (img .entry)) first second caller .code ⌝ }
+    ensures { λ r. ⌜ now (img .exit) ≡ appnd (now (img .entry)) first second caller .image ⌝ }
+{
+    match decide_appnd(img, opened, first, second, caller) {
         Appending::Refused(code) => code,
         Appending::Join(g, e, x, f, y) => {
             join(img, g, e, x, y);
