@@ -10,13 +10,12 @@ use crate::conversions::{bin2d, bin2o, d2bin, o2bin, radpk, radup};
 use crate::listing::listing;
 use crate::pack::consistency::examine;
 use crate::pack::entry::{self, Entry, CONTIGUOUS, LINKED, OUTPUT};
-use crate::pack::form::{BLOCK_BYTES, PAYLOAD_BYTES};
-use crate::pack::link;
+use crate::pack::form::{Form, ALL, SEGMENT_BYTES};
 use crate::pack::owner::Owner;
 use crate::pack::rights::rights;
 use crate::refusal::{LineRefusal, Refusal};
 use crate::requests::{self, File};
-use crate::words::word;
+use crate::words::{set_word, word};
 
 /// The UICs of the examples.
 const OWNER: usize = 0o23 * 256 + 0o10;
@@ -30,11 +29,27 @@ fn file(name: &str, extension: &str) -> File {
     File { name1: packed(&name[..3]), name2: packed(&name[3..]), extension: packed(&extension), uic: 0 }
 }
 
-/// An empty pack of 16 blocks, one of contents, for the owner.
-fn smallest() -> Vec<u8> {
-    let mut image = vec![0o252; 16 * BLOCK_BYTES];
-    requests::format(&mut image, 1, 16, 1, &(OWNER as u16).to_le_bytes()).expect("the arguments are good");
+/// The blocks of contents of a pack of 16 entries.
+fn contents(form: Form) -> usize {
+    16 / form.entries_per_block()
+}
+
+/// An empty pack of so many blocks and of 16 entries.
+fn pack(form: Form, blocks: usize, uics: &[usize]) -> Vec<u8> {
+    let mut image = vec![0o252; blocks * form.block_bytes()];
+    let uics: Vec<u8> = uics.iter().flat_map(|&uic| (uic as u16).to_le_bytes()).collect();
+    requests::format(&mut image, form.word as usize, blocks, contents(form), &uics).expect("the arguments are good");
     image
+}
+
+/// Such a pack of 16 blocks, for the owner.
+fn smallest(form: Form) -> Vec<u8> {
+    pack(form, 16, &[OWNER])
+}
+
+/// The bodies of the smallest pack; the highest is block 15.
+fn bodies(form: Form) -> usize {
+    16 - form.first_body(contents(form))
 }
 
 fn specification(line: &str, side: usize, k: usize) -> SpecificationAnswer {
@@ -156,55 +171,103 @@ fn bounds_of_numbers() {
     assert_eq!(csi2(b"[400,1]/S", 0, 0, &mut []), Err(Refusal::Number.into()));
 }
 
+/// Format takes each number at its bound and refuses it beyond, and so does the check.
+#[test]
+fn bounds_of_each_form() {
+    for &form in ALL {
+        let Form { least_blocks, most_blocks, most_contents, most_uics, .. } = form;
+        let formats = |blocks: usize, contents: usize, uics: usize| {
+            let mut image = vec![0; form.block_bytes() * blocks];
+            let uics: Vec<u8> = (1..=uics as u16).flat_map(u16::to_le_bytes).collect();
+            let formatted = requests::format(&mut image, form.word as usize, blocks, contents, &uics).is_ok();
+            assert_eq!(formatted, examine(&image).is_ok());
+            formatted
+        };
+        assert!(formats(least_blocks, 1, 0) && !formats(least_blocks - 1, 1, 0));
+        assert!(formats(most_blocks, 1, 0) && !formats(most_blocks + 1, 1, 0));
+        assert!(!formats(least_blocks, 0, 0));
+        assert!(formats(most_blocks, most_contents, 0) && !formats(most_blocks, most_contents + 1, 0));
+        assert!(formats(least_blocks, 1, most_uics) && !formats(least_blocks, 1, most_uics + 1));
+        // One block is a body.
+        let most = most_contents.min(least_blocks - form.first_body(1));
+        assert!(formats(least_blocks, most, 0) && !formats(least_blocks, most + 1, 0));
+    }
+}
+
+#[test]
+fn numbers_that_name_no_form() {
+    let unknown = (0..9).chain([257, 65537, usize::MAX]).filter(|&number| Form::of_word(number).is_none());
+    for number in unknown {
+        let mut image = smallest(Form::ONE);
+        assert_eq!(requests::format(&mut image, number, 16, 1, &[]), Err(Refusal::Argument));
+        assert_eq!(image, smallest(Form::ONE));
+        if let Ok(word) = u16::try_from(number) {
+            set_word(&mut image, 0, word);
+            assert_eq!(requests::look(&image, OWNER, file("A", "")), Err(Refusal::Inconsistent));
+        }
+    }
+}
+
 #[test]
 fn p13_rights() {
-    let mut image = smallest();
-    requests::alloc(&mut image, OWNER, file("FREQ", "DAT"), 3, 9).expect("there is room");
-    let entry = Entry::read(entry::bytes(&image, 0));
-    let stranger = rights(STRANGER, &entry);
-    assert!(stranger.read && !stranger.write && !stranger.delete);
-    let owner = rights(OWNER, &entry);
-    assert!(owner.read && owner.write && owner.delete);
+    for &form in ALL {
+        let mut image = smallest(form);
+        requests::alloc(&mut image, OWNER, file("FREQ", "DAT"), 3, 9).expect("there is room");
+        let entry = Entry::read(form.entry(&image, 0));
+        let stranger = rights(STRANGER, &entry);
+        assert!(stranger.read && !stranger.write && !stranger.delete);
+        let owner = rights(OWNER, &entry);
+        assert!(owner.read && owner.write && owner.delete);
+    }
 }
 
 #[test]
 fn highest_run_of_rounded_length() {
-    let mut image = smallest();
-    assert_eq!(requests::alloc(&mut image, OWNER, file("A", ""), 0, 57), Err(Refusal::NoRoom));
-    assert_eq!(requests::alloc(&mut image, OWNER, file("A", ""), 0, 56), Ok(2));
-    assert_eq!(requests::alloc(&mut image, OWNER, file("B", ""), 0, usize::MAX), Err(Refusal::NoRoom));
+    for &form in ALL {
+        let mut image = smallest(form);
+        let all = bodies(form) * form.segments;
+        assert_eq!(requests::alloc(&mut image, OWNER, file("A", ""), 0, all + 1), Err(Refusal::NoRoom));
+        assert_eq!(requests::alloc(&mut image, OWNER, file("A", ""), 0, all), Ok(16 - bodies(form)));
+        assert_eq!(requests::alloc(&mut image, OWNER, file("B", ""), 0, usize::MAX), Err(Refusal::NoRoom));
+    }
 }
 
 #[test]
 fn new_file_is_all_zero() {
-    let mut image = smallest();
-    image[2 * BLOCK_BYTES..].fill(0xA5);
-    let before = image.clone();
-    assert_eq!(requests::alloc(&mut image, OWNER, file("A", ""), 0, 57), Err(Refusal::NoRoom));
-    assert_eq!(image, before);
-    assert_eq!(requests::alloc(&mut image, OWNER, file("A", ""), 0, 4), Ok(15));
-    assert_eq!(requests::alloc(&mut image, OWNER, file("B", ""), 0, 9), Ok(12));
-    let kept = [0xA5; BLOCK_BYTES];
-    assert_eq!(image[11 * BLOCK_BYTES..12 * BLOCK_BYTES], kept);
-    assert!(image[12 * BLOCK_BYTES..].iter().all(|&byte| byte == 0));
-    image[15 * BLOCK_BYTES..].copy_from_slice(&kept);
-    assert_eq!(requests::delet(&mut image, OWNER, file("B", "")), Ok(()));
-    assert_eq!(requests::alloc(&mut image, OWNER, file("C", ""), 0, 8), Ok(13));
-    assert_eq!(image[15 * BLOCK_BYTES..], kept);
+    for &form in ALL {
+        let mut image = smallest(form);
+        let start = |block: usize| block * form.block_bytes();
+        image[start(16 - bodies(form))..].fill(0xA5);
+        let before = image.clone();
+        let all = bodies(form) * form.segments;
+        assert_eq!(requests::alloc(&mut image, OWNER, file("A", ""), 0, all + 1), Err(Refusal::NoRoom));
+        assert_eq!(image, before);
+        assert_eq!(requests::alloc(&mut image, OWNER, file("A", ""), 0, form.segments), Ok(15));
+        assert_eq!(requests::alloc(&mut image, OWNER, file("B", ""), 0, 2 * form.segments + 1), Ok(12));
+        let kept = vec![0xA5; form.block_bytes()];
+        assert_eq!(image[start(11)..start(12)], kept);
+        assert!(image[start(12)..].iter().all(|&byte| byte == 0));
+        image[start(15)..].copy_from_slice(&kept);
+        assert_eq!(requests::delet(&mut image, OWNER, file("B", "")), Ok(()));
+        assert_eq!(requests::alloc(&mut image, OWNER, file("C", ""), 0, 2 * form.segments), Ok(13));
+        assert_eq!(image[start(15)..], kept);
+    }
 }
 
 #[test]
 fn append_to_itself() {
-    let mut image = smallest();
-    let bad = File { name1: 64000, ..file("A", "") };
-    assert_eq!(requests::appnd(&mut image, OWNER, bad, bad), Err(Refusal::Name));
-    let good = file("A", "");
-    assert_eq!(requests::appnd(&mut image, OWNER, good, File { uic: OWNER, ..good }), Err(Refusal::Argument));
+    for &form in ALL {
+        let mut image = smallest(form);
+        let bad = File { name1: 64000, ..file("A", "") };
+        assert_eq!(requests::appnd(&mut image, OWNER, bad, bad), Err(Refusal::Name));
+        let good = file("A", "");
+        assert_eq!(requests::appnd(&mut image, OWNER, good, File { uic: OWNER, ..good }), Err(Refusal::Argument));
+    }
 }
 
 #[test]
 fn listing_of_the_example() {
-    let mut image = smallest();
+    let mut image = smallest(Form::ONE);
     assert_eq!(requests::alloc(&mut image, OWNER, file("FREQ", "DAT"), 3, 9), Ok(13));
     assert_eq!(listing(&image), "BLOCKS 00016 FREE 00011\nFREQ  .DAT C 00003 [023,010] 003\n");
     assert_eq!(listing(&image[1..]), "REFUSED 40\n");
@@ -227,68 +290,80 @@ fn device_needs_its_colon() {
 
 #[test]
 fn empty_files_are_joined_without_a_link() {
-    let mut image = smallest();
-    let payload = [0o125; PAYLOAD_BYTES];
-    for name in ["A", "B", "C"] {
-        requests::openo(&mut image, OWNER, file(name, ""), 0).expect("there is an entry");
-        if name != "A" {
-            requests::linked_add(&mut image, OWNER, file(name, ""), &payload).expect("there is room");
+    for &form in ALL {
+        let mut image = smallest(form);
+        let payload = vec![0o125; form.payload_bytes()];
+        for name in ["A", "B", "C"] {
+            requests::openo(&mut image, OWNER, file(name, ""), 0).expect("there is an entry");
+            if name != "A" {
+                requests::linked_add(&mut image, OWNER, file(name, ""), &payload).expect("there is room");
+            }
+            requests::close(&mut image, OWNER, file(name, ""), OUTPUT as usize).expect("it was opened so");
         }
-        requests::close(&mut image, OWNER, file(name, ""), OUTPUT as usize).expect("it was opened so");
+        let header = form.block(&image, 0).to_vec();
+        assert_eq!(requests::appnd(&mut image, OWNER, file("A", ""), file("B", "")), Ok(()));
+        assert_eq!(requests::appnd(&mut image, OWNER, file("A", ""), file("C", "")), Ok(()));
+        assert_eq!(form.block(&image, 0), header);
+        let found = requests::look(&image, OWNER, file("A", "")).expect("it is there");
+        assert_eq!((found.kind, found.first, found.length, found.last), (LINKED, 15, 2, 14));
+        assert_eq!((form.link(&image, 15), form.link(&image, 14)), (14, 0));
+        assert_eq!(requests::owner(&image, 14), Ok(Owner::Held { entry: 0, place: 1 }));
+        assert_eq!(requests::owner(&image, 13), Ok(Owner::Free));
+        assert_eq!(requests::owner(&image, 1), Ok(Owner::System));
+        assert_eq!(requests::owner(&image, 16), Err(Refusal::NoBlock));
     }
-    let header = image[..BLOCK_BYTES].to_vec();
-    assert_eq!(requests::appnd(&mut image, OWNER, file("A", ""), file("B", "")), Ok(()));
-    assert_eq!(requests::appnd(&mut image, OWNER, file("A", ""), file("C", "")), Ok(()));
-    assert_eq!(image[..BLOCK_BYTES], header);
-    let found = requests::look(&image, OWNER, file("A", "")).expect("it is there");
-    assert_eq!((found.kind, found.first, found.length, found.last), (LINKED, 15, 2, 14));
-    assert_eq!((link(&image, 15), link(&image, 14)), (14, 0));
-    assert_eq!(requests::owner(&image, 14), Ok(Owner::Held { entry: 0, place: 1 }));
-    assert_eq!(requests::owner(&image, 13), Ok(Owner::Free));
-    assert_eq!(requests::owner(&image, 1), Ok(Owner::System));
-    assert_eq!(requests::owner(&image, 16), Err(Refusal::NoBlock));
 }
 
 #[test]
 fn full_directory_comes_before_no_room() {
-    let mut image = smallest();
-    for index in 0..14 {
-        let name = file(&format!("F{index}"), "");
-        requests::alloc(&mut image, OWNER, name, 0, 4).expect("there is room");
+    for &form in ALL {
+        let mut image = smallest(form);
+        for index in 0..bodies(form) {
+            let name = file(&format!("F{index}"), "");
+            requests::alloc(&mut image, OWNER, name, 0, form.segments).expect("there is room");
+        }
+        assert_eq!(requests::alloc(&mut image, OWNER, file("G", ""), 0, 1), Err(Refusal::NoRoom));
+        for index in bodies(form)..16 {
+            requests::openo(&mut image, OWNER, file(&format!("G{index}"), ""), 0).expect("there is an entry");
+        }
+        assert_eq!(requests::alloc(&mut image, OWNER, file("H", ""), 0, 1), Err(Refusal::NoEntry));
     }
-    assert_eq!(requests::alloc(&mut image, OWNER, file("G", ""), 0, 1), Err(Refusal::NoRoom));
-    for name in ["G", "H"] {
-        requests::openo(&mut image, OWNER, file(name, ""), 0).expect("there is an entry");
-    }
-    assert_eq!(requests::alloc(&mut image, OWNER, file("I", ""), 0, 1), Err(Refusal::NoEntry));
 }
 
 #[test]
 fn transfers() {
-    let mut image = smallest();
-    let contiguous = file("A", "");
-    requests::alloc(&mut image, OWNER, contiguous, 0, 8).expect("there is room");
-    requests::openu(&mut image, OWNER, contiguous).expect("it is closed");
-    let mut block = [7; BLOCK_BYTES];
-    assert_eq!(requests::block_out(&mut image, OWNER, contiguous, 1, &block), Ok(()));
-    assert_eq!(requests::block_out(&mut image, OWNER, contiguous, 2, &block), Err(Refusal::NoBlock));
-    block.fill(0);
-    assert_eq!(requests::block_in(&image, OWNER, contiguous, 1, &mut block), Ok(()));
-    assert_eq!(block, [7; BLOCK_BYTES]);
+    for &form in ALL {
+        let mut image = smallest(form);
+        let contiguous = file("A", "");
+        requests::alloc(&mut image, OWNER, contiguous, 0, 2 * form.segments).expect("there is room");
+        requests::openu(&mut image, OWNER, contiguous).expect("it is closed");
+        let mut block = vec![7; form.block_bytes()];
+        assert_eq!(requests::block_out(&mut image, OWNER, contiguous, 1, &block), Ok(()));
+        assert_eq!(requests::block_out(&mut image, OWNER, contiguous, 2, &block), Err(Refusal::NoBlock));
+        let devices = [1, 4].map(|segments| SEGMENT_BYTES * segments);
+        for size in devices.into_iter().filter(|&size| size != form.block_bytes()) {
+            let mut buffer = vec![7; size];
+            assert_eq!(requests::block_out(&mut image, OWNER, contiguous, 0, &buffer), Err(Refusal::Argument));
+            assert_eq!(requests::block_in(&image, OWNER, contiguous, 0, &mut buffer), Err(Refusal::Argument));
+        }
+        block.fill(0);
+        assert_eq!(requests::block_in(&image, OWNER, contiguous, 1, &mut block), Ok(()));
+        assert!(block.iter().all(|&byte| byte == 7));
 
-    let linked = file("B", "");
-    requests::openo(&mut image, OWNER, linked, 0).expect("there is an entry");
-    let mut payload = [9; PAYLOAD_BYTES];
-    assert_eq!(requests::linked_add(&mut image, OWNER, linked, &payload), Ok(13));
-    assert_eq!(requests::linked_add(&mut image, OWNER, linked, &payload), Ok(12));
-    assert_eq!(requests::linked_read(&image, OWNER, linked, 0, &mut payload), Err(Refusal::NotOpen));
-    requests::close(&mut image, OWNER, linked, OUTPUT as usize).expect("it was opened so");
-    requests::openi(&mut image, OWNER, linked).expect("it is closed");
-    payload.fill(0);
-    assert_eq!(requests::linked_read(&image, OWNER, linked, 1, &mut payload), Ok(()));
-    assert_eq!(payload, [9; PAYLOAD_BYTES]);
-    assert_eq!(requests::linked_read(&image, OWNER, linked, 2, &mut payload), Err(Refusal::NoBlock));
-    assert!(examine(&image).is_ok());
+        let linked = file("B", "");
+        requests::openo(&mut image, OWNER, linked, 0).expect("there is an entry");
+        let mut payload = vec![9; form.payload_bytes()];
+        assert_eq!(requests::linked_add(&mut image, OWNER, linked, &payload), Ok(13));
+        assert_eq!(requests::linked_add(&mut image, OWNER, linked, &payload), Ok(12));
+        assert_eq!(requests::linked_read(&image, OWNER, linked, 0, &mut payload), Err(Refusal::NotOpen));
+        requests::close(&mut image, OWNER, linked, OUTPUT as usize).expect("it was opened so");
+        requests::openi(&mut image, OWNER, linked).expect("it is closed");
+        payload.fill(0);
+        assert_eq!(requests::linked_read(&image, OWNER, linked, 1, &mut payload), Ok(()));
+        assert!(payload.iter().all(|&byte| byte == 9));
+        assert_eq!(requests::linked_read(&image, OWNER, linked, 2, &mut payload), Err(Refusal::NoBlock));
+        assert!(examine(&image).is_ok());
+    }
 }
 
 #[test]
@@ -341,18 +416,20 @@ fn two_writings_of_the_grammar_agree() {
 
 #[test]
 fn consistency_at_its_edges() {
-    let mut image = smallest();
-    requests::alloc(&mut image, OWNER, file("A", ""), 0, 56).expect("there is room");
-    assert!(examine(&image).is_ok());
-    let with = |index: usize, value: u16| {
-        let mut changed = image.clone();
-        crate::words::set_word(entry::bytes_mut(&mut changed, 0), index, value);
-        examine(&changed).is_ok()
-    };
-    assert!(with(entry::READERS, 62) && !with(entry::READERS, 63));
-    assert!(with(entry::WRITER, 1) && !with(entry::WRITER, 2));
-    assert!(with(entry::PROTECT, 255) && !with(entry::PROTECT, 256));
-    assert!(!with(entry::FIRST, 1) && !with(entry::LENGTH, 15) && !with(entry::LAST, 14));
-    assert!(!with(5, LINKED) && with(5, CONTIGUOUS) && !with(11, 1));
-    assert!(!with(entry::NAME2, 1600) && !with(entry::NAME1, 27 * 1600) && !with(entry::EXTENSION, 1));
+    for &form in ALL {
+        let mut image = smallest(form);
+        requests::alloc(&mut image, OWNER, file("A", ""), 0, bodies(form) * form.segments).expect("there is room");
+        assert!(examine(&image).is_ok());
+        let with = |index: usize, value: u16| {
+            let mut changed = image.clone();
+            set_word(form.entry_mut(&mut changed, 0), index, value);
+            examine(&changed).is_ok()
+        };
+        assert!(with(entry::READERS, 62) && !with(entry::READERS, 63));
+        assert!(with(entry::WRITER, 1) && !with(entry::WRITER, 2));
+        assert!(with(entry::PROTECT, 255) && !with(entry::PROTECT, 256));
+        assert!(!with(entry::FIRST, 1) && !with(entry::LENGTH, bodies(form) as u16 + 1) && !with(entry::LAST, 14));
+        assert!(!with(5, LINKED) && with(5, CONTIGUOUS) && !with(11, 1));
+        assert!(!with(entry::NAME2, 1600) && !with(entry::NAME1, 27 * 1600) && !with(entry::EXTENSION, 1));
+    }
 }

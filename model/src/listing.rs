@@ -18,7 +18,7 @@ pub fn listing(image: &[u8]) -> String {
     let free = (0..blocks).filter(|&block| pack.is_free(block)).count();
     let mut text = format!("BLOCKS {blocks:05} FREE {free:05}\n");
     for index in 0..pack.header.entries() {
-        let bytes = entry::bytes(image, index);
+        let bytes = pack.form().entry(image, index);
         if entry::is_empty(bytes) {
             continue;
         }

@@ -3,9 +3,9 @@
 use crate::pack::blocks::BlockSet;
 use crate::pack::consistency::examine;
 use crate::pack::entry::{self, Entry, CONTIGUOUS, EXTEND, LINKED, MOST_OPENS, OUTPUT, UPDATE};
-use crate::pack::form::{BLOCK_BYTES, FORM, MOST_UICS};
-use crate::pack::header::{is_blocks, is_contents, FIRST_UIC};
-use crate::pack::{link, name};
+use crate::pack::form::Form;
+use crate::pack::header::FIRST_UIC;
+use crate::pack::name;
 use crate::words::word;
 
 /// The rule, 0 where none fails, and what it names; 0 in a member that it does not name.
@@ -61,18 +61,20 @@ pub fn report(image: &[u8]) -> ReportAnswer {
 }
 
 fn first_fault(image: &[u8]) -> Option<Fault> {
-    if image.len() < 4 || image.len() != BLOCK_BYTES * word(image, 1) as usize {
+    // Where word 0 names no form the blocks are taken to be those of form 1.
+    let form = Form::of_image(image).unwrap_or(Form::ONE);
+    if image.len() < 4 || image.len() != form.block_bytes() * word(image, 1) as usize {
         return Some(Fault::Size);
     }
-    if let Some(word) = (0..BLOCK_BYTES / 2).find(|&at| !is_header_word(image, at)) {
+    if let Some(word) = (0..form.block_words()).find(|&at| !is_header_word(form, image, at)) {
         return Some(Fault::Header { word });
     }
-    let entries = BLOCK_BYTES / 32 * word(image, 2) as usize;
+    let entries = form.entries_per_block() * word(image, 2) as usize;
     let mut files = Vec::new();
     for index in 0..entries {
-        let bytes = entry::bytes(image, index);
+        let bytes = form.entry(image, index);
         if !entry::is_empty(bytes) {
-            let file = File { image, index, entry: Entry::read(bytes) };
+            let file = File { form, image, index, entry: Entry::read(bytes) };
             if let Some(fault) = file.word_fault(&files).or_else(|| file.blocks_fault()) {
                 return Some(fault);
             }
@@ -83,14 +85,14 @@ fn first_fault(image: &[u8]) -> Option<Fault> {
 }
 
 /// A word of block 0, alone.
-fn is_header_word(image: &[u8], at: usize) -> bool {
+fn is_header_word(form: Form, image: &[u8], at: usize) -> bool {
     let value = word(image, at) as usize;
     let behind = FIRST_UIC + word(image, 3) as usize;
     match at {
-        0 => value == FORM as usize,
-        1 => is_blocks(value),
-        2 => is_contents(value) && value + 1 < word(image, 1) as usize,
-        3 => value <= MOST_UICS,
+        0 => value == form.word as usize,
+        1 => form.is_blocks(value),
+        2 => form.is_contents(value, word(image, 1) as usize),
+        3 => value <= form.most_uics,
         // "of two equal UICs the later word"
         _ if at < behind => value != 0 && (FIRST_UIC..at).all(|before| word(image, before) as usize != value),
         _ => value == 0,
@@ -99,6 +101,7 @@ fn is_header_word(image: &[u8], at: usize) -> bool {
 
 /// An entry in use.
 struct File<'a> {
+    form: Form,
     image: &'a [u8],
     index: usize,
     entry: Entry,
@@ -141,41 +144,52 @@ impl File<'_> {
         if x.opens() > MOST_OPENS as u32 {
             return fault(10);
         }
-        let bytes = entry::bytes(self.image, entry);
+        let bytes = self.form.entry(self.image, entry);
         (11..16).find(|&at| word(bytes, at) != 0).and_then(fault)
     }
 
     fn is_body(&self, block: usize) -> bool {
-        block > word(self.image, 2) as usize && block < word(self.image, 1) as usize
+        block >= self.form.first_body(word(self.image, 2) as usize) && block < word(self.image, 1) as usize
     }
 
     /// "then the file's extent or chain".
     fn blocks_fault(&self) -> Option<Fault> {
-        let (entry, x) = (self.index, &self.entry);
-        let (first, length, last) = (x.first as usize, x.length as usize, x.last as usize);
-        let fault = |word| Some(Fault::Extent { entry, word });
-        if x.kind == CONTIGUOUS {
-            return if !self.is_body(first) {
-                fault(6)
-            } else if length == 0 || !self.is_body(first + length - 1) {
-                fault(7)
-            } else if last != first + length - 1 {
-                fault(8)
-            } else {
-                None
-            };
+        let Entry { kind, first, length, last, .. } = self.entry;
+        let [first, length, last] = [first, length, last].map(usize::from);
+        if kind == CONTIGUOUS {
+            self.extent_fault(first, length, last)
+        } else {
+            self.chain_fault(first, length, last)
         }
+    }
+
+    fn extent_fault(&self, first: usize, length: usize, last: usize) -> Option<Fault> {
+        let fault = |word| Some(Fault::Extent { entry: self.index, word });
+        if !self.is_body(first) {
+            fault(6)
+        } else if length == 0 || !self.is_body(first + length - 1) {
+            fault(7)
+        } else if last != first + length - 1 {
+            fault(8)
+        } else {
+            None
+        }
+    }
+
+    fn chain_fault(&self, first: usize, length: usize, last: usize) -> Option<Fault> {
+        let entry = self.index;
+        let fault = |word| Some(Fault::Extent { entry, word });
         if length == 0 {
             return if first != 0 { fault(6) } else { (last != 0).then(|| fault(8)).flatten() };
         }
         if !self.is_body(first) {
             return fault(6);
         }
-        let mut met = BlockSet::new();
+        let mut met = BlockSet::new(word(self.image, 1) as usize);
         met.insert(first);
         let mut block = first;
         for _ in 1..length {
-            let next = link(self.image, block);
+            let next = self.form.link(self.image, block);
             if !self.is_body(next) {
                 return Some(Fault::Link { entry, block });
             }
@@ -187,14 +201,14 @@ impl File<'_> {
         if block != last {
             return fault(8);
         }
-        (link(self.image, block) != 0).then_some(Fault::End { entry, block })
+        (self.form.link(self.image, block) != 0).then_some(Fault::End { entry, block })
     }
 
     /// The blocks of a file in which nothing is wrong.
     fn blocks(&self) -> Vec<usize> {
         let first = self.entry.first as usize;
-        let next =
-            |&block: &usize| Some(if self.entry.kind == CONTIGUOUS { block + 1 } else { link(self.image, block) });
+        let contiguous = self.entry.kind == CONTIGUOUS;
+        let next = |&block: &usize| Some(if contiguous { block + 1 } else { self.form.link(self.image, block) });
         std::iter::successors(Some(first), next).take(self.entry.length as usize).collect()
     }
 }
@@ -214,18 +228,20 @@ fn shared(image: &[u8], files: &[File]) -> Option<Fault> {
 #[cfg(test)]
 mod tests {
     use super::*;
+    use crate::pack::form::ALL;
     use crate::requests::{self, File as Name};
     use crate::words::set_word;
 
     const OWNER: usize = 0o23 * 256 + 0o10;
 
     /// Three contiguous files of two blocks each: 14 and 15, 12 and 13, 10 and 11.
-    fn pack() -> Vec<u8> {
-        let mut image = vec![0; 16 * BLOCK_BYTES];
-        requests::format(&mut image, 1, 16, 1, &(OWNER as u16).to_le_bytes()).expect("the arguments are good");
+    fn pack(form: Form) -> Vec<u8> {
+        let mut image = vec![0; 16 * form.block_bytes()];
+        let uics = (OWNER as u16).to_le_bytes();
+        requests::format(&mut image, form.word as usize, 16, 1, &uics).expect("the arguments are good");
         for number in 1..4 {
             let file = Name { name1: 1600 * number, name2: 0, extension: 0, uic: 0 };
-            requests::alloc(&mut image, OWNER, file, 0, 8).expect("there is room");
+            requests::alloc(&mut image, OWNER, file, 0, 2 * form.segments).expect("there is room");
         }
         image
     }
@@ -237,31 +253,46 @@ mod tests {
 
     #[test]
     fn in_order() {
-        let mut image = pack();
-        assert_eq!(told(&image), [0; 4]);
-        set_word(entry::bytes_mut(&mut image, 2), 6, 13);
-        set_word(entry::bytes_mut(&mut image, 2), 8, 14);
-        assert_eq!(told(&image), [9, 2, 0, 13]);
-        set_word(entry::bytes_mut(&mut image, 1), 9, 3);
-        assert_eq!(told(&image), [3, 1, 9, 0]);
-        set_word(entry::bytes_mut(&mut image, 1), 0, 1600);
-        assert_eq!(told(&image), [4, 1, 3, 0]);
-        set_word(&mut image, 5, OWNER as u16);
-        assert_eq!(told(&image), [2, 0, 5, 0]);
-        image.pop();
-        assert_eq!(told(&image), [1, 0, 0, 0]);
-        for length in 0..8 {
-            assert_eq!(told(&image[..length]), [1, 0, 0, 0]);
+        for form in ALL {
+            let mut image = pack(*form);
+            assert_eq!(told(&image), [0; 4]);
+            set_word(form.entry_mut(&mut image, 2), 6, 13);
+            set_word(form.entry_mut(&mut image, 2), 8, 14);
+            assert_eq!(told(&image), [9, 2, 0, 13]);
+            set_word(form.entry_mut(&mut image, 1), 9, 3);
+            assert_eq!(told(&image), [3, 1, 9, 0]);
+            set_word(form.entry_mut(&mut image, 1), 0, 1600);
+            assert_eq!(told(&image), [4, 1, 3, 0]);
+            set_word(&mut image, 5, OWNER as u16);
+            assert_eq!(told(&image), [2, 0, 5, 0]);
+            image.pop();
+            assert_eq!(told(&image), [1, 0, 0, 0]);
+            for length in 0..8 {
+                assert_eq!(told(&image[..length]), [1, 0, 0, 0]);
+            }
         }
     }
 
     #[test]
     fn second_of_three() {
-        let mut image = pack();
-        for index in 1..3 {
-            set_word(entry::bytes_mut(&mut image, index), 6, 14);
-            set_word(entry::bytes_mut(&mut image, index), 8, 15);
+        for form in ALL {
+            let mut image = pack(*form);
+            for index in 1..3 {
+                set_word(form.entry_mut(&mut image, index), 6, 14);
+                set_word(form.entry_mut(&mut image, index), 8, 15);
+            }
+            assert_eq!(told(&image), [9, 1, 0, 14]);
         }
-        assert_eq!(told(&image), [9, 1, 0, 14]);
+    }
+
+    /// An image whose word 0 names no form has the size of a pack of form 1, or none.
+    #[test]
+    fn no_form() {
+        let mut image = pack(Form::ONE);
+        for word in [0, 4, 257, 65535] {
+            set_word(&mut image, 0, word);
+            assert_eq!(told(&image), [2, 0, 0, 0]);
+            assert_eq!(told(&image[..image.len() / Form::ONE.segments]), [1, 0, 0, 0]);
+        }
     }
 }

@@ -1,15 +1,12 @@
-//! Times the library and the model beside each other: `benchmark`, or one row in one way, `benchmark ROW WAY TIMES`.
+//! Times the library and the model beside each other: `benchmark`, or one row in one way, `benchmark ROW WAY TIMES [FORM]`.
 //!
 //! The second form does nothing but the calls of its row, so that a tool outside can count their instructions.
 
 use model::answers::{code, Answer, LookAnswer};
 use model::boundary;
 use model::conversions;
-use model::pack::block_mut;
 use model::pack::entry::{self, Entry, LINKED};
-use model::pack::form::{
-    BLOCK_BYTES, FORM, LEAST_BLOCKS, MOST_BLOCKS, MOST_CONTENTS, MOST_ENTRIES, PAYLOAD_BYTES, SEGMENTS_PER_BLOCK,
-};
+use model::pack::form::{Form, ALL};
 use model::requests::{self, File};
 use model::words::set_word;
 use std::hint::black_box;
@@ -23,32 +20,54 @@ enum Way {
 }
 
 /// How one row is run so many times in one way; what it needs is made before the time begins.
-type Run = fn(Way, usize) -> Duration;
+#[derive(Clone, Copy)]
+enum Run {
+    /// On a pack of a form.
+    Pack(fn(Form, Way, usize) -> Duration),
+    Other(fn(Way, usize) -> Duration),
+}
+
+impl Run {
+    fn time(self, form: Form, way: Way, times: usize) -> Duration {
+        match self {
+            Run::Pack(run) => run(form, way, times),
+            Run::Other(run) => run(way, times),
+        }
+    }
+
+    /// The forms in which it differs, and what is shown of each.
+    fn forms(self) -> Vec<(Form, String)> {
+        match self {
+            Run::Pack(_) => ALL.iter().map(|&form| (form, form.word.to_string())).collect(),
+            Run::Other(_) => vec![(Form::ONE, String::new())],
+        }
+    }
+}
 
 const ROWS: &[(&str, Run)] = &[
-    ("look-smallest", look_smallest),
-    ("look-fullest", look_fullest),
-    ("report-fullest", report_fullest),
-    ("report-shared", report_shared),
-    ("alloc-delet-smallest", alloc_delet_smallest),
-    ("alloc-delet-largest", alloc_delet_largest),
-    ("alloc-delet-500", alloc_delet_500),
-    ("linked-add-until-full", linked_add_until_full),
-    ("linked-read-last", linked_read_last),
-    ("finish-100", finish_100),
-    ("line-read-start", line_read_start),
-    ("line-read-end", line_read_end),
-    ("line-write-60", line_write_60),
-    ("line-write-5100", line_write_5100),
-    ("csi1", csi1),
-    ("csi2", csi2),
-    ("csi-write", csi_write),
-    ("radpk", radpk),
-    ("radup", radup),
-    ("d2bin", d2bin),
-    ("bin2d", bin2d),
-    ("o2bin", o2bin),
-    ("bin2o", bin2o),
+    ("look-smallest", Run::Pack(look_smallest)),
+    ("look-fullest", Run::Pack(look_fullest)),
+    ("report-fullest", Run::Pack(report_fullest)),
+    ("report-shared", Run::Pack(report_shared)),
+    ("alloc-delet-smallest", Run::Pack(alloc_delet_smallest)),
+    ("alloc-delet-largest", Run::Pack(alloc_delet_largest)),
+    ("alloc-delet-500", Run::Pack(alloc_delet_500)),
+    ("linked-add-until-full", Run::Pack(linked_add_until_full)),
+    ("linked-read-last", Run::Pack(linked_read_last)),
+    ("finish-100", Run::Pack(finish_100)),
+    ("line-read-start", Run::Pack(line_read_start)),
+    ("line-read-end", Run::Pack(line_read_end)),
+    ("line-write-60", Run::Pack(line_write_60)),
+    ("line-write-5100", Run::Pack(line_write_5100)),
+    ("csi1", Run::Other(csi1)),
+    ("csi2", Run::Other(csi2)),
+    ("csi-write", Run::Other(csi_write)),
+    ("radpk", Run::Other(radpk)),
+    ("radup", Run::Other(radup)),
+    ("d2bin", Run::Other(d2bin)),
+    ("bin2d", Run::Other(bin2d)),
+    ("o2bin", Run::Other(o2bin)),
+    ("bin2o", Run::Other(bin2o)),
 ];
 
 /// For how long a row is to run in one way, and how often; the shortest time is taken.
@@ -60,54 +79,56 @@ const OWNER: usize = 0o23 * 256 + 0o10;
 fn main() -> ExitCode {
     let arguments: Vec<String> = std::env::args().skip(1).collect();
     let arguments: Vec<&str> = arguments.iter().map(String::as_str).collect();
-    match arguments[..] {
+    let time = match arguments[..] {
         [] => {
             print_all();
-            ExitCode::SUCCESS
+            return ExitCode::SUCCESS;
         }
-        [row, way, times] => match (find(row), way, times.parse()) {
-            (Some(run), "library", Ok(times)) => print_one(run(Way::Library, times)),
-            (Some(run), "model", Ok(times)) => print_one(run(Way::Model, times)),
-            _ => usage(),
-        },
-        _ => usage(),
-    }
-}
-
-fn find(row: &str) -> Option<Run> {
-    ROWS.iter().find(|(name, _)| *name == row).map(|&(_, run)| run)
-}
-
-fn usage() -> ExitCode {
-    let names: Vec<&str> = ROWS.iter().map(|&(name, _)| name).collect();
-    eprintln!("usage: benchmark [ROW library|model TIMES]\nrows: {}", names.join(" "));
-    ExitCode::FAILURE
-}
-
-fn print_one(time: Duration) -> ExitCode {
+        [row, way, times] => one(row, way, times, "1"),
+        [row, way, times, form] => one(row, way, times, form),
+        _ => None,
+    };
+    let Some(time) = time else {
+        let names: Vec<&str> = ROWS.iter().map(|&(name, _)| name).collect();
+        eprintln!("usage: benchmark [ROW library|model TIMES [FORM]]\nrows: {}", names.join(" "));
+        return ExitCode::FAILURE;
+    };
     println!("{} ns", time.as_nanos());
     ExitCode::SUCCESS
 }
 
+/// The time of one row, if the arguments are such.
+fn one(row: &str, way: &str, times: &str, form: &str) -> Option<Duration> {
+    let &(_, run) = ROWS.iter().find(|(name, _)| *name == row)?;
+    let way = match way {
+        "library" => Way::Library,
+        "model" => Way::Model,
+        _ => return None,
+    };
+    Some(run.time(Form::of_word(form.parse().ok()?)?, way, times.parse().ok()?))
+}
+
 fn print_all() {
-    println!("{:22} {:>12} {:>12} {:>8}", "ns per call", "library", "model", "ratio");
+    println!("{:22} {:>4} {:>12} {:>12} {:>8}", "ns per call", "form", "library", "model", "ratio");
     for &(name, run) in ROWS {
-        let times = enough(run);
-        let mut shortest = [f64::INFINITY; 2];
-        for _ in 0..ROUNDS {
-            for (shortest, way) in shortest.iter_mut().zip([Way::Library, Way::Model]) {
-                *shortest = shortest.min(run(way, times).as_nanos() as f64 / times as f64);
+        for (form, shown) in run.forms() {
+            let times = enough(run, form);
+            let mut shortest = [f64::INFINITY; 2];
+            for _ in 0..ROUNDS {
+                for (shortest, way) in shortest.iter_mut().zip([Way::Library, Way::Model]) {
+                    *shortest = shortest.min(run.time(form, way, times).as_nanos() as f64 / times as f64);
+                }
             }
+            let [library, model] = shortest;
+            println!("{name:22} {shown:>4} {library:12.1} {model:12.1} {:8.2}", library / model);
         }
-        let [library, model] = shortest;
-        println!("{name:22} {library:12.1} {model:12.1} {:8.2}", library / model);
     }
 }
 
 /// How many calls of the slower way fill a round.
-fn enough(run: Run) -> usize {
+fn enough(run: Run, form: Form) -> usize {
     let mut times = 16;
-    while run(Way::Library, times).max(run(Way::Model, times)) < ROUND {
+    while run.time(form, Way::Library, times).max(run.time(form, Way::Model, times)) < ROUND {
         times *= 2;
     }
     times
@@ -140,34 +161,63 @@ fn file(number: usize) -> File {
     File { name1: word(0), name2: word(3), extension: 0, uic: 0 }
 }
 
-fn formatted(blocks: usize, contents: usize) -> Vec<u8> {
-    let mut image = vec![0; BLOCK_BYTES * blocks];
-    requests::format(&mut image, FORM as usize, blocks, contents, &(OWNER as u16).to_le_bytes())
+fn formatted(form: Form, blocks: usize, contents: usize) -> Vec<u8> {
+    let mut image = vec![0; form.block_bytes() * blocks];
+    requests::format(&mut image, form.word as usize, blocks, contents, &(OWNER as u16).to_le_bytes())
         .expect("the measures are good");
     image
 }
 
+/// The segments of a file of three blocks, of which the last has one.
+fn three_blocks(form: Form) -> usize {
+    2 * form.segments + 1
+}
+
 /// The smallest pack, with one file.
-fn smallest() -> Vec<u8> {
-    let mut image = formatted(LEAST_BLOCKS, 1);
-    requests::alloc(&mut image, OWNER, file(0), 0, 9).expect("there is room");
+fn smallest(form: Form) -> Vec<u8> {
+    let mut image = formatted(form, form.least_blocks, 1);
+    requests::alloc(&mut image, OWNER, file(0), 0, three_blocks(form)).expect("there is room");
     image
 }
 
-/// The bodies of the fullest pack, and the length of each file but the last, which has all the rest.
-const BODIES: usize = MOST_BLOCKS - (1 + MOST_CONTENTS);
+/// The bodies and the files of the fullest pack, and the length of each file but the last, which has all the rest.
+fn bodies(form: Form) -> usize {
+    form.most_blocks - form.first_body(form.most_contents)
+}
+
+fn most_entries(form: Form) -> usize {
+    form.most_contents * form.entries_per_block()
+}
+
 const SHORT: usize = 4;
 
+fn long_length(form: Form) -> usize {
+    bodies(form) - SHORT * (most_entries(form) - 1)
+}
+
+/// Every body once, none beside the one before.
+fn scattered(form: Form) -> impl Iterator<Item = usize> {
+    fn divisor(one: usize, two: usize) -> usize {
+        if two == 0 {
+            one
+        } else {
+            divisor(two, one % two)
+        }
+    }
+    let bodies = bodies(form);
+    let step = (386..).find(|&step| divisor(step, bodies) == 1).expect("there are primes");
+    (0..bodies).map(move |index| form.first_body(form.most_contents) + step * index % bodies)
+}
+
 /// The largest pack, with the most files, all linked, and no free block; no block of a chain is beside the one before.
-fn fullest() -> Vec<u8> {
-    let mut image = formatted(MOST_BLOCKS, MOST_CONTENTS);
-    // 386 and 1015 have no common divisor, so each body comes once.
-    let mut blocks = (0..BODIES).map(|index| 1 + MOST_CONTENTS + 386 * index % BODIES);
-    for number in 0..MOST_ENTRIES {
-        let length = if number + 1 < MOST_ENTRIES { SHORT } else { long_length() };
+fn fullest(form: Form) -> Vec<u8> {
+    let mut image = formatted(form, form.most_blocks, form.most_contents);
+    let mut blocks = scattered(form);
+    for number in 0..most_entries(form) {
+        let length = if number + 1 < most_entries(form) { SHORT } else { long_length(form) };
         let chain: Vec<usize> = blocks.by_ref().take(length).collect();
         for pair in chain.windows(2) {
-            set_word(block_mut(&mut image, pair[0]), 0, pair[1] as u16);
+            set_word(form.block_mut(&mut image, pair[0]), 0, pair[1] as u16);
         }
         let name = file(number);
         Entry {
@@ -183,14 +233,10 @@ fn fullest() -> Vec<u8> {
             writer: 0,
             readers: 1,
         }
-        .write(entry::bytes_mut(&mut image, number));
+        .write(form.entry_mut(&mut image, number));
     }
     requests::look(&image, OWNER, file(0)).expect("the pack is consistent");
     image
-}
-
-fn long_length() -> usize {
-    BODIES - SHORT * (MOST_ENTRIES - 1)
 }
 
 fn look(way: Way, times: usize, image: &[u8], file: File) -> Duration {
@@ -202,12 +248,12 @@ fn look(way: Way, times: usize, image: &[u8], file: File) -> Duration {
     )
 }
 
-fn look_smallest(way: Way, times: usize) -> Duration {
-    look(way, times, &smallest(), file(0))
+fn look_smallest(form: Form, way: Way, times: usize) -> Duration {
+    look(way, times, &smallest(form), file(0))
 }
 
-fn look_fullest(way: Way, times: usize) -> Duration {
-    look(way, times, &fullest(), file(MOST_ENTRIES - 1))
+fn look_fullest(form: Form, way: Way, times: usize) -> Duration {
+    look(way, times, &fullest(form), file(most_entries(form) - 1))
 }
 
 fn report(way: Way, times: usize, image: &[u8]) -> Duration {
@@ -215,21 +261,22 @@ fn report(way: Way, times: usize, image: &[u8]) -> Duration {
 }
 
 /// Beside `look-fullest`: a consistent pack is told by its check.
-fn report_fullest(way: Way, times: usize) -> Duration {
-    report(way, times, &fullest())
+fn report_fullest(form: Form, way: Way, times: usize) -> Duration {
+    report(way, times, &fullest(form))
 }
 
 /// The last entry reaches a block of the first: all is looked at before it is told.
-fn report_shared(way: Way, times: usize) -> Duration {
-    let mut image = fullest();
-    let first = Entry::read(entry::bytes(&image, 0)).first;
-    let mut last = Entry::read(entry::bytes(&image, MOST_ENTRIES - 1));
-    set_word(block_mut(&mut image, last.last as usize), 0, first);
-    set_word(block_mut(&mut image, first as usize), 0, 0);
-    let mut one = Entry::read(entry::bytes(&image, 0));
+fn report_shared(form: Form, way: Way, times: usize) -> Duration {
+    let mut image = fullest(form);
+    let last_entry = most_entries(form) - 1;
+    let mut one = Entry::read(form.entry(&image, 0));
+    let mut last = Entry::read(form.entry(&image, last_entry));
+    let first = one.first;
+    set_word(form.block_mut(&mut image, last.last as usize), 0, first);
+    set_word(form.block_mut(&mut image, first as usize), 0, 0);
     (one.length, one.last, last.length, last.last) = (1, first, last.length + 1, first);
-    one.write(entry::bytes_mut(&mut image, 0));
-    last.write(entry::bytes_mut(&mut image, MOST_ENTRIES - 1));
+    one.write(form.entry_mut(&mut image, 0));
+    last.write(form.entry_mut(&mut image, last_entry));
     assert_eq!(model::report::report(&image).rule, 9);
     report(way, times, &image)
 }
@@ -252,44 +299,44 @@ fn alloc_delet(way: Way, times: usize, image: &mut [u8], segments: usize) -> Dur
     )
 }
 
-fn alloc_delet_smallest(way: Way, times: usize) -> Duration {
-    alloc_delet(way, times, &mut smallest(), 9)
+fn alloc_delet_smallest(form: Form, way: Way, times: usize) -> Duration {
+    alloc_delet(way, times, &mut smallest(form), three_blocks(form))
 }
 
 /// All entries but one are of contiguous files, which leave half of the blocks free.
-fn alloc_delet_largest(way: Way, times: usize) -> Duration {
-    let mut image = formatted(MOST_BLOCKS, MOST_CONTENTS);
-    for number in 0..MOST_ENTRIES - 1 {
-        requests::alloc(&mut image, OWNER, file(number), 0, 16).expect("there is room");
+fn alloc_delet_largest(form: Form, way: Way, times: usize) -> Duration {
+    let mut image = formatted(form, form.most_blocks, form.most_contents);
+    for number in 0..most_entries(form) - 1 {
+        requests::alloc(&mut image, OWNER, file(number), 0, 4 * form.segments).expect("there is room");
     }
-    alloc_delet(way, times, &mut image, 9)
+    alloc_delet(way, times, &mut image, three_blocks(form))
 }
 
 /// A run of 500 blocks on a pack that has no other file: nearly all of the time is that of clearing its bytes.
-fn alloc_delet_500(way: Way, times: usize) -> Duration {
-    alloc_delet(way, times, &mut formatted(MOST_BLOCKS, 1), 500 * SEGMENTS_PER_BLOCK)
+fn alloc_delet_500(form: Form, way: Way, times: usize) -> Duration {
+    alloc_delet(way, times, &mut formatted(form, form.most_blocks, 1), 500 * form.segments)
 }
 
 /// Makes the only file of a pack, which is linked, empty again.
-fn empty(image: &mut [u8]) {
+fn empty(form: Form, image: &mut [u8]) {
     for word in [entry::FIRST, entry::LENGTH, entry::LAST] {
-        set_word(entry::bytes_mut(image, 0), word, 0);
+        set_word(form.entry_mut(image, 0), word, 0);
     }
 }
 
 /// Adds to the only file of the largest pack; when no block is free any more the file is made empty again.
-fn linked_add_until_full(way: Way, times: usize) -> Duration {
-    let mut image = formatted(MOST_BLOCKS, 1);
+fn linked_add_until_full(form: Form, way: Way, times: usize) -> Duration {
+    let mut image = formatted(form, form.most_blocks, 1);
     let file = file(0);
     requests::openo(&mut image, OWNER, file, 0).expect("there is an entry");
-    let payload = [0o125; PAYLOAD_BYTES];
+    let payload = vec![0o125; form.payload_bytes()];
     timed!(
         way,
         times,
         {
             let answer = boundary::linked_add(black_box(&mut image), OWNER, black_box(file), black_box(&payload));
             if answer.code != 0 {
-                empty(&mut image);
+                empty(form, &mut image);
             }
             answer
         },
@@ -297,17 +344,17 @@ fn linked_add_until_full(way: Way, times: usize) -> Duration {
             let result = requests::linked_add(black_box(&mut image), OWNER, black_box(file), black_box(&payload));
             let answer = Answer::from(result);
             if answer.code != 0 {
-                empty(&mut image);
+                empty(form, &mut image);
             }
             answer
         }
     )
 }
 
-fn linked_read_last(way: Way, times: usize) -> Duration {
-    let image = fullest();
-    let (file, place) = (file(MOST_ENTRIES - 1), long_length() - 1);
-    let mut buffer = [0; PAYLOAD_BYTES];
+fn linked_read_last(form: Form, way: Way, times: usize) -> Duration {
+    let image = fullest(form);
+    let (file, place) = (file(most_entries(form) - 1), long_length(form) - 1);
+    let mut buffer = vec![0; form.payload_bytes()];
     timed!(
         way,
         times,
@@ -319,14 +366,14 @@ fn linked_read_last(way: Way, times: usize) -> Duration {
     )
 }
 
-/// Of the most files 100 are deleted and 28 are kept. Each turn begins with the contents as they were, which are copied.
-fn finish_100(way: Way, times: usize) -> Duration {
-    let mut image = formatted(MOST_BLOCKS, MOST_CONTENTS);
-    for number in 0..MOST_ENTRIES {
+/// Of 128 files 100 are deleted and 28 are kept. Each turn begins with the contents as they were, which are copied.
+fn finish_100(form: Form, way: Way, times: usize) -> Duration {
+    let mut image = formatted(form, form.most_blocks, 128 / form.entries_per_block());
+    for number in 0..128 {
         let protect = if number % 32 < 25 { 0 } else { 0o200 };
-        requests::alloc(&mut image, OWNER, file(number), protect, 16).expect("there is room");
+        requests::alloc(&mut image, OWNER, file(number), protect, 4 * form.segments).expect("there is room");
     }
-    let contents = image[..BLOCK_BYTES * (1 + MOST_CONTENTS)].to_vec();
+    let contents = image[..form.block_bytes() * form.first_body(128 / form.entries_per_block())].to_vec();
     assert_eq!(requests::finish(&mut image.clone(), OWNER), Ok(100));
     timed!(
         way,
@@ -346,14 +393,15 @@ fn finish_100(way: Way, times: usize) -> Duration {
 const TEXT: &[u8; 60] = b"STATION 23  1971-02-14 06:00 TEMPERATURE 012.5  WIND 340/07\n";
 
 /// Reads a line of 60 characters at a position of a file of 200 blocks, which is full of such lines.
-fn line_read(way: Way, times: usize, position: usize) -> Duration {
-    let mut image = formatted(2 + TEXT_BLOCKS, 1);
+fn line_read(form: Form, way: Way, times: usize, position: usize) -> Duration {
+    let mut image = formatted(form, form.first_body(1) + TEXT_BLOCKS, 1);
     let file = file(0);
     requests::openo(&mut image, OWNER, file, 0).expect("there is an entry");
-    for payload in TEXT.repeat(TEXT_BLOCKS * PAYLOAD_BYTES / TEXT.len()).chunks(PAYLOAD_BYTES) {
+    let bytes = TEXT_BLOCKS * form.payload_bytes();
+    for payload in TEXT.repeat(bytes / TEXT.len()).chunks(form.payload_bytes()) {
         requests::linked_add(&mut image, OWNER, file, payload).expect("there is room");
     }
-    set_word(entry::bytes_mut(&mut image, 0), entry::READERS, 1);
+    set_word(form.entry_mut(&mut image, 0), entry::READERS, 1);
     let mut buffer = [0; 132];
     timed!(
         way,
@@ -372,31 +420,32 @@ fn line_read(way: Way, times: usize, position: usize) -> Duration {
 
 const TEXT_BLOCKS: usize = 200;
 
-fn line_read_start(way: Way, times: usize) -> Duration {
-    line_read(way, times, 0)
+fn line_read_start(form: Form, way: Way, times: usize) -> Duration {
+    line_read(form, way, times, 0)
 }
 
-fn line_read_end(way: Way, times: usize) -> Duration {
-    line_read(way, times, TEXT_BLOCKS * PAYLOAD_BYTES - TEXT.len())
+fn line_read_end(form: Form, way: Way, times: usize) -> Duration {
+    line_read(form, way, times, TEXT_BLOCKS * form.payload_bytes() - TEXT.len())
 }
 
-/// Writes text to the only file of the smallest pack, which is empty each time.
-fn line_write(way: Way, times: usize, text: &[u8]) -> Duration {
-    let mut image = formatted(LEAST_BLOCKS, 1);
+/// Writes text to the only file of the smallest pack that has room for it, which is empty each time.
+fn line_write(form: Form, way: Way, times: usize, text: &[u8]) -> Duration {
+    let needed = form.first_body(1) + text.len() / form.payload_bytes();
+    let mut image = formatted(form, form.least_blocks.max(needed), 1);
     let file = file(0);
     requests::openo(&mut image, OWNER, file, 0).expect("there is an entry");
-    let mut gather = [0; PAYLOAD_BYTES];
+    let mut gather = vec![0; form.payload_bytes()];
     timed!(
         way,
         times,
         {
-            empty(&mut image);
+            empty(form, &mut image);
             let (image, gather) = black_box((&mut image, &mut gather));
             let (file, mode, text, filled) = black_box((file, 0, text, 0));
             boundary::line_write(image, OWNER, file, mode, text, gather, filled)
         },
         {
-            empty(&mut image);
+            empty(form, &mut image);
             let (image, gather) = black_box((&mut image, &mut gather));
             let (file, mode, text, filled) = black_box((file, 0, text, 0));
             let result = requests::line_write(image, OWNER, file, mode, text, gather, filled);
@@ -406,13 +455,13 @@ fn line_write(way: Way, times: usize, text: &[u8]) -> Duration {
 }
 
 /// The gather buffer is not full after it.
-fn line_write_60(way: Way, times: usize) -> Duration {
-    line_write(way, times, TEXT)
+fn line_write_60(form: Form, way: Way, times: usize) -> Duration {
+    line_write(form, way, times, TEXT)
 }
 
-/// Ten blocks.
-fn line_write_5100(way: Way, times: usize) -> Duration {
-    line_write(way, times, &TEXT.repeat(85))
+/// Ten blocks of form 1.
+fn line_write_5100(form: Form, way: Way, times: usize) -> Duration {
+    line_write(form, way, times, &TEXT.repeat(85))
 }
 
 /// A command of 120 characters with every part in it.

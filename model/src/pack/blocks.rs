@@ -1,15 +1,13 @@
 //! A set of block numbers of a pack.
 
-use super::form::MOST_BLOCKS;
-
-#[derive(Clone)]
 pub struct BlockSet {
-    bits: [u64; MOST_BLOCKS / 64],
+    bits: Vec<u64>,
 }
 
 impl BlockSet {
-    pub fn new() -> BlockSet {
-        BlockSet { bits: [0; MOST_BLOCKS / 64] }
+    /// The empty set, of a pack of so many blocks.
+    pub fn new(blocks: usize) -> BlockSet {
+        BlockSet { bits: vec![0; blocks.div_ceil(64)] }
     }
 
     #[inline]
@@ -25,11 +23,5 @@ impl BlockSet {
         let fresh = *word & bit == 0;
         *word |= bit;
         fresh
-    }
-}
-
-impl Default for BlockSet {
-    fn default() -> BlockSet {
-        BlockSet::new()
     }
 }

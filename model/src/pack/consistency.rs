@@ -2,9 +2,9 @@
 
 use super::blocks::BlockSet;
 use super::entry::{self, Entry, CONTIGUOUS, EXTEND, LINKED, MOST_OPENS, OUTPUT, UPDATE};
-use super::form::{ENTRY_BYTES, MOST_ENTRIES};
+use super::form::{Form, ENTRY_BYTES};
 use super::header::Header;
-use super::{link, name};
+use super::name;
 use crate::refusal::Refusal;
 use crate::words::word;
 
@@ -15,20 +15,24 @@ pub struct Pack {
 }
 
 impl Pack {
+    pub fn form(&self) -> Form {
+        self.header.form
+    }
+
     /// "Free: above c and in no file."
     pub fn is_free(&self, block: usize) -> bool {
-        block > self.header.contents && block < self.header.blocks && !self.held.contains(block)
+        self.header.bodies().contains(&block) && !self.held.contains(block)
     }
 
     /// The blocks that are free, the highest first.
     pub fn free(&self) -> impl Iterator<Item = usize> + '_ {
-        (self.header.contents + 1..self.header.blocks).rev().filter(|&block| !self.held.contains(block))
+        self.header.bodies().rev().filter(|&block| !self.held.contains(block))
     }
 
     /// The highest start of so many free blocks in a row.
     pub fn highest_free_run(&self, blocks: usize) -> Option<usize> {
         let mut run = 0;
-        for block in (self.header.contents + 1..self.header.blocks).rev() {
+        for block in self.header.bodies().rev() {
             run = if self.held.contains(block) { 0 } else { run + 1 };
             if run == blocks {
                 return Some(block);
@@ -39,7 +43,7 @@ impl Pack {
 
     /// The lowest empty entry.
     pub fn lowest_empty_entry(&self, image: &[u8]) -> Option<usize> {
-        (0..self.header.entries()).find(|&index| entry::is_empty(entry::bytes(image, index)))
+        (0..self.header.entries()).find(|&index| entry::is_empty(self.form().entry(image, index)))
     }
 }
 
@@ -50,11 +54,10 @@ pub fn examine(image: &[u8]) -> Result<Pack, Refusal> {
 
 fn consistent(image: &[u8]) -> Option<Pack> {
     let header = Header::read(image)?;
-    let mut held = BlockSet::new();
-    let mut keys = [0; MOST_ENTRIES];
-    let mut used = 0;
+    let mut held = BlockSet::new(header.blocks);
+    let mut keys = Vec::with_capacity(header.entries());
     for index in 0..header.entries() {
-        let bytes = entry::bytes(image, index);
+        let bytes = header.form.entry(image, index);
         if entry::is_empty(bytes) {
             continue;
         }
@@ -62,11 +65,9 @@ fn consistent(image: &[u8]) -> Option<Pack> {
         if !is_file(&header, bytes, &file) || !holds_its_blocks(image, &header, &file, &mut held) {
             return None;
         }
-        keys[used] = entry::key(bytes);
-        used += 1;
+        keys.push(entry::key(bytes));
     }
     // "differ in name, extension or UIC": two alike would stand side by side.
-    let keys = &mut keys[..used];
     keys.sort_unstable();
     let differ = keys.windows(2).all(|pair| pair[0] != pair[1]);
     differ.then_some(Pack { header, held })
@@ -91,10 +92,11 @@ fn is_file(header: &Header, bytes: &[u8; ENTRY_BYTES], file: &Entry) -> bool {
 /// numbers of the entry do not say what is there.
 fn holds_its_blocks(image: &[u8], header: &Header, file: &Entry, held: &mut BlockSet) -> bool {
     let (first, length, last) = (file.first as usize, file.length as usize, file.last as usize);
+    let bodies = header.bodies();
     if file.kind == CONTIGUOUS {
         return length >= 1
-            && first > header.contents
-            && last < header.blocks
+            && bodies.contains(&first)
+            && bodies.contains(&last)
             && last + 1 == first + length
             && (first..=last).all(|block| held.insert(block));
     }
@@ -104,12 +106,12 @@ fn holds_its_blocks(image: &[u8], header: &Header, file: &Entry, held: &mut Bloc
     // A chain that comes back to one of its own blocks meets it as held; so this ends, and the blocks are distinct.
     let mut block = first;
     for place in 0..length {
-        if block <= header.contents || block >= header.blocks || !held.insert(block) {
+        if !bodies.contains(&block) || !held.insert(block) {
             return false;
         }
         if place + 1 < length {
-            block = link(image, block);
+            block = header.form.link(image, block);
         }
     }
-    block == last && link(image, last) == 0
+    block == last && header.form.link(image, last) == 0
 }

@@ -1,6 +1,6 @@
 //! An entry of the contents: 16 words that say what file there is.
 
-use super::form::{BLOCK_BYTES, ENTRY_BYTES};
+use super::form::ENTRY_BYTES;
 use crate::words::{set_word, word};
 
 /// The words of an entry that requests change one by one.
@@ -41,20 +41,6 @@ pub struct Entry {
     pub last: u16,
     pub writer: u16,
     pub readers: u16,
-}
-
-/// The 32 bytes of an entry; entries are counted from 0, on through the blocks of the contents.
-#[inline]
-pub fn bytes(image: &[u8], index: usize) -> &[u8; ENTRY_BYTES] {
-    let start = BLOCK_BYTES + ENTRY_BYTES * index;
-    image[start..start + ENTRY_BYTES].try_into().expect("32 bytes were taken")
-}
-
-/// The same, to be written.
-#[inline]
-pub fn bytes_mut(image: &mut [u8], index: usize) -> &mut [u8; ENTRY_BYTES] {
-    let start = BLOCK_BYTES + ENTRY_BYTES * index;
-    (&mut image[start..start + ENTRY_BYTES]).try_into().expect("32 bytes were taken")
 }
 
 /// The first four words of an entry as one number: name, extension and UIC, which no two files have alike.

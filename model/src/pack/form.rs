@@ -1,29 +1,86 @@
-//! The numbers of a pack of form 1, the only one that 01 has; all that is measured elsewhere is made of these.
+//! The forms of packs: the numbers in which they differ, and those that all have. What is measured elsewhere is made of these.
 
-/// Word 0 of block 0.
-pub const FORM: u16 = 1;
+use crate::words::word;
 
-/// The bytes of a block: 256 words.
-pub const BLOCK_BYTES: usize = 512;
-/// The bytes of a linked file's block behind the word that is its link.
-pub const PAYLOAD_BYTES: usize = BLOCK_BYTES - 2;
-/// The segments of a block (000: B = 4).
-pub const SEGMENTS_PER_BLOCK: usize = 4;
-
-/// "n, the blocks in all, 16 to 1024".
-pub const LEAST_BLOCKS: usize = 16;
-pub const MOST_BLOCKS: usize = 1024;
-
-/// "c, 1 to 8": the blocks of the contents.
-pub const LEAST_CONTENTS: usize = 1;
-pub const MOST_CONTENTS: usize = 8;
-
-/// The most UICs that a pack lists.
-pub const MOST_UICS: usize = 64;
+/// The bytes of a segment: 64 words (000).
+pub const SEGMENT_BYTES: usize = 128;
 
 /// The bytes of an entry: 16 words.
 pub const ENTRY_BYTES: usize = 32;
-/// The entries of a block of the contents.
-pub const ENTRIES_PER_BLOCK: usize = BLOCK_BYTES / ENTRY_BYTES;
-/// The most entries that a pack has.
-pub const MOST_ENTRIES: usize = MOST_CONTENTS * ENTRIES_PER_BLOCK;
+
+/// The least that c can be, the blocks of the contents.
+pub const LEAST_CONTENTS: usize = 1;
+
+/// A form, by its numbers.
+#[derive(Clone, Copy, Debug, PartialEq, Eq)]
+pub struct Form {
+    /// Word 0 of block 0.
+    pub word: u16,
+    /// The segments of a block (000: B).
+    pub segments: usize,
+    /// The blocks of the system besides the contents.
+    pub system: usize,
+    /// What n can be, the blocks in all.
+    pub least_blocks: usize,
+    pub most_blocks: usize,
+    /// What c can be at most.
+    pub most_contents: usize,
+    /// The most UICs that a pack lists.
+    pub most_uics: usize,
+}
+
+/// Every form that is known.
+pub const ALL: &[Form] = &[Form::ONE];
+
+impl Form {
+    /// The form of 01: "n, the blocks in all, 16 to 1024", "c, 1 to 8".
+    pub const ONE: Form =
+        Form { word: 1, segments: 4, system: 1, least_blocks: 16, most_blocks: 1024, most_contents: 8, most_uics: 64 };
+
+    /// The form that a number names, which is any at all: nothing is cut to a word.
+    pub fn of_word(word: usize) -> Option<Form> {
+        ALL.iter().copied().find(|form| form.word as usize == word)
+    }
+
+    /// The form that word 0 of an image names.
+    pub fn of_image(image: &[u8]) -> Option<Form> {
+        if image.len() < 2 {
+            return None;
+        }
+        Form::of_word(word(image, 0) as usize)
+    }
+
+    #[inline]
+    pub const fn block_bytes(&self) -> usize {
+        SEGMENT_BYTES * self.segments
+    }
+
+    pub const fn block_words(&self) -> usize {
+        self.block_bytes() / 2
+    }
+
+    /// The bytes of a linked file's block behind the word that is its link.
+    pub const fn payload_bytes(&self) -> usize {
+        self.block_bytes() - 2
+    }
+
+    /// The entries of a block of the contents.
+    pub const fn entries_per_block(&self) -> usize {
+        self.block_bytes() / ENTRY_BYTES
+    }
+
+    /// The block at which the bodies begin; all below are the system's.
+    pub const fn first_body(&self, contents: usize) -> usize {
+        self.system + contents
+    }
+
+    /// Whether n can be so many.
+    pub fn is_blocks(&self, blocks: usize) -> bool {
+        (self.least_blocks..=self.most_blocks).contains(&blocks)
+    }
+
+    /// Whether c can be so many on a pack of so many blocks, of which one at least is a body.
+    pub fn is_contents(&self, contents: usize, blocks: usize) -> bool {
+        (LEAST_CONTENTS..=self.most_contents).contains(&contents) && self.first_body(contents) < blocks
+    }
+}

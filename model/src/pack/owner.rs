@@ -1,8 +1,8 @@
 //! Whose a block is: what the audit note asks of the service, for every block.
 
 use super::consistency::Pack;
-use super::entry::{self, Entry, CONTIGUOUS};
-use super::link;
+use super::entry::{Entry, CONTIGUOUS};
+use super::form::Form;
 
 #[derive(Clone, Copy, Debug, PartialEq, Eq)]
 pub enum Owner {
@@ -13,20 +13,20 @@ pub enum Owner {
 
 /// The owner of a block below n.
 pub fn owner(image: &[u8], pack: &Pack, block: usize) -> Owner {
-    if block <= pack.header.contents {
+    if block < pack.header.bodies().start {
         return Owner::System;
     }
     if pack.is_free(block) {
         return Owner::Free;
     }
     (0..pack.header.entries())
-        .find_map(|index| Some(Owner::Held { entry: index, place: place(image, index, block)? }))
+        .find_map(|index| Some(Owner::Held { entry: index, place: place(pack.form(), image, index, block)? }))
         .expect("a block that is not free is some file's")
 }
 
 /// The place of a block in the file of an entry, if the file has it.
-fn place(image: &[u8], index: usize, block: usize) -> Option<usize> {
-    let file = Entry::read(entry::bytes(image, index));
+fn place(form: Form, image: &[u8], index: usize, block: usize) -> Option<usize> {
+    let file = Entry::read(form.entry(image, index));
     let (first, length) = (file.first as usize, file.length as usize);
     if file.kind == CONTIGUOUS {
         return block.checked_sub(first).filter(|&place| place < length);
@@ -36,7 +36,7 @@ fn place(image: &[u8], index: usize, block: usize) -> Option<usize> {
         if at == block {
             return Some(place);
         }
-        at = link(image, at);
+        at = form.link(image, at);
     }
     None
 }

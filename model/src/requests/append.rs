@@ -1,9 +1,8 @@
 //! APPND: "chain joined, second entry cleared. Either may be empty".
 
 use super::File;
-use crate::pack::block_mut;
 use crate::pack::consistency::examine;
-use crate::pack::entry::{self, FIRST, LAST, LENGTH, LINKED};
+use crate::pack::entry::{FIRST, LAST, LENGTH, LINKED};
 use crate::pack::rights::rights;
 use crate::refusal::{require, Refusal};
 use crate::words::set_word;
@@ -22,17 +21,18 @@ pub fn appnd(image: &mut [u8], caller: usize, first: File, second: File) -> Resu
     require(first.kind == LINKED && second.kind == LINKED, Refusal::Kind)?;
     require(!first.is_open() && !second.is_open(), Refusal::Open)?;
 
-    entry::bytes_mut(image, second_index).fill(0);
+    let form = pack.form();
+    form.entry_mut(image, second_index).fill(0);
     if second.length == 0 {
         return Ok(());
     }
     if first.length == 0 {
         // An empty file has no last block; its number 0 there is not a link to be written.
-        set_word(entry::bytes_mut(image, first_index), FIRST, second.first);
+        set_word(form.entry_mut(image, first_index), FIRST, second.first);
     } else {
-        set_word(block_mut(image, first.last as usize), 0, second.first);
+        set_word(form.block_mut(image, first.last as usize), 0, second.first);
     }
-    let bytes = entry::bytes_mut(image, first_index);
+    let bytes = form.entry_mut(image, first_index);
     set_word(bytes, LENGTH, first.length + second.length);
     set_word(bytes, LAST, second.last);
     Ok(())

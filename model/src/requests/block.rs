@@ -3,35 +3,33 @@
 use super::File;
 use crate::pack::consistency::examine;
 use crate::pack::entry::{CONTIGUOUS, UPDATE};
-use crate::pack::form::BLOCK_BYTES;
 use crate::pack::rights::rights;
-use crate::pack::{block, block_mut};
 use crate::refusal::{require, Refusal};
 
 /// BLOCK input: "needs read, and besides a reader or writer 1".
 pub fn block_in(image: &[u8], caller: usize, file: File, place: usize, buffer: &mut [u8]) -> Result<(), Refusal> {
     let pack = examine(image)?;
     file.require_legal()?;
-    require(buffer.len() == BLOCK_BYTES, Refusal::Argument)?;
+    require(buffer.len() == pack.form().block_bytes(), Refusal::Argument)?;
     let (_, found) = file.require(image, &pack, caller)?;
     require(rights(caller, &found).read, Refusal::Right)?;
     require(found.kind == CONTIGUOUS, Refusal::Kind)?;
     require(found.readers != 0 || found.writer == UPDATE, Refusal::NotOpen)?;
     require(place < found.length as usize, Refusal::NoBlock)?;
-    buffer.copy_from_slice(block(image, found.first as usize + place));
+    buffer.copy_from_slice(pack.form().block(image, found.first as usize + place));
     Ok(())
 }
 
-/// BLOCK output: "needs write and writer 1, and changes the 512 bytes of the image, starting at that block".
+/// BLOCK output: "needs write and writer 1, and changes the .. bytes of the image, starting at that block".
 pub fn block_out(image: &mut [u8], caller: usize, file: File, place: usize, buffer: &[u8]) -> Result<(), Refusal> {
     let pack = examine(image)?;
     file.require_legal()?;
-    require(buffer.len() == BLOCK_BYTES, Refusal::Argument)?;
+    require(buffer.len() == pack.form().block_bytes(), Refusal::Argument)?;
     let (_, found) = file.require(image, &pack, caller)?;
     require(rights(caller, &found).write, Refusal::Right)?;
     require(found.kind == CONTIGUOUS, Refusal::Kind)?;
     require(found.writer == UPDATE, Refusal::NotOpen)?;
     require(place < found.length as usize, Refusal::NoBlock)?;
-    block_mut(image, found.first as usize + place).copy_from_slice(buffer);
+    pack.form().block_mut(image, found.first as usize + place).copy_from_slice(buffer);
     Ok(())
 }

@@ -2,8 +2,7 @@
 
 use super::{require_protect, File};
 use crate::pack::consistency::{examine, Pack};
-use crate::pack::entry::{self, Entry, CONTIGUOUS, LINKED, OUTPUT};
-use crate::pack::form::{BLOCK_BYTES, SEGMENTS_PER_BLOCK};
+use crate::pack::entry::{Entry, CONTIGUOUS, LINKED, OUTPUT};
 use crate::refusal::{require, Refusal};
 
 /// ALLOC: a closed contiguous file large enough for so many segments, "every block it takes all zero" (02 §2); answers its first block.
@@ -13,7 +12,8 @@ pub fn alloc(image: &mut [u8], caller: usize, file: File, protect: usize, segmen
     require(segments != 0, Refusal::Argument)?;
     let protect = require_protect(protect)?;
     let index = require_new(image, &pack, caller, &file)?;
-    let length = segments.div_ceil(SEGMENTS_PER_BLOCK);
+    let form = pack.form();
+    let length = segments.div_ceil(form.segments);
     let first = pack.highest_free_run(length).ok_or(Refusal::NoRoom)?;
     let last = first + length - 1;
     Entry {
@@ -23,8 +23,10 @@ pub fn alloc(image: &mut [u8], caller: usize, file: File, protect: usize, segmen
         last: last as u16,
         ..new_entry(&file, caller, protect)
     }
-    .write(entry::bytes_mut(image, index));
-    image[BLOCK_BYTES * first..BLOCK_BYTES * (last + 1)].fill(0);
+    .write(form.entry_mut(image, index));
+    for number in first..=last {
+        form.block_mut(image, number).fill(0);
+    }
     Ok(first)
 }
 
@@ -34,7 +36,8 @@ pub fn openo(image: &mut [u8], caller: usize, file: File, protect: usize) -> Res
     file.require_legal()?;
     let protect = require_protect(protect)?;
     let index = require_new(image, &pack, caller, &file)?;
-    Entry { kind: LINKED, writer: OUTPUT, ..new_entry(&file, caller, protect) }.write(entry::bytes_mut(image, index));
+    let entry = Entry { kind: LINKED, writer: OUTPUT, ..new_entry(&file, caller, protect) };
+    entry.write(pack.form().entry_mut(image, index));
     Ok(())
 }
 

@@ -2,7 +2,7 @@
 
 use super::{require_protect, File};
 use crate::pack::consistency::examine;
-use crate::pack::entry::{self, Entry, EXTENSION, NAME1, NAME2, PROTECT};
+use crate::pack::entry::{Entry, EXTENSION, NAME1, NAME2, PROTECT};
 use crate::pack::rights::rights;
 use crate::refusal::{require, Refusal};
 use crate::words::set_word;
@@ -21,7 +21,7 @@ pub fn keep(image: &mut [u8], caller: usize, file: File) -> Result<(), Refusal> 
     file.require_legal()?;
     let (index, found) = file.require(image, &pack, caller)?;
     require(caller == found.uic as usize, Refusal::Right)?;
-    set_word(entry::bytes_mut(image, index), PROTECT, found.protect | 0o200);
+    set_word(pack.form().entry_mut(image, index), PROTECT, found.protect | 0o200);
     Ok(())
 }
 
@@ -32,7 +32,7 @@ pub fn delet(image: &mut [u8], caller: usize, file: File) -> Result<(), Refusal>
     let (index, found) = file.require(image, &pack, caller)?;
     require(rights(caller, &found).delete, Refusal::Right)?;
     require(!found.is_open(), Refusal::Open)?;
-    entry::bytes_mut(image, index).fill(0);
+    pack.form().entry_mut(image, index).fill(0);
     Ok(())
 }
 
@@ -49,7 +49,7 @@ pub fn renam(image: &mut [u8], caller: usize, old: File, new: File, protect: usi
     require(rights(caller, &found).write, Refusal::Right)?;
     require(!found.is_open(), Refusal::Open)?;
 
-    let bytes = entry::bytes_mut(image, index);
+    let bytes = pack.form().entry_mut(image, index);
     set_word(bytes, NAME1, new.name1 as u16);
     set_word(bytes, NAME2, new.name2 as u16);
     set_word(bytes, EXTENSION, new.extension as u16);

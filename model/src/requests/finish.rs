@@ -15,7 +15,7 @@ pub fn finish(image: &mut [u8], caller: usize) -> Result<usize, Refusal> {
     let pack = examine(image)?;
     let mut number = 0;
     for index in 0..pack.header.entries() {
-        let bytes = entry::bytes_mut(image, index);
+        let bytes = pack.form().entry_mut(image, index);
         // An empty entry has UIC 0, and so may a caller.
         if !entry::is_empty(bytes) && is_scratch(caller, &Entry::read(bytes)) {
             bytes.fill(0);

@@ -2,22 +2,22 @@
 
 use super::File;
 use crate::pack::consistency::{examine, Pack};
-use crate::pack::entry::{self, Entry, EXTEND, FIRST, LAST, LENGTH, LINKED, OUTPUT};
-use crate::pack::form::PAYLOAD_BYTES;
+use crate::pack::entry::{Entry, EXTEND, FIRST, LAST, LENGTH, LINKED, OUTPUT};
+use crate::pack::form::Form;
 use crate::pack::rights::rights;
-use crate::pack::{block, block_mut, link};
 use crate::refusal::{require, Refusal};
 use crate::words::set_word;
 
-/// Linked read: "buffer of 510, read right, a reader"; places are counted from 0 along the chain.
+/// Linked read: a buffer of a payload, "read right, a reader"; places are counted from 0 along the chain.
 pub fn linked_read(image: &[u8], caller: usize, file: File, place: usize, buffer: &mut [u8]) -> Result<(), Refusal> {
     let pack = examine(image)?;
     file.require_legal()?;
-    require(buffer.len() == PAYLOAD_BYTES, Refusal::Argument)?;
+    require(buffer.len() == pack.form().payload_bytes(), Refusal::Argument)?;
     let found = require_readable(image, &pack, caller, &file)?;
     require(place < found.length as usize, Refusal::NoBlock)?;
-    let number = (0..place).fold(found.first as usize, |number, _| link(image, number));
-    buffer.copy_from_slice(&block(image, number)[2..]);
+    let form = pack.form();
+    let number = (0..place).fold(found.first as usize, |number, _| form.link(image, number));
+    buffer.copy_from_slice(form.payload(image, number));
     Ok(())
 }
 
@@ -25,10 +25,10 @@ pub fn linked_read(image: &[u8], caller: usize, file: File, place: usize, buffer
 pub fn linked_add(image: &mut [u8], caller: usize, file: File, payload: &[u8]) -> Result<usize, Refusal> {
     let pack = examine(image)?;
     file.require_legal()?;
-    require(payload.len() == PAYLOAD_BYTES, Refusal::Argument)?;
+    require(payload.len() == pack.form().payload_bytes(), Refusal::Argument)?;
     let index = require_writable(image, &pack, caller, &file)?;
     let added = pack.free().next().ok_or(Refusal::NoRoom)?;
-    join(image, index, added, payload);
+    join(pack.form(), image, index, added, payload);
     Ok(added)
 }
 
@@ -51,19 +51,19 @@ pub(super) fn require_writable(image: &[u8], pack: &Pack, caller: usize, file: &
 }
 
 /// Joins a free block with its payload to the end of the linked file of an entry.
-pub(super) fn join(image: &mut [u8], index: usize, added: usize, payload: &[u8]) {
-    let found = Entry::read(entry::bytes(image, index));
+pub(super) fn join(form: Form, image: &mut [u8], index: usize, added: usize, payload: &[u8]) {
+    let found = Entry::read(form.entry(image, index));
     let number = added as u16;
-    let body = block_mut(image, added);
+    let body = form.block_mut(image, added);
     set_word(body, 0, 0);
     body[2..].copy_from_slice(payload);
     if found.length == 0 {
         // An empty file has no last block; its number 0 there is not a link to be written.
-        set_word(entry::bytes_mut(image, index), FIRST, number);
+        set_word(form.entry_mut(image, index), FIRST, number);
     } else {
-        set_word(block_mut(image, found.last as usize), 0, number);
+        set_word(form.block_mut(image, found.last as usize), 0, number);
     }
-    let bytes = entry::bytes_mut(image, index);
+    let bytes = form.entry_mut(image, index);
     set_word(bytes, LENGTH, found.length + 1);
     set_word(bytes, LAST, number);
 }

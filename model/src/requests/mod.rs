@@ -61,7 +61,7 @@ impl File {
         // No legal name is 0, so an empty entry is never taken for the file.
         let key = u64::from_le_bytes(key);
         (0..pack.header.entries())
-            .map(|index| (index, entry::bytes(image, index)))
+            .map(|index| (index, pack.form().entry(image, index)))
             .find(|(_, bytes)| entry::key(bytes) == key)
             .map(|(index, bytes)| (index, Entry::read(bytes)))
     }

@@ -2,153 +2,163 @@
 
 use crate::packs::{Seen, UICS};
 use crate::random::Random;
-use model::pack::entry::{self, Entry, CONTIGUOUS, LINKED};
-use model::pack::form::{
-    BLOCK_BYTES, ENTRIES_PER_BLOCK, LEAST_BLOCKS, LEAST_CONTENTS, MOST_BLOCKS, MOST_CONTENTS, MOST_UICS,
-};
-use model::pack::{block_mut, link};
+use crate::wrong::device_block;
+use model::pack::entry::{Entry, CONTIGUOUS};
+use model::pack::form::Form;
+use model::pack::header::FIRST_UIC;
 use model::words::{set_word, word};
 
 /// Damages a consistent pack. Some damage leaves a consistent pack behind, which is then to be taken as one.
 pub fn damage(random: &mut Random, image: &mut Vec<u8>) {
+    let seen = Seen::of(image);
     match random.below(20) {
-        0 => {
-            let length = match random.below(4) {
-                0 => random.below(6),
-                1 => image.len() - BLOCK_BYTES,
-                _ => image.len() - 1 - random.below(3),
-            };
-            image.truncate(length);
+        0..=2 => damage_size(random, image, &seen),
+        3 => {
+            let from = *seen.form.entry(image, random.below(seen.entries()));
+            *seen.form.entry_mut(image, random.below(seen.entries())) = from;
         }
-        1 => {
-            let more = random.pick(&[1, 2, BLOCK_BYTES - 1, BLOCK_BYTES, 2 * BLOCK_BYTES]);
+        4..=8 => damage_blocks(random, image, &seen),
+        9..=11 => damage_header(random, image, &seen),
+        12..=16 => damage_entry(random, image, &seen),
+        17 | 18 => damage_word(random, image, seen.form),
+        _ => {
+            damage_entry(random, image, &seen);
+            damage_word(random, image, seen.form);
+        }
+    }
+}
+
+/// Makes a pack longer or shorter, sometimes by a block that the header knows of.
+fn damage_size(random: &mut Random, image: &mut Vec<u8>, seen: &Seen) {
+    let block = seen.form.block_bytes();
+    match random.below(6) {
+        0 => image.truncate(match random.below(4) {
+            0 => random.below(6),
+            1 => image.len() - block,
+            _ => image.len() - 1 - random.below(3),
+        }),
+        1 => image.resize(device_block(random) * seen.blocks, 0),
+        2 | 3 => {
+            let more = random.pick(&[1, 2, block - 1, block, 2 * block]);
             image.extend(random.bytes(more));
         }
-        2 => {
-            // A block more, or less, which the header knows of.
-            let blocks = word(image, 1);
-            if random.chance(1, 2) {
-                image.extend(random.bytes(BLOCK_BYTES));
-                set_word(image, 1, blocks + 1);
-            } else {
-                image.truncate(image.len() - BLOCK_BYTES);
-                set_word(image, 1, blocks - 1);
-            }
+        4 => {
+            image.extend(random.bytes(block));
+            set_word(image, 1, seen.blocks as u16 + 1);
         }
-        3 => {
-            let entries = word(image, 2) as usize * ENTRIES_PER_BLOCK;
-            let from = *entry::bytes(image, random.below(entries));
-            *entry::bytes_mut(image, random.below(entries)) = from;
-        }
-        4..=8 => damage_blocks(random, image),
-        9..=11 => damage_header(random, image),
-        12..=16 => damage_entry(random, image),
-        17 | 18 => damage_word(random, image),
         _ => {
-            damage_entry(random, image);
-            damage_word(random, image);
+            image.truncate(image.len() - block);
+            set_word(image, 1, seen.blocks as u16 - 1);
         }
     }
 }
 
 /// Gives a file other blocks, so that its three numbers and its links still agree with one another.
-fn damage_blocks(random: &mut Random, image: &mut [u8]) {
-    let seen = Seen::of(image);
-    let (blocks, contents) = (seen.blocks, seen.contents);
-    let entries = contents * ENTRIES_PER_BLOCK;
-    let used: Vec<usize> = (0..entries).filter(|&index| !entry::is_empty(entry::bytes(image, index))).collect();
+fn damage_blocks(random: &mut Random, image: &mut [u8], seen: &Seen) {
+    let used = seen.used(image);
     if used.is_empty() {
-        return damage_header(random, image);
+        return damage_header(random, image, seen);
     }
     let index = random.pick(&used);
-    let mut file = Entry::read(entry::bytes(image, index));
+    let mut file = Entry::read(seen.form.entry(image, index));
     // A block at an edge of the bodies, or of another file.
     let other = random.pick(&seen.files);
-    let somewhere = random.below(blocks);
-    let block = random.pick(&[0, 1, contents, contents + 1, blocks - 1, blocks, somewhere, other.first as usize]);
+    let (first_body, somewhere) = (seen.bodies().start, random.below(seen.blocks));
+    let edges = [0, 1, first_body - 1, first_body, seen.blocks - 1, seen.blocks, somewhere, other.first as usize];
+    let block = random.pick(&edges);
     if file.kind == CONTIGUOUS {
         let (first, length) = (file.first as usize, file.length as usize);
         let (first, length) = match random.below(4) {
             0 => (first, length + 1),
             1 => (first - 1, length + 1),
             2 => (block, length),
-            _ => (block, random.between(1, blocks)),
+            _ => (block, random.between(1, seen.blocks)),
         };
-        file.first = first as u16;
-        file.length = length as u16;
-        file.last = (first + length - 1) as u16;
+        (file.first, file.length, file.last) = (first as u16, length as u16, (first + length - 1) as u16);
     } else {
-        let mut chain = chain(image, &file);
-        match random.below(4) {
-            0 => chain.push(block),
-            1 => chain = vec![block],
-            2 => {
-                chain.pop();
-            }
-            _ if other.kind == LINKED => chain.extend(self::chain(image, &other)),
-            _ => chain.extend(other.first as usize..=other.last as usize),
-        }
-        for (place, &block) in chain.iter().enumerate() {
-            // A link that would be written into the contents is not: it is there or it is not.
-            if block > contents && block < blocks {
-                let next = chain.get(place + 1).copied().unwrap_or(0);
-                set_word(block_mut(image, block), 0, next as u16);
-            }
-        }
-        file.first = chain.first().copied().unwrap_or(0) as u16;
-        file.length = chain.len() as u16;
-        file.last = chain.last().copied().unwrap_or(0) as u16;
+        let chain = damaged_chain(random, chain(seen.form, image, &file), block, chain(seen.form, image, &other));
+        write_links(image, seen, &chain);
+        let [first, last] = [chain.first(), chain.last()].map(|block| block.copied().unwrap_or(0) as u16);
+        (file.first, file.length, file.last) = (first, chain.len() as u16, last);
     }
-    file.write(entry::bytes_mut(image, index));
+    file.write(seen.form.entry_mut(image, index));
 }
 
-/// The blocks of a linked file.
-fn chain(image: &[u8], file: &Entry) -> Vec<usize> {
-    let mut block = file.first as usize;
-    let mut chain = Vec::new();
-    for _ in 0..file.length {
-        chain.push(block);
-        block = link(image, block);
+/// A chain with a block more, or another one, or one less, or the blocks of another file.
+fn damaged_chain(random: &mut Random, mut chain: Vec<usize>, block: usize, other: Vec<usize>) -> Vec<usize> {
+    match random.below(4) {
+        0 => chain.push(block),
+        1 => chain = vec![block],
+        2 => {
+            chain.pop();
+        }
+        _ => chain.extend(other),
     }
     chain
 }
 
+/// Links the blocks of a chain, each to the next.
+fn write_links(image: &mut [u8], seen: &Seen, chain: &[usize]) {
+    for (place, &block) in chain.iter().enumerate() {
+        // A link that would be written into the contents is not: it is there or it is not.
+        if seen.bodies().contains(&block) {
+            let next = chain.get(place + 1).copied().unwrap_or(0);
+            set_word(seen.form.block_mut(image, block), 0, next as u16);
+        }
+    }
+}
+
+/// The blocks of a file.
+fn chain(form: Form, image: &[u8], file: &Entry) -> Vec<usize> {
+    if file.kind == CONTIGUOUS {
+        return (file.first as usize..=file.last as usize).collect();
+    }
+    let next = |&block: &usize| Some(form.link(image, block));
+    std::iter::successors(Some(file.first as usize), next).take(file.length as usize).collect()
+}
+
 /// Changes a word of block 0, mostly to a number at the edge of what it may be.
-fn damage_header(random: &mut Random, image: &mut [u8]) {
-    let uics = word(image, 3) as usize;
+fn damage_header(random: &mut Random, image: &mut [u8], seen: &Seen) {
+    let form = seen.form;
+    let last = form.block_words() - 1;
+    let behind = (FIRST_UIC + seen.uics.len()).min(last);
     let at = match random.below(8) {
         0 => 0,
         1 => 1,
         2 => 2,
         3 => 3,
-        4 | 5 => 4 + random.below(uics + 1).min(63),
-        6 => 255,
-        _ => random.between(4 + uics, 255),
+        4 | 5 => random.between(FIRST_UIC, behind),
+        6 => last,
+        _ => random.between(behind, last),
     };
     let old = word(image, at);
-    let edges: &[u16] = match at {
-        0 => &[0, 2, 3, 257],
-        1 => &[0, LEAST_BLOCKS as u16 - 1, LEAST_BLOCKS as u16, MOST_BLOCKS as u16, MOST_BLOCKS as u16 + 1],
-        2 => &[0, 1, 2, MOST_CONTENTS as u16, MOST_CONTENTS as u16 + 1, MOST_CONTENTS as u16 + 2],
-        3 => &[0, 1, MOST_UICS as u16 - 1, MOST_UICS as u16, MOST_UICS as u16 + 1],
-        _ => &[0, 0o11410, 0o5004, 1],
-    };
     let value = match random.below(4) {
         0 => old.wrapping_add(1),
         1 => old.wrapping_sub(1),
-        _ => random.pick(edges),
+        _ => random.pick(&header_edges(seen, at)) as u16,
     };
     set_word(image, at, value);
 }
 
+/// Numbers at the edge of what a word of block 0 may be.
+fn header_edges(seen: &Seen, at: usize) -> Vec<usize> {
+    let Form { system, least_blocks, most_blocks, most_contents, most_uics, .. } = seen.form;
+    match at {
+        0 => vec![0, 1, 2, 3, 257],
+        1 => vec![0, least_blocks - 1, least_blocks, most_blocks, most_blocks + 1],
+        2 => vec![0, 1, 2, most_contents, most_contents + 1, most_contents + 2, seen.blocks - system],
+        3 => vec![0, 1, most_uics - 1, most_uics, most_uics + 1],
+        _ => vec![0, 0o11410, 0o5004, 1],
+    }
+}
+
 /// Changes a word of an entry, mostly of one that is used and to a number at the edge of what it may be.
-fn damage_entry(random: &mut Random, image: &mut [u8]) {
-    let entries = (word(image, 2) as usize).clamp(LEAST_CONTENTS, MOST_CONTENTS) * ENTRIES_PER_BLOCK;
-    let used: Vec<usize> = (0..entries).filter(|&index| !entry::is_empty(entry::bytes(image, index))).collect();
+fn damage_entry(random: &mut Random, image: &mut [u8], seen: &Seen) {
+    let (entries, used) = (seen.entries(), seen.used(image));
     let index = if used.is_empty() || random.chance(1, 8) { random.below(entries) } else { random.pick(&used) };
     let at = random.below(16);
-    let from = word(entry::bytes(image, random.below(entries)), at);
-    let bytes = entry::bytes_mut(image, index);
+    let from = word(seen.form.entry(image, random.below(entries)), at);
+    let bytes = seen.form.entry_mut(image, index);
     let old = word(bytes, at);
     let edges: &[u16] = match at {
         0..=2 => &[0, 1, 29, 40, 1600, 1601, 1640, 27 * 1600, 28 * 1600 + 1, 1600 + 29 * 40, 63999, 64000, 65535],
@@ -168,9 +178,10 @@ fn damage_entry(random: &mut Random, image: &mut [u8]) {
 }
 
 /// Changes a word anywhere, mostly a link or what would be one.
-fn damage_word(random: &mut Random, image: &mut [u8]) {
-    let blocks = image.len() / BLOCK_BYTES;
-    let at = if random.chance(1, 4) { random.below(image.len() / 2) } else { BLOCK_BYTES / 2 * random.below(blocks) };
+fn damage_word(random: &mut Random, image: &mut [u8], form: Form) {
+    let blocks = image.len() / form.block_bytes();
+    let anywhere = random.chance(1, 4);
+    let at = if anywhere { random.below(image.len() / 2) } else { form.block_words() * random.below(blocks) };
     let value = match random.below(4) {
         0 => 0,
         1 => random.number() as u16,

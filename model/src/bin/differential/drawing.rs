@@ -1,24 +1,17 @@
 //! Draws the arguments of a call: mostly such as a deed can come of, and some that are wrong in one way or another.
 
 use crate::call::{Call, Numbers};
+use crate::files::{new_file, old_file, pool_file, present, spoil};
 use crate::lines;
-use crate::packs::{self, packed, Seen, EXTENSIONS, NAMES, UICS};
+use crate::packs::{self, Seen};
 use crate::random::Random;
 use crate::request::Request;
-use crate::text;
+use crate::transfers;
 use crate::writing;
+use crate::wrong::HUGE;
 use model::command::{csi2, reading};
-use model::pack::entry::{Entry, CONTIGUOUS, EXTEND, LINKED, OUTPUT, UPDATE};
-use model::pack::form::{BLOCK_BYTES, FORM, LEAST_BLOCKS, MOST_BLOCKS, MOST_CONTENTS, PAYLOAD_BYTES};
-use model::requests::File;
-
-/// Numbers that are too large for what they are given for, some so that their low 16 or 32 bits would be good.
-pub const HUGE: [usize; 10] =
-    [64000, 65535, 65536, 65537, 1 << 31, (1 << 32) + 1, 1 << 63, (1 << 63) + 3, usize::MAX - 2, usize::MAX];
-
-/// Words that are no part of a legal name, or only in some places.
-const BAD_WORDS: [usize; 12] =
-    [0, 1, 40, 29, 27 * 1600, 28 * 1600, 29 * 1600, 1600 + 1, 1600 + 29 * 40, 1600 + 40 + 27, 64000, 63999];
+use model::pack::entry::{Entry, CONTIGUOUS, LINKED, OUTPUT};
+use model::pack::form::{Form, ALL};
 
 /// A request that is drawn by its weight.
 pub fn request(random: &mut Random) -> Request {
@@ -37,7 +30,7 @@ pub fn request(random: &mut Random) -> Request {
 pub fn call(random: &mut Random, request: Request, image: &[u8]) -> Call {
     let seen = &Seen::of(image);
     let (numbers, line, buffer) = match request {
-        Request::Format => without_line(format(random, seen)),
+        Request::Format => without_line(format(random)),
         Request::Alloc | Request::Openo => numbers_alone(creating(random, seen)),
         Request::Renam => numbers_alone(renaming(random, seen)),
         Request::Appnd => numbers_alone(appending(random, seen)),
@@ -48,11 +41,11 @@ pub fn call(random: &mut Random, request: Request, image: &[u8]) -> Call {
         Request::Finish => numbers_alone(Numbers::One(finishing(random, seen))),
         Request::Owner => numbers_alone(Numbers::One(block(random, seen))),
         Request::BlockIn | Request::BlockOut | Request::LinkedRead | Request::LinkedAdd => {
-            without_line(transferring(random, request, seen))
+            without_line(transfers::transferring(random, request, seen))
         }
-        Request::LineRead => without_line(text::reading(random, seen, image)),
-        Request::LineWrite => text::writing(random, seen),
-        Request::LineEnd => without_line(text::ending(random, seen)),
+        Request::LineRead => without_line(transfers::reading(random, seen, image)),
+        Request::LineWrite => transfers::writing(random, seen),
+        Request::LineEnd => without_line(transfers::ending(random, seen)),
         Request::Radpk | Request::D2bin | Request::O2bin => (Numbers::None, Vec::new(), to_number(random, request)),
         Request::Radup | Request::Bin2d | Request::Bin2o => without_line(to_characters(random, request)),
         Request::Csi1 => condensing(random),
@@ -70,35 +63,39 @@ fn without_line((numbers, buffer): (Numbers, Vec<u8>)) -> (Numbers, Vec<u8>, Vec
     (numbers, Vec::new(), buffer)
 }
 
-fn format(random: &mut Random, seen: &Seen) -> (Numbers, Vec<u8>) {
-    let (blocks, contents) = (seen.blocks, packs::measures(random).1);
+fn format(random: &mut Random) -> (Numbers, Vec<u8>) {
+    let form = random.pick(ALL);
+    let (blocks, contents) = packs::measures(random, form);
+    let word = form.word as usize;
     let edges = [
         0,
-        LEAST_BLOCKS - 1,
-        LEAST_BLOCKS,
-        MOST_BLOCKS,
-        MOST_BLOCKS + 1,
+        form.least_blocks - 1,
+        form.least_blocks,
+        form.most_blocks,
+        form.most_blocks + 1,
         blocks + 1,
         blocks + 65536,
-        blocks + (1 << 55),
+        // So that the bytes of all blocks would be as many as there are.
+        blocks + (1 << 57),
     ];
-    let form = FORM as usize;
-    let (form, blocks, contents) = match random.below(12) {
-        0 => (random.pick(&[0, 2, 3, 65537]), blocks, contents),
-        1 => (form, random.pick(&edges), contents),
-        2 => (form, blocks, random.pick(&[0, MOST_CONTENTS + 1, MOST_CONTENTS + 2, 65537, usize::MAX])),
-        _ => (form, blocks, contents),
+    let most = form.most_contents;
+    let (word, blocks, contents) = match random.below(12) {
+        0 => (random.pick(&[0, 1, 2, 3, 4, word + 65536]), blocks, contents),
+        1 => (word, random.pick(&edges), contents),
+        2 => (word, blocks, random.pick(&[0, most + 1, most + 2, blocks - form.system, 65537, usize::MAX])),
+        _ => (word, blocks, contents),
     };
-    (Numbers::Format { form, blocks, contents }, format_uics(random))
+    (Numbers::Format { form: word, blocks, contents }, format_uics(random, form))
 }
 
 fn creating(random: &mut Random, seen: &Seen) -> Numbers {
     let (caller, file) = new_file(random, seen);
+    let all = seen.form.segments * seen.blocks;
     let segments = match random.below(10) {
-        0 => random.pick(&[0, 0, 65535, 65536, 65540, 4 * seen.blocks, 1 << 63, usize::MAX, usize::MAX - 2]),
-        1 => random.between(1, 4 * seen.blocks),
-        2 => 4 * (seen.blocks - seen.contents - 1) + random.below(2),
-        _ => random.between(1, 24),
+        0 => random.pick(&[0, 0, 65535, 65536, 65540, all, 1 << 63, usize::MAX, usize::MAX - 2]),
+        1 => random.between(1, all),
+        2 => seen.form.segments * seen.bodies().len() + random.below(2),
+        _ => random.between(1, 6 * seen.form.segments),
     };
     Numbers::New { caller, file, protect: protect(random), segments }
 }
@@ -165,24 +162,9 @@ fn block(random: &mut Random, seen: &Seen) -> usize {
         0 => random.pick(&HUGE),
         1 => seen.blocks,
         2 => seen.blocks - 1,
-        3 => random.below(seen.contents + 2),
+        3 => random.below(seen.bodies().start + 1),
         _ => random.below(seen.blocks),
     }
-}
-
-fn transferring(random: &mut Random, request: Request, seen: &Seen) -> (Numbers, Vec<u8>) {
-    let (caller, file) = old_file(random, seen, |file| match request {
-        Request::LinkedRead => file.kind == LINKED && file.readers != 0,
-        Request::LinkedAdd => file.kind == LINKED && matches!(file.writer, OUTPUT | EXTEND),
-        _ => file.kind == CONTIGUOUS && (file.writer == UPDATE || file.readers != 0),
-    });
-    let size = if matches!(request, Request::BlockIn | Request::BlockOut) { BLOCK_BYTES } else { PAYLOAD_BYTES };
-    let buffer = transfer_buffer(random, size);
-    let numbers = match request {
-        Request::LinkedAdd => Numbers::File { caller, file },
-        _ => Numbers::Place { caller, file, place: place(random, seen, &file) },
-    };
-    (numbers, buffer)
 }
 
 /// Characters for a conversion to a number.
@@ -254,12 +236,12 @@ fn asking(random: &mut Random) -> (Numbers, Vec<u8>, Vec<u8>) {
 }
 
 /// The UICs for Format, as bytes, and sometimes wrong.
-fn format_uics(random: &mut Random) -> Vec<u8> {
-    let mut uics = packs::uics(random);
+fn format_uics(random: &mut Random, form: Form) -> Vec<u8> {
+    let mut uics = packs::uics(random, form);
     match random.below(12) {
         0 => uics.push(0),
         1 => uics.extend(uics.first().copied()),
-        2 => uics = (1..=random.between(63, 66) as u16).collect(),
+        2 => uics = (1..=random.between(form.most_uics - 1, form.most_uics + 2) as u16).collect(),
         _ => {}
     }
     random.shuffle(&mut uics);
@@ -276,128 +258,6 @@ fn protect(random: &mut Random) -> usize {
         1..=5 => random.pick(&[0, 3, 0o33, 0o100, 0o255, 0o377]),
         _ => random.below(256),
     }
-}
-
-/// A file by one of the few names, mostly with a UIC that is listed.
-fn pool_file(random: &mut Random, seen: &Seen) -> File {
-    let name = packed(random.pick(&NAMES), random.pick(&EXTENSIONS));
-    let listed = !seen.uics.is_empty() && random.chance(9, 10);
-    let uic = if listed { random.pick(&seen.uics) } else { random.pick(&UICS) };
-    named(name, uic)
-}
-
-fn named(name: [u16; 3], uic: u16) -> File {
-    File { name1: name[0] as usize, name2: name[1] as usize, extension: name[2] as usize, uic: uic as usize }
-}
-
-/// A caller and a file to be created.
-fn new_file(random: &mut Random, seen: &Seen) -> (usize, File) {
-    let mut file = pool_file(random, seen);
-    if random.chance(1, 2) {
-        let name = packed(&format!("N{}", random.below(400)), "");
-        file = named(name, file.uic as u16);
-    }
-    if random.chance(1, 12) && !seen.files.is_empty() {
-        let there = random.pick(&seen.files);
-        file = named([there.name1, there.name2, there.extension], there.uic);
-    }
-    with_caller(random, file)
-}
-
-/// A caller and a file that is mostly there, and mostly one that serves.
-pub fn old_file(random: &mut Random, seen: &Seen, serves: impl Fn(&Entry) -> bool) -> (usize, File) {
-    let file = present(random, seen, serves);
-    with_caller(random, file)
-}
-
-/// The same with the UIC that its entry has.
-fn present(random: &mut Random, seen: &Seen, serves: impl Fn(&Entry) -> bool) -> File {
-    let serving: Vec<&Entry> = seen.files.iter().filter(|file| serves(file)).collect();
-    let there = if !serving.is_empty() && random.chance(4, 5) {
-        random.pick(&serving)
-    } else if !seen.files.is_empty() && random.chance(4, 5) {
-        &seen.files[random.below(seen.files.len())]
-    } else {
-        return pool_file(random, seen);
-    };
-    named([there.name1, there.name2, there.extension], there.uic)
-}
-
-/// Chooses who calls, and says the UIC as he might, sometimes wrong; sometimes the name is spoilt.
-fn with_caller(random: &mut Random, mut file: File) -> (usize, File) {
-    let owner = file.uic;
-    let caller = match random.below(20) {
-        0..=11 => owner,
-        12 | 13 => owner ^ 1,
-        14 | 15 => random.pick(&UICS) as usize,
-        16 => random.below(65536),
-        17 => 0,
-        18 => owner + 65536,
-        _ => random.pick(&HUGE),
-    };
-    file.uic = match random.below(24) {
-        0 => owner + 65536,
-        1 => random.pick(&HUGE),
-        2 => 0,
-        3 => random.pick(&UICS) as usize,
-        4..=12 if caller == owner => 0,
-        _ => owner,
-    };
-    if random.chance(1, 14) {
-        spoil(random, &mut file);
-    }
-    (caller, file)
-}
-
-/// Changes a word of a name, mostly to one that is not legal there.
-fn spoil(random: &mut Random, file: &mut File) {
-    let word = match random.below(4) {
-        0 => random.pick(&HUGE),
-        1 => random.below(65536),
-        _ => random.pick(&BAD_WORDS),
-    };
-    match random.below(4) {
-        0 => file.name1 = word,
-        1 => file.name2 = word,
-        2 => file.extension = word,
-        _ => file.name1 = file.name1.saturating_add(65536),
-    }
-}
-
-/// The length of a file, or of one with its name.
-pub fn length(seen: &Seen, file: &File) -> usize {
-    let same = |there: &&Entry| there.name1 as usize == file.name1 && there.name2 as usize == file.name2;
-    seen.files.iter().find(same).map_or(1, |there| there.length as usize)
-}
-
-/// A place in a file, sometimes behind its end.
-fn place(random: &mut Random, seen: &Seen, file: &File) -> usize {
-    let length = length(seen, file);
-    match random.below(10) {
-        0 => length,
-        1 => length + random.below(3),
-        2 => random.pick(&HUGE),
-        3 => length.saturating_sub(1),
-        _ => random.below(length.max(1)),
-    }
-}
-
-/// A buffer for a transfer, mostly of the size asked.
-pub fn transfer_buffer(random: &mut Random, size: usize) -> Vec<u8> {
-    const WRONG: [usize; 10] = [
-        0,
-        1,
-        2,
-        PAYLOAD_BYTES - 1,
-        PAYLOAD_BYTES,
-        PAYLOAD_BYTES + 1,
-        BLOCK_BYTES,
-        BLOCK_BYTES + 1,
-        BLOCK_BYTES + 2,
-        2 * BLOCK_BYTES,
-    ];
-    let length = if random.chance(1, 10) { random.pick(&WRONG) } else { size };
-    random.bytes(length)
 }
 
 /// Characters for a conversion, mostly of its set and of the size asked.

@@ -6,6 +6,7 @@
 mod call;
 mod damage;
 mod drawing;
+mod files;
 mod lent;
 mod lines;
 mod packs;
@@ -14,19 +15,22 @@ mod reports;
 mod request;
 mod tally;
 mod text;
+mod transfers;
 mod writing;
+mod wrong;
 
 use call::{Call, Numbers, Said};
 use lent::Lent;
 use model::command::grammar;
 use model::pack::consistency::examine;
-use model::pack::form::{BLOCK_BYTES, MOST_BLOCKS};
+use model::pack::form::Form;
 use random::Random;
 use reports::Reports;
 use request::Request;
 use std::process::ExitCode;
 use std::time::Instant;
 use tally::Tally;
+use wrong::device_block;
 
 /// The seed, if none is said: each run is the same then.
 const SEED: u64 = 1971;
@@ -101,8 +105,6 @@ fn run(calls: u64, seed: u64, report: &mut Report) -> Result<(), (u64, String)> 
     let mut random = Random::new(seed);
     let mut pack = Pair::new(&[]);
     let mut other = Pair::new(&[]);
-    let mut line = Pair::new(&[]);
-    let mut buffer = Pair::new(&[]);
     let mut left = 0;
     for step in 0..calls {
         if left == 0 {
@@ -114,32 +116,8 @@ fn run(calls: u64, seed: u64, report: &mut Report) -> Result<(), (u64, String)> 
             packs::edit(&mut random, pack.model.slice_mut());
             pack.library.slice_mut().copy_from_slice(pack.model.slice());
         }
-
-        let request = drawing::request(&mut random);
-        let drawn = drawing::call(&mut random, request, pack.model.slice());
-        line.set(&drawn.line);
-        buffer.set(&drawn.buffer);
-        let damaged = request.is_on_pack() && random.chance(1, 8);
-        if damaged {
-            let mut image = pack.model.slice().to_vec();
-            damage::damage(&mut random, &mut image);
-            report.damaged += 1;
-            report.damaged_consistent += examine(&image).is_ok() as usize;
-            report.reports.compare(&mut random, &image).map_err(|difference| (step, difference))?;
-            other.set(&image);
-        } else if let Numbers::Format { blocks, .. } = drawn.numbers {
-            other.set(&unformatted(&mut random, blocks));
-        } else {
-            other.set(&[]);
-        }
-        let image = if request.is_on_pack() && !damaged { &mut pack } else { &mut other };
-
-        let answer = compare(&drawn, image, &mut line, &mut buffer, report).map_err(|difference| (step, difference))?;
-        report.tally.count(&drawn, &answer);
-        if examine(pack.model.slice()).is_err() {
-            return Err((step, format!("{drawn:?}the pack is not consistent any more")));
-        }
-        if request == Request::Format && answer[0] == 0 && random.chance(1, 4) {
+        let formatted = one_call(&mut random, &mut pack, &mut other, report).map_err(|what| (step, what))?;
+        if formatted && random.chance(1, 4) {
             std::mem::swap(&mut pack, &mut other);
             left = random.between(20, 200);
         }
@@ -147,25 +125,62 @@ fn run(calls: u64, seed: u64, report: &mut Report) -> Result<(), (u64, String)> 
     Ok(())
 }
 
-/// An image of so many blocks that is no pack, sometimes of another size.
-fn unformatted(random: &mut Random, blocks: usize) -> Vec<u8> {
-    let length = BLOCK_BYTES * blocks.min(MOST_BLOCKS + 1);
-    let length = match random.below(16) {
-        0 => length + random.between(1, BLOCK_BYTES),
-        1 => length.saturating_sub(random.between(1, BLOCK_BYTES)),
-        _ => length,
+/// Makes a call on the pack or on another image, and says if it made a new pack of that; an error is what differed.
+fn one_call(random: &mut Random, pack: &mut Pair, other: &mut Pair, report: &mut Report) -> Result<bool, String> {
+    let form = Form::of_image(pack.model.slice()).expect("the pack is consistent");
+    let request = drawing::request(random);
+    let drawn = drawing::call(random, request, pack.model.slice());
+    let image = match other_image(random, &drawn, pack.model.slice(), report)? {
+        Some(content) => {
+            other.set(&content);
+            other
+        }
+        None => &mut *pack,
+    };
+    let answer = compare(&drawn, image, report)?;
+    report.tally.count(form, &drawn, &answer);
+    if examine(pack.model.slice()).is_err() {
+        return Err(format!("{drawn:?}the pack is not consistent any more"));
+    }
+    Ok(request == Request::Format && answer[0] == 0)
+}
+
+/// The image of a call that is not made on the pack itself: one to be formatted, none, or a damaged copy of the pack.
+fn other_image(random: &mut Random, call: &Call, pack: &[u8], report: &mut Report) -> Result<Option<Vec<u8>>, String> {
+    if let Numbers::Format { form, blocks, .. } = call.numbers {
+        return Ok(Some(unformatted(random, form, blocks)));
+    }
+    if !call.request.is_on_pack() {
+        return Ok(Some(Vec::new()));
+    }
+    if !random.chance(1, 8) {
+        return Ok(None);
+    }
+    let mut image = pack.to_vec();
+    damage::damage(random, &mut image);
+    report.damaged += 1;
+    report.damaged_consistent += examine(&image).is_ok() as usize;
+    report.reports.compare(random, &image)?;
+    Ok(Some(image))
+}
+
+/// An image for a Format of so many blocks, sometimes of another size.
+fn unformatted(random: &mut Random, form: usize, blocks: usize) -> Vec<u8> {
+    let block = Form::of_word(form).unwrap_or(Form::ONE).block_bytes();
+    // Of a number that is too large, the low bits are taken.
+    let blocks = blocks % 65536;
+    let length = match random.below(20) {
+        0 => block * blocks + random.between(1, block),
+        1 => (block * blocks).saturating_sub(random.between(1, block)),
+        2 => device_block(random) * blocks,
+        _ => block * blocks,
     };
     random.bytes(length)
 }
 
 /// Makes a call in both ways and compares; gives the answer, or what differed.
-fn compare(
-    call: &Call,
-    image: &mut Pair,
-    line: &mut Pair,
-    buffer: &mut Pair,
-    report: &mut Report,
-) -> Result<Said, String> {
+fn compare(call: &Call, image: &mut Pair, report: &mut Report) -> Result<Said, String> {
+    let (line, mut buffer) = (Pair::new(&call.line), Pair::new(&call.buffer));
     let before = image.model.slice().to_vec();
     let library = call.library(image.library.slice_mut(), line.library.slice(), buffer.library.slice_mut());
     let model = call.model(image.model.slice_mut(), line.model.slice(), buffer.model.slice_mut());
@@ -173,42 +188,48 @@ fn compare(
     if library != model {
         differences.push(String::from("the answers differ"));
     }
-    for (subject, pair) in [("image", &*image), ("line", &*line), ("buffer", &*buffer)] {
+    for (subject, pair) in [("image", &*image), ("line", &line), ("buffer", &buffer)] {
         report.bytes += pair.model.slice().len();
         if let Some(difference) = pair.library.difference(&pair.model) {
             differences.push(format!("{subject}, library and model: {difference}"));
         }
     }
-    if model[0] != 0 {
-        // "any other number in the answer 0 (but for the place with 50), and nothing in the image or a lent buffer
-        // changes": so for both, if they are alike.
-        let numbers = if model[0] == 0o50 { &model[2..] } else { &model[1..] };
-        if numbers.iter().any(|&number| number != 0) {
-            differences.push(String::from("a refusal has another number than 0"));
-        }
-        if image.model.slice() != before || buffer.model.slice() != call.buffer {
-            differences.push(String::from("a refusal changed what was lent"));
-        }
-    }
-    if !call.request.codes().contains(&model[0]) {
-        differences.push(format!("the model gives a code that {:?} does not have", call.request));
-    }
-    if call.status(&model).is_some_and(|(mode, status)| !call.request.statuses()[mode].contains(&status)) {
-        differences.push(format!("the model gives a status that {:?} does not have in this mode", call.request));
-    }
-    if call.request == Request::Csi2 && line.model.slice().len() <= 128 {
-        // The model has the grammar twice, and is to be of one mind about it.
-        if grammar::command().accepts(line.model.slice()) == (model[0] == 0o50) {
-            differences.push(String::from("the model's two writings of the grammar differ"));
-        }
-    }
-    if call.request == Request::CsiWrite && writing::is_said(call.numbers, &call.line) == (model[0] == 0o41) {
-        differences.push(String::from("the model's two ways to judge records differ"));
-    }
+    let kept = image.model.slice() == before && buffer.model.slice() == call.buffer;
+    differences.extend(faults(call, &model, kept));
     if differences.is_empty() {
         return Ok(model);
     }
     Err(format!("{call:?}library: {}\nmodel:   {}\n{}", said(&library), said(&model), differences.join("\n")))
+}
+
+/// What the model's answer to a call cannot be, whatever the library's is; `kept` says that it changed nothing that was lent.
+fn faults(call: &Call, answer: &Said, kept: bool) -> Vec<String> {
+    let request = call.request;
+    let code = answer[0];
+    let mut faults = Vec::new();
+    // "any other number in the answer 0 (but for the place with 50), and nothing in the image or a lent buffer changes".
+    let numbers = if code == 0o50 { &answer[2..] } else { &answer[1..] };
+    if code != 0 && numbers.iter().any(|&number| number != 0) {
+        faults.push(String::from("a refusal has another number than 0"));
+    }
+    if code != 0 && !kept {
+        faults.push(String::from("a refusal changed what was lent"));
+    }
+    if !request.codes().contains(&code) {
+        faults.push(format!("the model gives a code that {request:?} does not have"));
+    }
+    if call.status(answer).is_some_and(|(mode, status)| !request.statuses()[mode].contains(&status)) {
+        faults.push(format!("the model gives a status that {request:?} does not have in this mode"));
+    }
+    // The model has the grammar twice, and is to be of one mind about it.
+    let short = request == Request::Csi2 && call.line.len() <= 128;
+    if short && grammar::command().accepts(&call.line) == (code == 0o50) {
+        faults.push(String::from("the model's two writings of the grammar differ"));
+    }
+    if request == Request::CsiWrite && writing::is_said(call.numbers, &call.line) == (code == 0o41) {
+        faults.push(String::from("the model's two ways to judge records differ"));
+    }
+    faults
 }
 
 /// An answer as it is printed: the code octal, the numbers decimal.

@@ -1,9 +1,9 @@
 //! Writing command lines (02, §4): records of readings, and records near to them.
 
 use crate::call::Numbers;
-use crate::drawing::HUGE;
 use crate::lines;
 use crate::random::Random;
+use crate::wrong::HUGE;
 use model::answers::SpecificationAnswer;
 use model::command::{csi_write, reading, Specification};
 use model::conversions::radup;
@@ -86,12 +86,7 @@ pub fn writing(random: &mut Random) -> (Numbers, Vec<u8>, Vec<u8>) {
     }
     if random.chance(1, 12) {
         let side = random.below(2);
-        counts[side] = match random.below(4) {
-            0 => 0,
-            1 => counts[side].saturating_sub(1),
-            2 => counts[side] + 1,
-            _ => random.pick(&HUGE),
-        };
+        spoil_count(random, &mut counts[side]);
     }
     let mut bytes: Vec<u8> = words.iter().flat_map(|word| word.to_le_bytes()).collect();
     match random.below(16) {
@@ -119,6 +114,16 @@ fn empties(random: &mut Random) -> Records {
     let outputs = random.between(126, 132) - inputs;
     let all = outputs + inputs;
     Records { counts: [outputs, inputs], words: vec![0; 9 * all], starts: (0..all).map(|place| 9 * place).collect() }
+}
+
+/// Changes how many specifications a side has.
+fn spoil_count(random: &mut Random, count: &mut usize) {
+    *count = match random.below(4) {
+        0 => 0,
+        1 => count.saturating_sub(1),
+        2 => *count + 1,
+        _ => random.pick(&HUGE),
+    };
 }
 
 /// Changes one word of the records, seldom two.
@@ -170,7 +175,7 @@ pub fn is_said(numbers: Numbers, bytes: &[u8]) -> bool {
         let read = reading::read(line, |_, _, it| good &= it.device.is_none_or(|device| device.unit <= 7));
         read.is_some() && good
     };
-    bytes.len() % 2 == 0
+    bytes.len().is_multiple_of(2)
         && outputs > 0
         && line.is_some_and(|line| {
             let its = records(&line, false);

@@ -2,8 +2,6 @@
 
 use super::{is_terminator, Mode, END_OF_FILE, INVALID_LINE, NUL, RUBOUT};
 use crate::pack::consistency::examine;
-use crate::pack::form::PAYLOAD_BYTES;
-use crate::pack::{block, link};
 use crate::refusal::{require, Refusal};
 use crate::requests::linked::require_readable;
 use crate::requests::File;
@@ -31,21 +29,22 @@ pub fn line_read(
     let mode = Mode::require(mode)?;
     require(!buffer.is_empty(), Refusal::Argument)?;
     let found = require_readable(image, &pack, caller, &file)?;
-    let end = PAYLOAD_BYTES * found.length as usize;
+    let form = pack.form();
+    let end = form.payload_bytes() * found.length as usize;
     require(position <= end, Refusal::NoBlock)?;
 
     // "Reading starts at a byte position in the file's payloads, joined, and returns the next position."
     let mut line = Line { mode, buffer, count: 0, status: 0 };
     let mut position = position;
-    let mut number = (0..position / PAYLOAD_BYTES).fold(found.first as usize, |number, _| link(image, number));
+    let before = position / form.payload_bytes();
+    let mut number = (0..before).fold(found.first as usize, |number, _| form.link(image, number));
     while position < end {
-        let payload = &block(image, number)[2..];
-        let rest = &payload[position % PAYLOAD_BYTES..];
+        let rest = &form.payload(image, number)[position % form.payload_bytes()..];
         if let Some(used) = line.take(rest) {
             return Ok(Read { count: line.count, status: line.status, position: position + used });
         }
         position += rest.len();
-        number = link(image, number);
+        number = form.link(image, number);
     }
     // "Bit 6 means the file ended before a terminator; normal mode may set both."
     Ok(Read { count: line.count, status: line.status | END_OF_FILE, position })
