@@ -1,6 +1,7 @@
 /*
- * The forms of packs and the measures of each, for abz and for the tests. Word 0 of an image is the number of its form and
- * decides; for a new pack whoever formats it does. A further form is one more row here, and what is the most of all then.
+ * The forms of packs and the measures of each, for abz and for the tests. Word 0 of an image is the number of its form
+ * and decides; that of a new pack is an argument of abz_format. A further form is a row more here, and perhaps a higher
+ * number among the most of all.
  */
 #ifndef FORM_H
 #define FORM_H

@@ -287,7 +287,8 @@ static void reading_lines(void)
     CHECK_NUMBER(answer.status, ABZ_FILE_ENDED, "%s: status behind the last line", part);
     CHECK_NUMBER(answer.position, 4 * tried->payload, "%s: position behind the last line", part);
     CHECK_NUMBER(byte, '?', "%s: buffer behind the last line", part);
-    REFUSED(abz_line_read(image, pack, OTHER, FILE4(days), ABZ_NORMAL, answer.position + 1, &byte, 1).code, ABZ_NO_BLOCK);
+    position = answer.position + 1;
+    REFUSED(abz_line_read(image, pack, OTHER, FILE4(days), ABZ_NORMAL, position, &byte, 1).code, ABZ_NO_BLOCK);
     DONE_UNSEEN(abz_close(image, pack, OTHER, FILE4(days), ABZ_INPUT));
     REFUSED(abz_line_read(image, pack, OTHER, FILE4(days), ABZ_NORMAL, 0, &byte, 1).code, ABZ_NOT_OPEN);
 }

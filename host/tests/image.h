@@ -394,6 +394,30 @@ static inline file_key chance_key(const uint8_t *image)
     return key_of(names[chance(16)], extensions[chance(6)], uic);
 }
 
+static inline void shuffle(size_t *blocks, size_t count)
+{
+    for (size_t i = count; i > 1; i--) {
+        size_t other = chance(i), block = blocks[other];
+        blocks[other] = blocks[i - 1];
+        blocks[i - 1] = block;
+    }
+}
+
+/* Gives the linked files, which have no block yet, some of the free ones; and every file a protect code and opens. */
+static inline void chance_fields(uint8_t *image, const size_t *free, size_t count)
+{
+    for (size_t entry = 0; entry < entry_count(image); entry++) {
+        bool linked = get_field(image, entry, KIND) == LINKED;
+        size_t length = chance(6), writer = chance(2) ? 0 : linked ? 2 + chance(2) : 1, most = writer ? 61 : 62;
+        if (!used(image, entry))
+            continue;
+        if (linked && length <= count)
+            put_linked(image, entry, entry_key(image, entry), free + (count -= length), length);
+        set_field(image, entry, PROTECT, chance(256));
+        set_open(image, entry, writer, chance(3) ? chance(3) : most - chance(2));
+    }
+}
+
 /*
  * A consistent pack with so many files, at most all of its entries, its bodies full of random bytes. Contiguous files lie
  * behind one another with gaps, and linked ones are scattered over all that remains. Returns the length of the image.
@@ -427,22 +451,8 @@ static inline size_t chance_pack(uint8_t *image, size_t n, size_t c, size_t file
     }
     for (; next < n; next++)
         rest[count++] = next;
-    for (size_t i = count; i > 1; i--) {
-        size_t other = chance(i), block = rest[other];
-        rest[other] = rest[i - 1];
-        rest[i - 1] = block;
-    }
-
-    for (size_t entry = 0; entry < entries; entry++) {
-        bool linked = get_field(image, entry, KIND) == LINKED;
-        size_t length = chance(6), writer = chance(2) ? 0 : linked ? 2 + chance(2) : 1, most = writer ? 61 : 62;
-        if (!used(image, entry))
-            continue;
-        if (linked && length <= count)
-            put_linked(image, entry, entry_key(image, entry), rest + (count -= length), length);
-        set_field(image, entry, PROTECT, chance(256));
-        set_open(image, entry, writer, chance(3) ? chance(3) : most - chance(2));
-    }
+    shuffle(rest, count);
+    chance_fields(image, rest, count);
     return tried->block * n;
 }
 

@@ -514,8 +514,10 @@ static void causes(void)
 
 static size_t chance_position(size_t total)
 {
+    const size_t payload = tried->payload;
+
     switch (chance(4)) {
-    case 0: return tried->payload * chance(total / tried->payload + 1) + chance(4) - 2; /* about a block's end; also below 0 */
+    case 0: return payload * chance(total / payload + 1) + chance(4) - 2; /* about a block's end; also below 0 */
     case 1: return total - chance(20);
     default: return chance(total + 2);
     }

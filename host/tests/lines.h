@@ -123,8 +123,8 @@ static inline size_t lay(uint8_t *pack, size_t length, uint8_t *gather, const ui
 
 /*
  * "Refusals: those of linked read and add; 41 also for a maximum count of 0 or a filled count" of a payload or more; "44
- * for a position beyond the payloads." And: "A write whose full blocks have no room is refused whole." size is how many bytes
- * are laid.
+ * for a position beyond the payloads." And: "A write whose full blocks have no room is refused whole." size is how many
+ * bytes are laid.
  */
 static inline size_t refusal(const uint8_t *pack, size_t length, size_t size, const line_call *it)
 {
@@ -150,7 +150,8 @@ static inline size_t refusal(const uint8_t *pack, size_t length, size_t size, co
         cause[045] = one.readers == 0;
         cause[044] = it->position > payload * one.length;
     } else {
-        cause[041] = it->buffer_len != payload || it->filled >= payload || (it->what == LINE_WRITE && it->mode >= MODES);
+        cause[041] = it->buffer_len != payload || it->filled >= payload
+                     || (it->what == LINE_WRITE && it->mode >= MODES);
         cause[6] = may < MAY_WRITE;
         cause[045] = one.writer != 2 && one.writer != 3;
         cause[042] = (it->filled + size) / payload > room;

@@ -59,10 +59,15 @@ static size_t radix(const char *characters)
     return word;
 }
 
-/* Where the words of an entry begin. */
+/* Where the words of an entry begin, and those of a block, of which the first is a link. */
 static size_t entry_at(size_t e)
 {
     return form->block / 2 + e * ENTRY;
+}
+
+static size_t link_at(size_t block)
+{
+    return form->block / 2 * block;
 }
 
 /* A name is nine characters: six, and three of the extension. */
@@ -97,7 +102,7 @@ static void set_linked(size_t e, const char *name, size_t owner, size_t protect,
     size_t count = 0;
 
     for (; blocks[count]; count++)
-        set_word(blocks[count] * form->block / 2, blocks[count + 1]);
+        set_word(link_at(blocks[count]), blocks[count + 1]);
     set_entry(e, name, owner, protect, 2, blocks[0], count, count ? blocks[count - 1] : 0);
 }
 
@@ -161,7 +166,6 @@ static void mixed(void)
 /* One word of the mixed pack changed, each time another rule broken. */
 static void damaged(void)
 {
-    const size_t words = form->block / 2;
     const struct {
         const char *rule;
         size_t at, word;
@@ -171,27 +175,27 @@ static void damaged(void)
         { "no contents", 2, 0 },
         { "a UIC twice", 5, 0177777 },
         { "a UIC 0", 6, 0 },
-        { "rest of block 0", words - 1, 1 },
-        { "a name with a code of no character", words + 1 * ENTRY, 29 },
-        { "a name that begins with a blank", words + 1 * ENTRY, 1 },
-        { "an extension with a period", words + 4 * ENTRY + 2, 28 },
-        { "a UIC that is not listed", words + 4 * ENTRY + 3, 0401 },
-        { "protect code", words + 4 * ENTRY + 4, 256 },
-        { "kind", words + 4 * ENTRY + 5, 3 },
-        { "a linked file as a contiguous one", words + 1 * ENTRY + 5, 1 },
-        { "first block in the contents", words + 31 * ENTRY + 6, 2 },
-        { "length", words + 4 * ENTRY + 7, 3 },
-        { "last block", words + 1 * ENTRY + 8, 3 },
-        { "writer", words + 1 * ENTRY + 9, 1 },
-        { "62 readers and a writer", words + 1 * ENTRY + 10, 62 },
-        { "word 15 of an entry", words + 31 * ENTRY + 15, 1 },
-        { "an entry that is not all zero", words + 2 * ENTRY + 4, 1 },
-        { "a chain that loops", 7 * words, 19 },
-        { "a chain that leaves the pack", 3 * words, 20 },
-        { "a chain that is too short", 3 * words, 0 },
-        { "a chain that is too long", 7 * words, 8 },
-        { "a chain into another file", 3 * words, 4 },
-        { "two files of one name, extension and UIC", words + 31 * ENTRY + 3, 0400 },
+        { "rest of block 0", entry_at(0) - 1, 1 },
+        { "a name with a code of no character", entry_at(1), 29 },
+        { "a name that begins with a blank", entry_at(1), 1 },
+        { "an extension with a period", entry_at(4) + 2, 28 },
+        { "a UIC that is not listed", entry_at(4) + 3, 0401 },
+        { "protect code", entry_at(4) + 4, 256 },
+        { "kind", entry_at(4) + 5, 3 },
+        { "a linked file as a contiguous one", entry_at(1) + 5, 1 },
+        { "first block in the contents", entry_at(31) + 6, 2 },
+        { "length", entry_at(4) + 7, 3 },
+        { "last block", entry_at(1) + 8, 3 },
+        { "writer", entry_at(1) + 9, 1 },
+        { "62 readers and a writer", entry_at(1) + 10, 62 },
+        { "word 15 of an entry", entry_at(31) + 15, 1 },
+        { "an entry that is not all zero", entry_at(2) + 4, 1 },
+        { "a chain that loops", link_at(7), 19 },
+        { "a chain that leaves the pack", link_at(3), 20 },
+        { "a chain that is too short", link_at(3), 0 },
+        { "a chain that is too long", link_at(7), 8 },
+        { "a chain into another file", link_at(3), 4 },
+        { "two files of one name, extension and UIC", entry_at(31) + 3, 0400 },
     };
 
     for (size_t i = 0; i < sizeof changes / sizeof *changes; i++) {
