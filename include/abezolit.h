@@ -109,12 +109,26 @@ size_t abz_bin2o(size_t number, uint8_t *chars, size_t chars_len);
  * call on the pack, and a call that changes the pack does so there. Where an image comes from and where it is kept,
  * in a file for instance, is the host's business: the service opens, reads and writes no file.
  *
- * A block is 512 bytes, which are 256 words of 16 bits, low byte first. The n blocks of an image are:
+ * An image is n blocks of one size, in words of 16 bits, low byte first. Word 0 of it is its form, which decides the
+ * measures, whoever calls; that of a new pack is an argument of abz_format. Where a block's bytes, a payload's bytes or
+ * a bound is told of below, those of the image's form are meant:
  *
- *   0             the header. Word 0 is the form, 1; word 1 is n, 16 to 1024; word 2 is c, 1 to 8; word 3 is u, 0 to
- *                 64; then come u UICs, distinct and not 0, of those who may own files; every other word is 0.
- *   1 to c        the contents, 16 entries of 16 words to a block. Entry e, counted from 0 and on through the blocks,
- *                 starts at byte 512 + 32 * e of the image. An empty entry is all 0; any other is a file's:
+ *   form                             1
+ *   bytes of a block                 512
+ *   bytes of a payload               510          a block's but for its link, in a linked file; a gather buffer's
+ *   segments of a block              4            of 64 words; ALLOC counts in them
+ *   entries of a block of contents   16
+ *   n, blocks                        16 to 1024
+ *   c, blocks of contents            1 to 8
+ *   u, UICs                          0 to 64
+ *   first block of the bodies        c + 1
+ *
+ * The blocks of an image are:
+ *
+ *   0             the header. Word 0 is the form; word 1 is n; word 2 is c; word 3 is u; then come u UICs, distinct and
+ *                 not 0, of those who may own files; every other word is 0.
+ *   1 to c        the contents, entries of 16 words. Entry e, counted from 0 and on through the blocks, starts 32 * e
+ *                 bytes behind the header's block. An empty entry is all 0; any other is a file's:
  *                     0, 1      name
  *                     2         extension
  *                     3         UIC of the owner
@@ -128,7 +142,8 @@ size_t abz_bin2o(size_t number, uint8_t *chars, size_t chars_len);
  *                     11 to 15  0
  *   c + 1 to n-1  the bodies, each free or of one file. A contiguous file has all blocks from its first to its last,
  *                 and all their bytes. A linked file is a chain: word 0 of each block is the number of the next, 0 in
- *                 the last, and the 510 bytes behind are the file's. One with no block has words 6, 7 and 8 all 0.
+ *                 the last, and the payload, all bytes behind it, is the file's. One with no block has words 6, 7 and
+ *                 8 all 0.
  *
  * A UIC is 256 * group + user. A file is named by four numbers:
  *
@@ -141,7 +156,7 @@ size_t abz_bin2o(size_t number, uint8_t *chars, size_t chars_len);
  * A name or extension of another shape is not legal, nor is any number from 64000 up. A caller or uic may be any
  * number; no file has a UIC that is not in the pack's list.
  *
- * A pack is consistent if the image has all that is said above and is exactly 512 * n bytes long, and if
+ * A pack is consistent if the image has all that is said above and is exactly its n blocks long, and if
  *   - each file has a legal name and extension and a UIC of the list, and no two files have all four numbers alike;
  *   - each block of a file is a body, and no block is held twice, by two files or by one;
  *   - a contiguous file has at least one block, and its last block is first block + length - 1;
@@ -155,7 +170,7 @@ size_t abz_bin2o(size_t number, uint8_t *chars, size_t chars_len);
  * inconsistent.
  */
 
-/* The measures of a pack, as told above. */
+/* The measures of form 1. Those of each form stand in the table above; word 0 of an image says which are its. */
 enum {
     ABZ_FORM           = 1,
     ABZ_BLOCK_BYTES    = 512,
@@ -180,8 +195,8 @@ enum {
  * Makes an empty pack of an image, whatever that held: block 0 becomes the header with form, n = blocks, c = contents
  * and the UICs in uics, two bytes each, low byte first; blocks 1 to c become 0. All other blocks are free then, and
  * keep their bytes, so what earlier files had there can still be seen in the image.
- *   ABZ_ARGUMENT  form is not 1, blocks not 16 to 1024, contents not 1 to 8, or image_len not 512 * blocks; uics_len
- *                 is odd or above 128; a UIC is 0, or is twice in uics.
+ *   ABZ_ARGUMENT  form is not 1; blocks or contents are not within the form's bounds, or image_len is not that of so
+ *                 many blocks; uics_len is odd, or of more UICs than the form has; a UIC is 0, or is twice in uics.
  */
 size_t abz_format(uint8_t *image, size_t image_len, size_t form, size_t blocks, size_t contents,
                   const uint8_t *uics, size_t uics_len);
@@ -224,7 +239,7 @@ abz_owner_answer abz_owner(const uint8_t *image, size_t image_len, size_t block)
 /* The rules of a consistent pack, as abz_report tells the first that an image breaks; behind each what it names. */
 enum {
     ABZ_CONSISTENT   = 0, /* none is broken */
-    ABZ_RULE_SIZE    = 1, /* the image is not 512 * n bytes, or has no word 1 */
+    ABZ_RULE_SIZE    = 1, /* the image is not n blocks long, or has no word 1; one of no form is measured as form 1 */
     ABZ_RULE_HEADER  = 2, /* word of block 0: of two UICs alike the later */
     ABZ_RULE_ENTRY   = 3, /* entry and word: 0 where no legal name begins with it, else 1; 3 a UIC that is not in the list;
                              9 the writer; 10 readers, with the writer */
@@ -408,9 +423,10 @@ size_t abz_appnd(uint8_t *image, size_t image_len, size_t caller,
  *   ABZ_NO_ENTRY      no entry is empty;
  *   ABZ_NO_ROOM       ALLOC only: nowhere are so many blocks free in a row.
  *
- * ALLOC makes a contiguous file that is closed and large enough for so many segments of 64 words, 4 to a block: it has
- * segments / 4 blocks, rounded up; any number may be asked for. Of all places where so many blocks are free in a row, it gets the one
- * that starts highest; number is its first block. Every byte of the blocks is then 0, whatever they held.
+ * ALLOC makes a contiguous file that is closed and large enough for so many segments of 64 words: it has as many blocks
+ * as have these, segments / 4 rounded up in form 1; any number may be asked for. Of all places where so many blocks are
+ * free in a row, it gets the one that starts highest; number is its first block. Every byte of the blocks is then 0,
+ * whatever they held.
  *
  * OPENO makes a linked file that has no block and is open for output: its writer is ABZ_OUTPUT. It needs no free block.
  */
@@ -425,15 +441,15 @@ size_t abz_openo(uint8_t *image, size_t image_len, size_t caller,
  * The calls that move a file's bytes, one block in each call. A place is that of a block in its file, counted from 0:
  * a file has the places below its length, and one with no block has none. It is not the block's number in the pack.
  * The file must be open as the call says, whoever opened it, and it stays so; the caller's right is judged in each call
- * anew. A buffer is exactly of the size that is named.
+ * anew. A buffer is exactly of the size that is named, a block's bytes or a payload's of the image's form.
  */
 
 /*
- * BLOCK input: reads a block of a contiguous file. The buffer gets its 512 bytes; the image stays as it is. The file
- * must have a reader or be open for update.
+ * BLOCK input: reads a block of a contiguous file. The buffer gets its bytes; the image stays as it is. The file must
+ * have a reader or be open for update.
  *   ABZ_INCONSISTENT
  *   ABZ_NAME          the name or the extension is not legal;
- *   ABZ_ARGUMENT      buffer_len is not 512;
+ *   ABZ_ARGUMENT      buffer_len is not a block's bytes;
  *   ABZ_EXISTENCE     there is no such file;
  *   ABZ_RIGHT         the caller may not read it;
  *   ABZ_KIND          it is linked;
@@ -445,11 +461,11 @@ size_t abz_block_in(const uint8_t *image, size_t image_len, size_t caller,
                     size_t place, uint8_t *buffer, size_t buffer_len);
 
 /*
- * BLOCK output: writes a block of a contiguous file. The block gets the 512 bytes of the buffer, and nothing else in
- * the image changes, neither the entry nor another block. The file must be open for update; a reader does not serve.
+ * BLOCK output: writes a block of a contiguous file. The block gets the bytes of the buffer, and nothing else in the
+ * image changes, neither the entry nor another block. The file must be open for update; a reader does not serve.
  *   ABZ_INCONSISTENT
  *   ABZ_NAME          the name or the extension is not legal;
- *   ABZ_ARGUMENT      buffer_len is not 512;
+ *   ABZ_ARGUMENT      buffer_len is not a block's bytes;
  *   ABZ_EXISTENCE     there is no such file;
  *   ABZ_RIGHT         the caller may not write to it;
  *   ABZ_KIND          it is linked;
@@ -461,12 +477,12 @@ size_t abz_block_out(uint8_t *image, size_t image_len, size_t caller,
                      size_t place, const uint8_t *buffer, size_t buffer_len);
 
 /*
- * Linked read: reads a block of a linked file. The buffer gets the 510 bytes behind the block's link; the image stays
- * as it is. The file must have a reader; a writer does not serve, though there may be one too, and what linked add puts
+ * Linked read: reads a block of a linked file. The buffer gets the payload behind the block's link; the image stays as
+ * it is. The file must have a reader; a writer does not serve, though there may be one too, and what linked add puts
  * at the end of the file is there to be read at once.
  *   ABZ_INCONSISTENT
  *   ABZ_NAME          the name or the extension is not legal;
- *   ABZ_ARGUMENT      buffer_len is not 510;
+ *   ABZ_ARGUMENT      buffer_len is not a payload's bytes;
  *   ABZ_EXISTENCE     there is no such file;
  *   ABZ_RIGHT         the caller may not read it;
  *   ABZ_KIND          it is contiguous;
@@ -479,13 +495,13 @@ size_t abz_linked_read(const uint8_t *image, size_t image_len, size_t caller,
 
 /*
  * Linked add: puts a block at the end of a linked file. Of the free blocks the highest is taken, and number says which.
- * Its link becomes 0, and the 510 bytes behind become those of the payload. In the entry the length (word 7) grows by 1
+ * Its link becomes 0, and the bytes behind become those of the payload. In the entry the length (word 7) grows by 1
  * and the last block (word 8) is the new one; the link of the block that was the last leads to it, or word 6 in a file
  * that had no block. Nothing else changes. The file must be open for output or for extension. One that OPENO made with
  * bit 6 (0100) in its protect code takes no block from its owner, who may not write to it.
  *   ABZ_INCONSISTENT
  *   ABZ_NAME          the name or the extension is not legal;
- *   ABZ_ARGUMENT      payload_len is not 510;
+ *   ABZ_ARGUMENT      payload_len is not a payload's bytes;
  *   ABZ_EXISTENCE     there is no such file;
  *   ABZ_RIGHT         the caller may not write to it;
  *   ABZ_KIND          it is contiguous;
@@ -499,11 +515,11 @@ abz_answer abz_linked_add(uint8_t *image, size_t image_len, size_t caller,
 /*
  * Lines
  *
- * The calls that move the text of a linked file, line by line. Its text is what the file has in the 510 bytes of each
- * block, joined in the order of the chain: 510 * length bytes, in which a line runs on from one block into the next. A
- * line ends with its terminator, a LINE FEED, VERTICAL TAB or FORM FEED (012, 013, 014). NULs and RUBOUTs (0 and 0177)
- * are no characters: a write puts one behind each TAB and FORM FEED, the last block is filled up with NUL, and a read
- * drops them all.
+ * The calls that move the text of a linked file, line by line. Its text is the payloads of its blocks, joined in the
+ * order of the chain, so that a line runs on from one block into the next: p * length bytes, where p is the bytes of a
+ * payload. A line ends with its terminator, a LINE FEED, VERTICAL TAB or FORM FEED (012, 013, 014). NULs and RUBOUTs (0
+ * and 0177) are no characters: a write puts one behind each TAB and FORM FEED, the last block is filled up with NUL, and
+ * a read drops them all.
  *
  * The file must be open as the call says, whoever opened it, and it stays so; the caller's right is judged in each call
  * anew. A file that has a writer and a reader can be written and read by turns: what was added is there to be read at
@@ -544,7 +560,7 @@ typedef struct {
  *     ABZ_NORMAL lays each surplus character over the last byte of the buffer, up to the terminator, and counts it;
  *     count is above buffer_len then. ABZ_SPECIAL ends: position is that of the byte behind the last character that
  *     was laid down, and the next read gives the rest of the line;
- *   - where the text ends before a terminator, status has ABZ_FILE_ENDED, and position is 510 * length. ABZ_NORMAL may
+ *   - where the text ends before a terminator, status has ABZ_FILE_ENDED, and position is p * length. ABZ_NORMAL may
  *     set both; ABZ_SPECIAL sets one of them, since where the buffer is full it takes no further byte.
  * Bytes of the buffer over which nothing is laid stay.
  *
@@ -558,7 +574,7 @@ typedef struct {
  *   ABZ_RIGHT         the caller may not read it;
  *   ABZ_KIND          it is contiguous;
  *   ABZ_NOT_OPEN      it has no reader;
- *   ABZ_NO_BLOCK      position is above 510 * length; just that is the end of the text, and no refusal.
+ *   ABZ_NO_BLOCK      position is above p * length; just that is the end of the text, and no refusal.
  */
 abz_read_answer abz_line_read(const uint8_t *image, size_t image_len, size_t caller,
                               size_t name1, size_t name2, size_t extension, size_t uic,
@@ -568,12 +584,12 @@ typedef struct {
     size_t code;
     size_t count;  /* bytes of the text that were taken */
     size_t status;
-    size_t filled; /* for the next write, or the end: 0 to 509 */
+    size_t filled; /* for the next write, or the end: 0 to p - 1 */
 } abz_write_answer;
 
 /*
  * Line write: writes lines to the end of a linked file, which must be open for output or for extension. Since only full
- * blocks are added to the file, the host lends a gather buffer of 510 bytes to all writes and to the end. Its first
+ * blocks are added to the file, the host lends a gather buffer of p bytes to all writes and to the end. Its first
  * filled bytes wait to be added: none for the first write, and behind it as many as the write before gave. The host
  * leaves those as they are; what the others hold does not matter.
  *
@@ -583,14 +599,14 @@ typedef struct {
  *
  * What was taken is laid into the gather buffer as it is, bit 7 too, with one RUBOUT behind each TAB (011) and one NUL
  * behind each FORM FEED. Each time the buffer is full it is added to the file as by linked add, and laying goes on at
- * its start: byte j of all that is laid, counted from 0, lies at (filled + j) % 510. Bytes of the buffer over which
+ * its start: byte j of all that is laid, counted from 0, lies at (filled + j) % p. Bytes of the buffer over which
  * nothing is laid stay.
  *
  * A write is refused whole: where not all blocks that become full have room, none is added. Lines of 7-bit characters
  * with no NUL and no RUBOUT, each with one terminator, at its end, are read back the same by a buffer long enough.
  *   ABZ_INCONSISTENT
  *   ABZ_NAME          the name or the extension is not legal;
- *   ABZ_ARGUMENT      mode is neither 0 nor 1, gather_len is not 510, or filled is above 509;
+ *   ABZ_ARGUMENT      mode is neither 0 nor 1, gather_len is not p, or filled is p or more;
  *   ABZ_EXISTENCE     there is no such file;
  *   ABZ_RIGHT         the caller may not write to it;
  *   ABZ_KIND          it is contiguous;
@@ -608,7 +624,7 @@ abz_write_answer abz_line_write(uint8_t *image, size_t image_len, size_t caller,
  * nothing changes, though the causes are looked at. A write that follows begins with filled 0.
  *   ABZ_INCONSISTENT
  *   ABZ_NAME          the name or the extension is not legal;
- *   ABZ_ARGUMENT      gather_len is not 510, or filled is above 509;
+ *   ABZ_ARGUMENT      gather_len is not p, or filled is p or more;
  *   ABZ_EXISTENCE     there is no such file;
  *   ABZ_RIGHT         the caller may not write to it;
  *   ABZ_KIND          it is contiguous;

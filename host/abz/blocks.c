@@ -3,7 +3,7 @@
 
 size_t blocks_ask(pack_blocks *blocks, const pack_file *pack)
 {
-    for (blocks->count = 0; blocks->count < ABZ_BLOCKS_MOST; blocks->count++) {
+    for (blocks->count = 0; blocks->count < BLOCKS_MOST; blocks->count++) {
         const abz_owner_answer answer = abz_owner(pack->image, pack->length, blocks->count);
         if (answer.code == ABZ_NO_BLOCK)
             break;

@@ -6,7 +6,7 @@
 
 typedef struct {
     size_t count;
-    abz_owner_answer owners[ABZ_BLOCKS_MOST];
+    abz_owner_answer owners[BLOCKS_MOST];
 } pack_blocks;
 
 /*

@@ -18,12 +18,13 @@ static void take_block(uint8_t *block, size_t size, const uint8_t **bytes, size_
 
 static size_t add_blocks(pack_file *pack, size_t caller, file_name file, const uint8_t *bytes, size_t left)
 {
-    uint8_t payload[ABZ_PAYLOAD_BYTES];
+    const size_t size = form_of(pack->image)->payload;
+    uint8_t payload[PAYLOAD_MOST];
     size_t code = ABZ_OK;
 
     while (left > 0 && code == ABZ_OK) {
-        take_block(payload, sizeof payload, &bytes, &left);
-        code = abz_linked_add(pack->image, pack->length, caller, FOUR(file), payload, sizeof payload).code;
+        take_block(payload, size, &bytes, &left);
+        code = abz_linked_add(pack->image, pack->length, caller, FOUR(file), payload, size).code;
     }
     return code;
 }
@@ -42,25 +43,34 @@ size_t body_put(pack_file *pack, size_t caller, file_name file, size_t protect, 
 /* The places from 0 on, until the service says that the file has no more; there must be one for every byte. */
 static size_t write_blocks(pack_file *pack, size_t caller, file_name file, const uint8_t *bytes, size_t left)
 {
-    uint8_t block[ABZ_BLOCK_BYTES];
+    const size_t size = form_of(pack->image)->block;
+    uint8_t block[BLOCK_MOST];
     size_t code = ABZ_OK;
     bool needed = true;
 
     for (size_t place = 0; code == ABZ_OK; place++) {
         needed = left > 0;
-        take_block(block, sizeof block, &bytes, &left);
-        code = abz_block_out(pack->image, pack->length, caller, FOUR(file), place, block, sizeof block);
+        take_block(block, size, &bytes, &left);
+        code = abz_block_out(pack->image, pack->length, caller, FOUR(file), place, block, size);
     }
     return code == ABZ_NO_BLOCK && !needed ? ABZ_OK : code;
 }
 
+/* The segments that so many bytes need. */
+static size_t segments_for(const pack_file *pack, size_t length)
+{
+    const pack_form *form = form_of(pack->image);
+    const size_t segment = form->block / form->segments;
+
+    return (length + segment - 1) / segment;
+}
+
 size_t body_load(pack_file *pack, size_t caller, file_name file, const uint8_t *bytes, size_t length)
 {
-    const size_t segment = ABZ_BLOCK_BYTES / ABZ_BLOCK_SEGMENTS, segments = (length + segment - 1) / segment;
     size_t code = abz_look(pack->image, pack->length, caller, FOUR(file)).code;
 
     if (code == ABZ_EXISTENCE)
-        code = abz_alloc(pack->image, pack->length, caller, FOUR(file), PROTECT_USUAL, segments).code;
+        code = abz_alloc(pack->image, pack->length, caller, FOUR(file), PROTECT_USUAL, segments_for(pack, length)).code;
     if (code == ABZ_OK)
         code = abz_openu(pack->image, pack->length, caller, FOUR(file));
     if (code == ABZ_OK)
@@ -73,25 +83,21 @@ size_t body_load(pack_file *pack, size_t caller, file_name file, const uint8_t *
 /* ---- Out of the pack ---- */
 
 /* How a block of each kind of file is read. The requests take and give the same, but for how many bytes it has. */
-static const struct {
-    size_t (*read)(const uint8_t *image, size_t image_len, size_t caller,
-                   size_t name1, size_t name2, size_t extension, size_t uic,
-                   size_t place, uint8_t *buffer, size_t buffer_len);
-    size_t size;
-} kinds[] = {
-    [ABZ_CONTIGUOUS] = { abz_block_in, ABZ_BLOCK_BYTES },
-    [ABZ_LINKED] = { abz_linked_read, ABZ_PAYLOAD_BYTES },
-};
+typedef size_t block_read(const uint8_t *image, size_t image_len, size_t caller,
+                          size_t name1, size_t name2, size_t extension, size_t uic,
+                          size_t place, uint8_t *buffer, size_t buffer_len);
 
 /* The places from 0 on, until the service says that the file has no more. */
 static size_t read_blocks(pack_file *pack, size_t caller, file_name file, size_t kind, uint8_t *bytes, size_t *length)
 {
-    const size_t size = kinds[kind].size;
+    const pack_form *form = form_of(pack->image);
+    block_read *const read = kind == ABZ_LINKED ? abz_linked_read : abz_block_in;
+    const size_t size = kind == ABZ_LINKED ? form->payload : form->block;
     size_t code = ABZ_OK;
 
     *length = 0;
     for (size_t place = 0; code == ABZ_OK; place++) {
-        code = kinds[kind].read(pack->image, pack->length, caller, FOUR(file), place, bytes + *length, size);
+        code = read(pack->image, pack->length, caller, FOUR(file), place, bytes + *length, size);
         if (code == ABZ_OK)
             *length += size;
     }

@@ -9,7 +9,7 @@
 #include "packfile.h"
 
 /* Room for the bytes of all files of any pack, with some to spare: a part of its blocks is the system's. */
-enum { BODY_ROOM = ABZ_BLOCK_BYTES * ABZ_BLOCKS_MOST };
+enum { BODY_ROOM = IMAGE_MOST };
 
 /* Makes a linked file of these bytes; its last block is filled up with NUL. */
 size_t body_put(pack_file *pack, size_t caller, file_name file, size_t protect, const uint8_t *bytes, size_t length);

@@ -32,12 +32,12 @@ size_t contents_uic(const uint8_t *image, size_t number)
 
 size_t contents_entries(const uint8_t *image)
 {
-    return ABZ_BLOCK_ENTRIES * contents_blocks(image);
+    return form_of(image)->entries * contents_blocks(image);
 }
 
 bool contents_read(const uint8_t *image, size_t number, contents_entry *entry)
 {
-    const uint8_t *start = image + ABZ_BLOCK_BYTES + ABZ_ENTRY_BYTES * number;
+    const uint8_t *start = image + form_of(image)->block + ABZ_ENTRY_BYTES * number;
 
     entry->name1 = word_at(start + 2 * NAME1);
     entry->name2 = word_at(start + 2 * NAME2);

@@ -5,15 +5,12 @@
 #ifndef CONTENTS_H
 #define CONTENTS_H
 
-#include "abezolit.h"
+#include "../form.h"
 #include "names.h"
 
 #include <stdbool.h>
 #include <stddef.h>
 #include <stdint.h>
-
-/* More than these no pack has. */
-enum { ENTRIES_MOST = ABZ_BLOCK_ENTRIES * ABZ_CONTENTS_MOST };
 
 typedef struct {
     size_t name1, name2, extension, uic, protect, kind, length, writer, readers;

@@ -124,7 +124,7 @@ static bool may_format(const pack_file *pack)
     return false;
 }
 
-bool pack_begin(pack_file *pack, const char *path, size_t blocks, bool force)
+bool pack_begin(pack_file *pack, const char *path, const pack_form *form, size_t blocks, bool force)
 {
     struct stat there;
 
@@ -132,7 +132,7 @@ bool pack_begin(pack_file *pack, const char *path, size_t blocks, bool force)
     pack->force = force;
     if (stat(path, &there) == 0 && !(pack_take(pack, path) && (force || may_format(pack))))
         return false;
-    pack->length = ABZ_BLOCK_BYTES * blocks;
+    pack->length = form->block * blocks;
     memset(pack->image, 0, pack->length);
     return true;
 }

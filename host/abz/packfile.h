@@ -5,6 +5,7 @@
 #ifndef PACKFILE_H
 #define PACKFILE_H
 
+#include "../form.h"
 #include "abezolit.h"
 
 #include <stdbool.h>
@@ -16,7 +17,7 @@ typedef struct {
     bool force; /* whether the file is written whatever it holds by then: it was taken, or goes by force */
     size_t length;
     /* One byte more than any pack has, so that a file too long is seen to be so. */
-    uint8_t image[ABZ_BLOCK_BYTES * ABZ_BLOCKS_MOST + 1];
+    uint8_t image[IMAGE_MOST + 1];
 } pack_file;
 
 /*
@@ -34,10 +35,10 @@ bool pack_take(pack_file *pack, const char *path);
 bool pack_is(const pack_file *pack, const char *path);
 
 /*
- * For formatting: so many blocks of 0, ABZ_BLOCKS_MOST at most. If there is a file already, no other abz changes it. It
- * must be, as the service finds, a consistent pack: anything else goes only by force.
+ * For formatting: so many blocks of 0, as many as the form has at most. If there is a file already, no other abz
+ * changes it. It must be, as the service finds, a consistent pack: anything else goes only by force.
  */
-bool pack_begin(pack_file *pack, const char *path, size_t blocks, bool force);
+bool pack_begin(pack_file *pack, const char *path, const pack_form *form, size_t blocks, bool force);
 
 /* Puts the image into the file. If this returns false, the file is as it was. */
 bool pack_write(const pack_file *pack);

@@ -52,20 +52,24 @@ static void show_line(const abz_report_answer *report)
 
 /* ---- The words ---- */
 
-static const char *header_words(size_t word)
+static const char *list_words(size_t word)
 {
-    static const char *const words[] = {
-        "the form is not 1",
-        "the number of blocks is not 16 to 1024",
-        "the blocks of contents are not 1 to 8",
-        "there are more than 64 UICs",
-    };
-
-    if (word < sizeof words / sizeof *words)
-        return words[word];
     if (word < 4 + word_at(pack.image + 2 * 3))
         return "a UIC of the list is 0, or is in the list before";
     return "what stands behind the list of UICs is not 0";
+}
+
+static void show_header_words(size_t word)
+{
+    const pack_form *form = form_of(pack.image);
+
+    switch (word) {
+    case 0: printf("the form is not 1"); break;
+    case 1: printf("the number of blocks is not %zu to %zu", form->blocks_least, form->blocks_most); break;
+    case 2: printf("the blocks of contents are not %zu to %zu", form->contents_least, form->contents_most); break;
+    case 3: printf("there are more than %zu UICs", form->uics_most); break;
+    default: printf("%s", list_words(word)); break;
+    }
 }
 
 static const char *entry_words(size_t word)
@@ -92,19 +96,31 @@ static const char *extent_words(size_t word)
     }
 }
 
-static const char *words_of(const abz_report_answer *report)
+static const char *file_words(const abz_report_answer *report)
 {
     switch (report->rule) {
-    case ABZ_RULE_HEADER: return header_words(report->word);
     case ABZ_RULE_ENTRY: return entry_words(report->word);
     case ABZ_RULE_NAME: return "a file before it has the same name, extension and owner";
     case ABZ_RULE_EXTENT: return extent_words(report->word);
     case ABZ_RULE_LINK: return "this block links to none that a file can have";
     case ABZ_RULE_LOOP: return "its chain comes to this block a second time";
     case ABZ_RULE_END: return "its chain goes on behind this block, its last";
-    case ABZ_RULE_SHARED: return "a file before it has this block too";
-    default: return "the length of the file is not 512 bytes for each block that the header tells of";
+    default: return "a file before it has this block too";
     }
+}
+
+/* Sizes and bounds are those of the form that the image names. */
+static void show_words(const abz_report_answer *report)
+{
+    switch (report->rule) {
+    case ABZ_RULE_SIZE:
+        printf("the length of the file is not %zu bytes for each block that the header tells of",
+               form_of(pack.image)->block);
+        break;
+    case ABZ_RULE_HEADER: show_header_words(report->word); break;
+    default: printf("%s", file_words(report)); break;
+    }
+    putchar('\n');
 }
 
 /* Which file, by its name where that is legal; and its extension, if that is. */
@@ -142,6 +158,6 @@ int command_report(char **arguments)
         show_faulty_file(&report);
     else if (rules[report.rule].word)
         printf("the header: ");
-    printf("%s\n", words_of(&report));
+    show_words(&report);
     return show_end() ? STATUS_DONE : STATUS_FAILED;
 }

@@ -21,31 +21,36 @@ static pack_file pack;
 
 /* ---- Packs ---- */
 
-/* What is wrong with one more UIC behind those that a new pack has already; NULL if nothing is. */
-static const char *uic_fault(size_t uic, const uint8_t *uics, size_t length)
+static bool is_listed(size_t uic, const uint8_t *uics, size_t length)
 {
-    if (uic == 0)
-        return "no user has the UIC [0,0]";
     for (size_t at = 0; at < length; at += 2)
         if (word_at(uics + at) == uic)
-            return "this UIC is given twice";
-    return length == 2 * ABZ_UICS_MOST ? "a pack has at most 64 UICs" : NULL;
+            return true;
+    return false;
+}
+
+/* Whether a new pack can have one more UIC behind those that it has already. */
+static bool may_list(const char *text, size_t uic, const pack_form *form, const uint8_t *uics, size_t length)
+{
+    if (uic == 0)
+        complain("'%s': no user has the UIC [0,0]", text);
+    else if (is_listed(uic, uics, length))
+        complain("'%s': this UIC is given twice", text);
+    else if (length == 2 * form->uics_most)
+        complain("'%s': a pack has at most %zu UICs", text, form->uics_most);
+    else
+        return true;
+    return false;
 }
 
 /* UICs as words, low byte first. */
-static bool read_uics(char **texts, uint8_t uics[2 * ABZ_UICS_MOST], size_t *length)
+static bool read_uics(char **texts, const pack_form *form, uint8_t uics[2 * UICS_MOST], size_t *length)
 {
     size_t uic;
-    const char *fault;
 
     for (*length = 0; *texts; texts++) {
-        if (!read_uic(*texts, &uic))
+        if (!read_uic(*texts, &uic) || !may_list(*texts, uic, form, uics, *length))
             return false;
-        fault = uic_fault(uic, uics, *length);
-        if (fault) {
-            complain("'%s': %s", *texts, fault);
-            return false;
-        }
         uics[(*length)++] = (uint8_t)(uic % 256);
         uics[(*length)++] = (uint8_t)(uic / 256);
     }
@@ -54,16 +59,17 @@ static bool read_uics(char **texts, uint8_t uics[2 * ABZ_UICS_MOST], size_t *len
 
 int command_format(char **arguments)
 {
+    const pack_form *form = form_numbered(ABZ_FORM);
     size_t blocks, contents, length;
-    uint8_t uics[2 * ABZ_UICS_MOST];
+    uint8_t uics[2 * UICS_MOST];
 
-    if (!read_decimal("BLOCKS", arguments[1], ABZ_BLOCKS_LEAST, ABZ_BLOCKS_MOST, &blocks)
-        || !read_decimal("CONTENTS", arguments[2], ABZ_CONTENTS_LEAST, ABZ_CONTENTS_MOST, &contents)
-        || !read_uics(arguments + 3, uics, &length))
+    if (!read_decimal("BLOCKS", arguments[1], form->blocks_least, form->blocks_most, &blocks)
+        || !read_decimal("CONTENTS", arguments[2], form->contents_least, form->contents_most, &contents)
+        || !read_uics(arguments + 3, form, uics, &length))
         return STATUS_USAGE;
-    if (!pack_begin(&pack, arguments[0], blocks, option("--force")))
+    if (!pack_begin(&pack, arguments[0], form, blocks, option("--force")))
         return STATUS_FAILED;
-    return pack_end(&pack, "format", abz_format(pack.image, pack.length, ABZ_FORM, blocks, contents, uics, length));
+    return pack_end(&pack, "format", abz_format(pack.image, pack.length, form->number, blocks, contents, uics, length));
 }
 
 /* ---- Files ---- */

@@ -64,7 +64,7 @@ int command_type(char **arguments)
 /* ---- Into the pack ---- */
 
 /* Room for more than the files of any pack hold: some blocks are the system's. */
-static uint8_t text[ABZ_PAYLOAD_BYTES * ABZ_BLOCKS_MOST];
+static uint8_t text[PAYLOAD_MOST * BLOCKS_MOST];
 static size_t length;
 
 /* What a byte is if no text has it, since reading would drop it or make another character of it; else NULL. */
@@ -106,13 +106,14 @@ static bool read_text(void)
 /* Writes the lines to a file that is open for it, and closes it. Normal mode takes them all at once. */
 static size_t write_and_close(size_t caller, file_name file, size_t mode)
 {
-    static uint8_t gather[ABZ_PAYLOAD_BYTES];
+    static uint8_t gather[PAYLOAD_MOST];
+    const size_t size = form_of(pack.image)->payload;
     abz_write_answer answer = abz_line_write(pack.image, pack.length, caller, FOUR(file), ABZ_NORMAL, text, length,
-                                             gather, sizeof gather, 0);
+                                             gather, size, 0);
     size_t code = answer.code;
 
     if (code == ABZ_OK)
-        code = abz_line_end(pack.image, pack.length, caller, FOUR(file), gather, sizeof gather, answer.filled);
+        code = abz_line_end(pack.image, pack.length, caller, FOUR(file), gather, size, answer.filled);
     if (code == ABZ_OK)
         code = abz_close(pack.image, pack.length, caller, FOUR(file), mode);
     return code;

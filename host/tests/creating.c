@@ -13,8 +13,13 @@ static file_key numbered(size_t number, size_t uic)
 
 static size_t make_empty(uint8_t *pack, size_t n, size_t c)
 {
-    memset(pack, 0xA5, BLOCK * n);
+    memset(pack, 0xA5, tried->block * n);
     return make_pack(pack, n, c, users, COUNT(users));
+}
+
+static size_t make_small_empty(uint8_t *pack)
+{
+    return make_empty(pack, small(16), contents_like(1));
 }
 
 /* Linked files with no block in all entries but so many. */
@@ -32,48 +37,57 @@ static void expect_alloc(size_t length, size_t segments, size_t code, size_t fir
     CHECK_NUMBER(answer.number, first, "example: ALLOC of %zu, first block", segments);
 }
 
-/* Document 01's, written out, with no model between. */
-static void examples(void)
+/* Document 01's, written out, with no model between: 9 segments, which are 3 blocks in form 1. */
+static void listing_example(void)
 {
     static const uint8_t entry[32] = { 0125, 050, 0100, 0152, 074, 031, 010, 023, 3, 0, 1, 0, 13, 0, 3, 0, 15, 0 };
-    static const uint8_t open_entry[32] = { 0125, 050, 0100, 0152, 074, 031, 010, 023, 0377, 0, 2, 0,
-                                            0,    0,   0,    0,    0,   0,   2,   0 };
-    static const size_t refused[] = { 57, 58, 60, 61, 64, 65535, 65536, 65536 + 4, SIZE_MAX / 4 + 2, SIZE_MAX - 3,
-                                      SIZE_MAX - 2, SIZE_MAX - 1, SIZE_MAX };
+    const size_t length = make_small_empty(image), body = tried->block * 13;
+
+    expect_alloc(length, 9, 0, 13);
+    CHECK_BYTES(image + tried->block, entry, sizeof entry, "example: ALLOC of 9, entry");
+    CHECK_NUMBER(image[body - 1], 0xA5, "example: ALLOC of 9, the byte before its body");
+    CHECK_NUMBER(image[body], 0, "example: ALLOC of 9, body");
+    CHECK_NUMBER(image[length - 1], 0, "example: ALLOC of 9, the last byte of its body");
+}
+
+/* 14 blocks are free, or there is no entry. */
+static void alloc_examples(void)
+{
+    const size_t all = 14 * tried->segments;
+    const size_t refused[] = { all + 1, all + 2, all + 4, all + 5, all + 8, 65535, 65536, 65536 + 4, SIZE_MAX / 4 + 2,
+                               SIZE_MAX - 3, SIZE_MAX - 2, SIZE_MAX - 1, SIZE_MAX };
     size_t length;
 
-    /* n = 16, c = 1, empty: 14 blocks are free. */
-    for (size_t segments = 53; segments <= 56; segments++) {
-        length = make_empty(image, 16, 1);
-        expect_alloc(length, segments, 0, 2);
+    for (size_t segments = all - tried->segments + 1; segments <= all; segments++) {
+        length = make_small_empty(image);
+        expect_alloc(length, segments, 0, small(2));
         expect_alloc(length, 1, 2, 0);
     }
-    length = make_empty(image, 16, 1);
+    length = make_small_empty(image);
     for (size_t i = 0; i < COUNT(refused); i++)
         expect_alloc(length, refused[i], 042, 0);
     expect_alloc(length, 0, 041, 0);
 
-    /* The listing's. */
-    expect_alloc(length, 9, 0, 13);
-    CHECK_BYTES(image + BLOCK, entry, sizeof entry, "example: ALLOC of 9, entry");
-    CHECK_NUMBER(image[BLOCK * 13 - 1], 0xA5, "example: ALLOC of 9, the byte before its body");
-    CHECK_NUMBER(image[BLOCK * 13], 0, "example: ALLOC of 9, body");
-    CHECK_NUMBER(image[BLOCK * 16 - 1], 0, "example: ALLOC of 9, the last byte of its body");
-
     /* The directory is full and there is no room; the same with room. */
-    length = make_empty(image, 16, 1);
+    length = make_small_empty(image);
     fill_entries(image, 0);
-    expect_alloc(length, 57, 012, 0);
+    expect_alloc(length, all + 1, 012, 0);
     expect_alloc(length, SIZE_MAX, 012, 0);
     expect_alloc(length, 1, 012, 0);
     CHECK_NUMBER(abz_openo(image, length, ME, 10325, 27200, 6460, 0, 0), 012, "example: OPENO, directory full");
+}
+
+static void openo_examples(void)
+{
+    static const uint8_t open_entry[32] = { 0125, 050, 0100, 0152, 074, 031, 010, 023, 0377, 0, 2, 0,
+                                            0,    0,   0,    0,    0,   0,   2,   0 };
+    const size_t length = make_small_empty(image);
 
     /* OPENO needs an entry but no block. */
-    length = make_empty(image, 16, 1);
-    put_contiguous(image, 1, numbered(0, ME), 2, 14);
+    put_contiguous(image, 1, numbered(0, ME), small(2), 14);
     expect_alloc(length, 1, 042, 0);
     CHECK_NUMBER(abz_openo(image, length, ME, 10325, 27200, 6460, ME, 0377), 0, "example: OPENO, no block free");
-    CHECK_BYTES(image + BLOCK, open_entry, sizeof open_entry, "example: OPENO, entry");
+    CHECK_BYTES(image + tried->block, open_entry, sizeof open_entry, "example: OPENO, entry");
     CHECK_NUMBER(abz_openo(image, length, ME, 10325, 27200, 6460, 0, 256), 041, "example: OPENO, protect 256");
     CHECK_NUMBER(abz_openo(image, length, ME, 10325, 27200, 6460, 0, 0), 2, "example: OPENO again");
     CHECK_NUMBER(abz_openi(image, length, ME, 10325, 27200, 6460, 0), 2, "example: OPENI of a file open for output");
@@ -87,61 +101,66 @@ static void examples(void)
     CHECK_NUMBER(abz_openo(image, length, ME + 65536, 1600, 0, 0, 0, 0), 013, "example: OPENO for one beyond 16 bits");
 }
 
-/*
- * Document 02 §2, on packs full of rubbish, with no model between: every run that lies between two files. All of it is
- * zero then, and reads so; the blocks on both sides are what they were; and a refused ALLOC clears nothing.
- */
+/* A run of blocks that has just been taken: all of it is zero, and reads so. */
+static void reads_cleared(size_t length, size_t first, size_t count)
+{
+    static const uint8_t zeros[BLOCK_MOST];
+    uint8_t buffer[BLOCK_MOST];
+
+    CHECK_NUMBER(abz_openi(image, length, ME, 10325, 27200, 6460, 0), 0, "run of %zu from %zu, OPENI", count, first);
+    for (size_t place = 0; place < count; place++) {
+        memset(buffer, 0xA5, sizeof buffer);
+        CHECK_NUMBER(abz_block_in(image, length, ME, 10325, 27200, 6460, 0, place, buffer, tried->block), 0,
+                     "run of %zu from %zu, place %zu, code", count, first, place);
+        CHECK_BYTES(buffer, zeros, tried->block, "run of %zu from %zu, place %zu", count, first, place);
+        CHECK_BYTES(image + tried->block * (first + place), zeros, tried->block, "run of %zu from %zu, block at %zu",
+                    count, first, place);
+    }
+}
+
+/* The blocks on both sides of it are what they were, and a refused ALLOC clears nothing. */
+static void cleared_run(size_t first, size_t count)
+{
+    static uint8_t before[SMALL_ROOM];
+    const size_t length = make_small_empty(image), bodies = system_bytes(image), entry = tried->block + ABZ_ENTRY_BYTES;
+    const size_t below = tried->block * first, above = tried->block * (first + count);
+
+    for (size_t i = bodies; i < length; i++)
+        image[i] = (uint8_t)(1 + chance(255));
+    put_contiguous(image, 3, numbered(1, OTHER), small(2), first - small(2));
+    put_contiguous(image, 4, numbered(2, OTHER), first + count, small(16) - (first + count));
+    memcpy(before, image, length);
+
+    expect_alloc(length, tried->segments * count + 1, 042, 0);
+    expect_alloc(length, 0, 041, 0);
+    CHECK_BYTES(image, before, length, "refused, run of %zu from %zu", count, first);
+
+    expect_alloc(length, tried->segments * count - first % tried->segments, 0, first);
+    CHECK_BYTES(image, before, tried->block, "run of %zu from %zu, block 0", count, first);
+    CHECK_BYTES(image + entry, before + entry, bodies - entry, "run of %zu from %zu, contents", count, first);
+    CHECK_BYTES(image + bodies, before + bodies, below - bodies, "run of %zu from %zu, below", count, first);
+    CHECK_BYTES(image + above, before + above, length - above, "run of %zu from %zu, above", count, first);
+    reads_cleared(length, first, count);
+}
+
+/* Document 02 §2, on packs full of rubbish, with no model between: every run that lies between two files. */
 static void cleared_runs(void)
 {
-    static uint8_t before[BLOCK * 16];
-    static const uint8_t zeros[BLOCK];
-    uint8_t buffer[BLOCK];
-
-    for (size_t first = 3; first < 15; first++)
-        for (size_t count = 1; first + count < 16; count++) {
-            const size_t length = make_empty(image, 16, 1), end = first + count;
-            for (size_t i = BLOCK * 2; i < length; i++)
-                image[i] = (uint8_t)(1 + chance(255));
-            put_contiguous(image, 3, numbered(1, OTHER), 2, first - 2);
-            put_contiguous(image, 4, numbered(2, OTHER), end, 16 - end);
-            memcpy(before, image, length);
-
-            expect_alloc(length, 4 * count + 1, 042, 0);
-            expect_alloc(length, 0, 041, 0);
-            CHECK_BYTES(image, before, length, "refused, run of %zu from %zu", count, first);
-
-            expect_alloc(length, 4 * count - first % 4, 0, first);
-            CHECK_BYTES(image, before, BLOCK, "run of %zu from %zu, block 0", count, first);
-            CHECK_BYTES(image + BLOCK + 32, before + BLOCK + 32, BLOCK - 32, "run of %zu from %zu, contents", count,
-                        first);
-            CHECK_BYTES(image + BLOCK * 2, before + BLOCK * 2, BLOCK * (first - 2), "run of %zu from %zu, below", count,
-                        first);
-            CHECK_BYTES(image + BLOCK * end, before + BLOCK * end, BLOCK * (16 - end), "run of %zu from %zu, above",
-                        count, first);
-
-            CHECK_NUMBER(abz_openi(image, length, ME, 10325, 27200, 6460, 0), 0, "run of %zu from %zu, OPENI", count,
-                         first);
-            for (size_t place = 0; place < count; place++) {
-                memset(buffer, 0xA5, sizeof buffer);
-                CHECK_NUMBER(abz_block_in(image, length, ME, 10325, 27200, 6460, 0, place, buffer, BLOCK), 0,
-                             "run of %zu from %zu, place %zu, code", count, first, place);
-                CHECK_BYTES(buffer, zeros, BLOCK, "run of %zu from %zu, place %zu", count, first, place);
-                CHECK_BYTES(image + BLOCK * (first + place), zeros, BLOCK, "run of %zu from %zu, block at %zu", count,
-                            first, place);
-            }
-        }
+    for (size_t first = small(3); first < small(15); first++)
+        for (size_t count = 1; first + count < small(16); count++)
+            cleared_run(first, count);
 }
 
 /* Every pattern of held and free blocks in 9 of them, with every number of segments that could fit, and some more. */
 static void free_runs(void)
 {
-    static uint8_t pack[BLOCK * 16];
+    static uint8_t pack[SMALL_ROOM];
 
-    for (size_t pattern = 0; pattern < 512; pattern++) {
-        size_t length = make_empty(pack, 16, 1), blocks[16], count = 0;
+    for (size_t pattern = 0; pattern < 1 << 9; pattern++) {
+        size_t length = make_small_empty(pack), blocks[16], count = 0;
         for (size_t block = 2; block < 16; block++)
             if (block < 11 ? pattern >> (block - 2) & 1 : block < 15)
-                blocks[count++] = block;
+                blocks[count++] = small(block);
         put_linked(pack, 5, numbered(1, OTHER), blocks, count);
         for (size_t segments = 0; segments <= 40; segments++) {
             request it = { .what = ALLOC, .caller = ME, .file = numbered(0, 0), .segments = segments };
@@ -158,13 +177,13 @@ static void causes(void)
     static const size_t uics[] = { 0, ME, GROUP, OTHER, 7, 65536 + ME }, protects[] = { 0, 255, 256 };
     static const size_t segments[] = { 0, 1, 8, SIZE_MAX };
     const file_key names[] = { numbered(0, 0), numbered(50, 0), { 1600 * 27, 0, 0, 0 }, { 1600, 0, 64000, 0 } };
-    static uint8_t pack[BLOCK * 16];
+    static uint8_t pack[SMALL_ROOM];
 
     for (size_t state = 0; state < 4; state++) {
-        size_t length = make_empty(pack, 16, 1);
+        size_t length = make_small_empty(pack);
         fill_entries(pack, state & 1 ? 0 : 3);
         put_linked(pack, 1, numbered(0, ME), NULL, 0);
-        put_contiguous(pack, 2, numbered(0, GROUP), 2, state & 2 ? 14 : 13);
+        put_contiguous(pack, 2, numbered(0, GROUP), small(2), state & 2 ? 14 : 13);
         for (size_t what = ALLOC; what <= OPENO; what++)
             for (size_t caller = 0; caller < COUNT(uics); caller++)
                 for (size_t uic = 0; uic < COUNT(uics); uic++)
@@ -188,11 +207,12 @@ static void filling(void)
         size_t n, c, what, files, code;
     } packs[] = {
         { 16, 1, ALLOC, 14, 042 }, { 17, 1, ALLOC, 15, 042 }, { 18, 1, ALLOC, 16, 012 },  { 40, 1, ALLOC, 16, 012 },
-        { 16, 8, ALLOC, 7, 042 },  { 60, 3, ALLOC, 48, 012 }, { 16, 1, OPENO, 16, 012 },  { 1024, 4, OPENO, 64, 012 },
+        { 16, 8, ALLOC, 7, 042 },  { 60, 3, ALLOC, 48, 012 }, { 16, 1, OPENO, 16, 012 },  { 900, 4, OPENO, 64, 012 },
     };
 
     for (size_t i = 0; i < COUNT(packs); i++) {
-        size_t length = make_empty(image, packs[i].n, packs[i].c), files = 0, code;
+        const size_t c = packs[i].c, n = block_like(c, packs[i].n);
+        size_t length = make_empty(image, n, contents_like(c)), files = 0, code;
         request it = { .what = packs[i].what, .caller = ME, .segments = 1 };
         do {
             it.file = numbered(files, 0);
@@ -212,7 +232,7 @@ static void filling(void)
             try_request("making room", i, length, delet);
         }
         it.file = numbered(99, 0);
-        it.segments = 5;
+        it.segments = tried->segments + 1;
         CHECK_NUMBER(try_request("filling a gap", i, length, it), 0, "filling a gap %zu", i);
         CHECK_NUMBER(find_below(image, numbered(99, ME), files), 2, "filling a gap %zu: entry", i);
     }
@@ -220,8 +240,8 @@ static void filling(void)
 
 static void huge_everywhere(void)
 {
-    static uint8_t pack[BLOCK * 16];
-    const size_t length = make_empty(pack, 16, 1);
+    static uint8_t pack[SMALL_ROOM];
+    const size_t length = make_small_empty(pack);
 
     for (size_t what = ALLOC; what <= OPENO; what++) {
         request it = { .what = what, .caller = ME, .file = numbered(1, ME), .protect = 3, .segments = 9 };
@@ -234,14 +254,15 @@ static void huge_everywhere(void)
 static void large_packs(void)
 {
     for (size_t pack = 0; pack < 3; pack++) {
-        size_t length = chance_pack(image, BLOCKS_MAX - pack, CONTENTS_MAX, 90);
+        size_t length = chance_pack(image, tried->blocks_most - pack, tried->contents_most, 90);
         for (size_t i = 0; i < 40; i++)
             try_request("large pack", pack, length, chance_request(ALLOC + i % 2, image));
     }
 
     /* The largest file there is. */
-    size_t length = make_empty(image, BLOCKS_MAX, 1);
-    request it = { .what = ALLOC, .caller = ME, .file = numbered(1, 0), .segments = 4 * 1022 + 1 };
+    const size_t n = tried->blocks_most, length = make_empty(image, n, 1);
+    request it = { .what = ALLOC, .caller = ME, .file = numbered(1, 0) };
+    it.segments = tried->segments * (n - first_body(tried, 1)) + 1;
     CHECK_NUMBER(try_request("largest", 1, length, it), 042, "one segment too many");
     it.segments--;
     CHECK_NUMBER(try_request("largest", 0, length, it), 0, "the largest file");
@@ -249,16 +270,20 @@ static void large_packs(void)
 
 int main(void)
 {
-    examples();
-    cleared_runs();
-    free_runs();
-    causes();
-    filling();
-    huge_everywhere();
-    chance_requests(ALLOC, REQUESTS, 200, 20);
-    chance_requests(OPENI, REQUESTS, 200, 60);
-    damaged_images(ALLOC, REQUESTS, 60);
-    large_packs();
-    check_given(ALLOC, REQUESTS);
+    listing_example();
+    EACH_FORM {
+        alloc_examples();
+        openo_examples();
+        cleared_runs();
+        free_runs();
+        causes();
+        filling();
+        huge_everywhere();
+        chance_requests(ALLOC, REQUESTS, 200, 20);
+        chance_requests(OPENI, REQUESTS, 200, 60);
+        damaged_images(ALLOC, REQUESTS, 60);
+        large_packs();
+        check_given(ALLOC, REQUESTS);
+    }
     return check_end("creating");
 }

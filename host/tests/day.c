@@ -8,10 +8,11 @@
 
 #include "listing.h"
 
-enum { PACK = BLOCK * 16 };
+/* The bytes of the pack, which has 16 blocks. The day is one of form 1. */
+static size_t pack;
 
 /* What is written: to the logs, to the table, and to the month's text, a line for each day. */
-static uint8_t payloads[6][PAYLOAD], blocks[3][BLOCK];
+static uint8_t payloads[6][PAYLOAD_MOST], blocks[3][BLOCK_MOST];
 static char lines[30][64];
 
 /* ---- What a step is held to ---- */
@@ -38,12 +39,12 @@ static void shows(const char *new_whose, const char *new_text)
     whose = new_whose;
     text = new_text;
     for (size_t block = 0; block < 16; block++) {
-        const abz_owner_answer owner = abz_owner(image, PACK, block);
+        const abz_owner_answer owner = abz_owner(image, pack, block);
         const size_t letter = owner.kind == ABZ_SYSTEM ? 's' : owner.kind == ABZ_FREE ? '.' : '0' + owner.entry;
         DONE(owner.code);
         CHECK_NUMBER(letter, (size_t)whose[block], "%s: whose block %zu is", part, block);
     }
-    try_listing(image, PACK, text, part);
+    try_listing(image, pack, text, part);
 }
 
 /* The nine characters of a name and its extension, as a host makes words of them. */
@@ -63,9 +64,9 @@ static file_key named(const char *characters, size_t uic)
 
 static void add(size_t caller, file_key key, uint8_t *payload, size_t block)
 {
-    chance_bytes(payload, PAYLOAD);
+    chance_bytes(payload, tried->payload);
 
-    const abz_answer answer = abz_linked_add(image, PACK, caller, FILE4(key), payload, PAYLOAD);
+    const abz_answer answer = abz_linked_add(image, pack, caller, FILE4(key), payload, tried->payload);
     DONE(answer.code);
     CHECK_NUMBER(answer.number, block, "%s: block added", part);
 }
@@ -73,8 +74,8 @@ static void add(size_t caller, file_key key, uint8_t *payload, size_t block)
 /* Writes a line whole. filled is what the gather buffer has of the block to come. */
 static void write_line(file_key key, const char *line, uint8_t *gather, size_t *filled)
 {
-    const abz_write_answer answer = abz_line_write(image, PACK, ME, FILE4(key), ABZ_NORMAL, (const uint8_t *)line,
-                                                   strlen(line), gather, PAYLOAD, *filled);
+    const abz_write_answer answer = abz_line_write(image, pack, ME, FILE4(key), ABZ_NORMAL, (const uint8_t *)line,
+                                                   strlen(line), gather, tried->payload, *filled);
 
     DONE(answer.code);
     CHECK_NUMBER(answer.count, strlen(line), "%s: characters of %s", part, line);
@@ -86,7 +87,7 @@ static void write_line(file_key key, const char *line, uint8_t *gather, size_t *
 static void read_line(size_t caller, file_key key, const char *line, size_t *position)
 {
     uint8_t bytes[64];
-    const abz_read_answer answer = abz_line_read(image, PACK, caller, FILE4(key), ABZ_NORMAL, *position, bytes,
+    const abz_read_answer answer = abz_line_read(image, pack, caller, FILE4(key), ABZ_NORMAL, *position, bytes,
                                                  sizeof bytes);
 
     DONE(answer.code);
@@ -98,7 +99,7 @@ static void read_line(size_t caller, file_key key, const char *line, size_t *pos
 
 static void end_day(size_t caller, size_t number)
 {
-    const abz_answer answer = abz_finish(image, PACK, caller);
+    const abz_answer answer = abz_finish(image, pack, caller);
 
     DONE(answer.code);
     CHECK_NUMBER(answer.number, number, "%s: files that Finish deleted", part);
@@ -112,11 +113,11 @@ static void morning(void)
     static const uint8_t uics[] = { 010, 023, 04, 012 };
     const file_key log = named("MORN  LOG", 0);
 
-    chance_bytes(image, PACK);
-    DONE(abz_format(image, PACK, 1, 16, 1, uics, sizeof uics));
+    chance_bytes(image, pack);
+    DONE(abz_format(image, pack, tried->number, 16, 1, uics, sizeof uics));
     shows("ss..............", "BLOCKS 00016 FREE 00014\n");
 
-    DONE(abz_openo(image, PACK, ME, FILE4(log), 3));
+    DONE(abz_openo(image, pack, ME, FILE4(log), 3));
     shows("ss..............", "BLOCKS 00016 FREE 00014\n"
                               "MORN  .LOG L 00000 [023,010] 003\n");
     add(ME, log, payloads[0], 15);
@@ -129,10 +130,10 @@ static void morning(void)
     shows("ss...........000", "BLOCKS 00016 FREE 00011\n"
                               "MORN  .LOG L 00003 [023,010] 003\n");
 
-    REFUSED(abz_openi(image, PACK, OTHER, FILE4(named("MORN  LOG", ME))), ABZ_EXISTENCE);
-    REFUSED(abz_delet(image, PACK, ME, FILE4(log)), ABZ_OPEN);
-    DONE_UNSEEN(abz_close(image, PACK, ME, FILE4(log), ABZ_OUTPUT));
-    REFUSED(abz_linked_add(image, PACK, ME, FILE4(log), payloads[0], PAYLOAD).code, ABZ_NOT_OPEN);
+    REFUSED(abz_openi(image, pack, OTHER, FILE4(named("MORN  LOG", ME))), ABZ_EXISTENCE);
+    REFUSED(abz_delet(image, pack, ME, FILE4(log)), ABZ_OPEN);
+    DONE_UNSEEN(abz_close(image, pack, ME, FILE4(log), ABZ_OUTPUT));
+    REFUSED(abz_linked_add(image, pack, ME, FILE4(log), payloads[0], tried->payload).code, ABZ_NOT_OPEN);
 }
 
 /* A second one, and a contiguous file that is filled. */
@@ -140,7 +141,7 @@ static void noon(void)
 {
     const file_key log = named("NOON  LOG", 0), table = named("FREQ  DAT", 0);
 
-    DONE(abz_openo(image, PACK, ME, FILE4(log), 3));
+    DONE(abz_openo(image, pack, ME, FILE4(log), 3));
     shows("ss...........000", "BLOCKS 00016 FREE 00011\n"
                               "MORN  .LOG L 00003 [023,010] 003\n"
                               "NOON  .LOG L 00000 [023,010] 003\n");
@@ -152,10 +153,10 @@ static void noon(void)
     shows("ss.........11000", "BLOCKS 00016 FREE 00009\n"
                               "MORN  .LOG L 00003 [023,010] 003\n"
                               "NOON  .LOG L 00002 [023,010] 003\n");
-    DONE_UNSEEN(abz_close(image, PACK, ME, FILE4(log), ABZ_OUTPUT));
+    DONE_UNSEEN(abz_close(image, pack, ME, FILE4(log), ABZ_OUTPUT));
 
-    REFUSED(abz_alloc(image, PACK, ME, FILE4(table), 3, 37).code, ABZ_NO_ROOM);
-    const abz_answer answer = abz_alloc(image, PACK, ME, FILE4(table), 3, 9);
+    REFUSED(abz_alloc(image, pack, ME, FILE4(table), 3, 37).code, ABZ_NO_ROOM);
+    const abz_answer answer = abz_alloc(image, pack, ME, FILE4(table), 3, 9);
     DONE(answer.code);
     CHECK_NUMBER(answer.number, 8, "%s: first block", part);
     shows("ss......22211000", "BLOCKS 00016 FREE 00006\n"
@@ -163,14 +164,14 @@ static void noon(void)
                               "NOON  .LOG L 00002 [023,010] 003\n"
                               "FREQ  .DAT C 00003 [023,010] 003\n");
 
-    REFUSED(abz_block_out(image, PACK, ME, FILE4(table), 0, blocks[0], BLOCK), ABZ_NOT_OPEN);
-    DONE_UNSEEN(abz_openu(image, PACK, ME, FILE4(table)));
+    REFUSED(abz_block_out(image, pack, ME, FILE4(table), 0, blocks[0], tried->block), ABZ_NOT_OPEN);
+    DONE_UNSEEN(abz_openu(image, pack, ME, FILE4(table)));
     for (size_t place = 0; place < 3; place++) {
-        chance_bytes(blocks[place], BLOCK);
-        DONE_UNSEEN(abz_block_out(image, PACK, ME, FILE4(table), place, blocks[place], BLOCK));
+        chance_bytes(blocks[place], tried->block);
+        DONE_UNSEEN(abz_block_out(image, pack, ME, FILE4(table), place, blocks[place], tried->block));
     }
-    REFUSED(abz_block_out(image, PACK, ME, FILE4(table), 3, blocks[0], BLOCK), ABZ_NO_BLOCK);
-    DONE_UNSEEN(abz_close(image, PACK, ME, FILE4(table), ABZ_UPDATE));
+    REFUSED(abz_block_out(image, pack, ME, FILE4(table), 3, blocks[0], tried->block), ABZ_NO_BLOCK);
+    DONE_UNSEEN(abz_close(image, pack, ME, FILE4(table), ABZ_UPDATE));
 }
 
 /* One log of two, to which another user adds, as its new protect code lets him. */
@@ -178,24 +179,24 @@ static void evening(void)
 {
     const file_key morn = named("MORN  LOG", 0), noon = named("NOON  LOG", 0), day = named("DAY   LOG", ME);
 
-    DONE(abz_renam(image, PACK, ME, FILE4(morn), day.name1, day.name2, day.extension, 1));
+    DONE(abz_renam(image, pack, ME, FILE4(morn), day.name1, day.name2, day.extension, 1));
     shows("ss......22211000", "BLOCKS 00016 FREE 00006\n"
                               "DAY   .LOG L 00003 [023,010] 001\n"
                               "NOON  .LOG L 00002 [023,010] 003\n"
                               "FREQ  .DAT C 00003 [023,010] 003\n");
 
-    REFUSED(abz_appnd(image, PACK, ME, FILE4(morn), FILE4(noon)), ABZ_EXISTENCE);
-    DONE(abz_appnd(image, PACK, ME, FILE4(day), FILE4(noon)));
+    REFUSED(abz_appnd(image, pack, ME, FILE4(morn), FILE4(noon)), ABZ_EXISTENCE);
+    DONE(abz_appnd(image, pack, ME, FILE4(day), FILE4(noon)));
     shows("ss......22200000", "BLOCKS 00016 FREE 00006\n"
                               "DAY   .LOG L 00005 [023,010] 001\n"
                               "FREQ  .DAT C 00003 [023,010] 003\n");
 
-    DONE_UNSEEN(abz_opene(image, PACK, OTHER, FILE4(day)));
+    DONE_UNSEEN(abz_opene(image, pack, OTHER, FILE4(day)));
     add(OTHER, day, payloads[5], 7);
     shows("ss.....022200000", "BLOCKS 00016 FREE 00005\n"
                               "DAY   .LOG L 00006 [023,010] 001\n"
                               "FREQ  .DAT C 00003 [023,010] 003\n");
-    DONE_UNSEEN(abz_close(image, PACK, OTHER, FILE4(day), ABZ_EXTEND));
+    DONE_UNSEEN(abz_close(image, pack, OTHER, FILE4(day), ABZ_EXTEND));
 }
 
 /* The pack while the month's text has so many blocks, which are those below 7. */
@@ -215,58 +216,58 @@ static void shows_month(size_t length)
 /* A text with a line for each day of the month: those that are over, and then today's, which begins another block. */
 static void month(void)
 {
-    static uint8_t gather[PAYLOAD];
+    static uint8_t gather[PAYLOAD_MOST];
     const file_key days = named("MONTH TXT", 0);
     const size_t today = COUNT(lines) - 1;
     size_t filled = 0, laid = 0;
 
     for (size_t i = 0; i < COUNT(lines); i++)
         sprintf(lines[i], "%02zu NOV 1971\t%zu MB\tWIND SW %zu\tSEA %zu\n", i + 1, 1003 + i, i % 9, i % 7);
-    DONE(abz_openo(image, PACK, ME, FILE4(days), 3));
+    DONE(abz_openo(image, pack, ME, FILE4(days), 3));
     for (size_t i = 0; i < today; i++) {
-        shows_month(laid / PAYLOAD);
+        shows_month(laid / tried->payload);
         write_line(days, lines[i], gather, &filled);
         laid += strlen(lines[i]) + 3; /* a RUBOUT behind each TAB */
-        CHECK_NUMBER(filled, laid % PAYLOAD, "%s: filled", part);
+        CHECK_NUMBER(filled, laid % tried->payload, "%s: filled", part);
     }
     shows_month(2);
-    REFUSED(abz_line_end(image, PACK, OTHER, FILE4(named("MONTH TXT", ME)), gather, PAYLOAD, filled), ABZ_RIGHT);
-    DONE(abz_line_end(image, PACK, ME, FILE4(days), gather, PAYLOAD, filled));
+    REFUSED(abz_line_end(image, pack, OTHER, FILE4(named("MONTH TXT", ME)), gather, tried->payload, filled), ABZ_RIGHT);
+    DONE(abz_line_end(image, pack, ME, FILE4(days), gather, tried->payload, filled));
     shows_month(3);
-    DONE_UNSEEN(abz_close(image, PACK, ME, FILE4(days), ABZ_OUTPUT));
+    DONE_UNSEEN(abz_close(image, pack, ME, FILE4(days), ABZ_OUTPUT));
 
     filled = 0;
-    DONE_UNSEEN(abz_opene(image, PACK, ME, FILE4(days)));
+    DONE_UNSEEN(abz_opene(image, pack, ME, FILE4(days)));
     write_line(days, lines[today], gather, &filled);
-    DONE_UNSEEN(abz_line_end(image, PACK, ME, FILE4(days), gather, PAYLOAD, 0));
-    DONE(abz_line_end(image, PACK, ME, FILE4(days), gather, PAYLOAD, filled));
+    DONE_UNSEEN(abz_line_end(image, pack, ME, FILE4(days), gather, tried->payload, 0));
+    DONE(abz_line_end(image, pack, ME, FILE4(days), gather, tried->payload, filled));
     shows_month(4);
-    DONE_UNSEEN(abz_close(image, PACK, ME, FILE4(days), ABZ_EXTEND));
+    DONE_UNSEEN(abz_close(image, pack, ME, FILE4(days), ABZ_EXTEND));
 }
 
 /* All that was written is read back, by another user. */
 static void reading(void)
 {
-    static uint8_t bytes[BLOCK];
+    static uint8_t bytes[BLOCK_MOST];
     const file_key day = named("DAY   LOG", ME), table = named("FREQ  DAT", ME);
 
-    DONE_UNSEEN(abz_openi(image, PACK, OTHER, FILE4(day)));
+    DONE_UNSEEN(abz_openi(image, pack, OTHER, FILE4(day)));
     for (size_t place = 0; place < COUNT(payloads); place++) {
-        DONE_UNSEEN(abz_linked_read(image, PACK, OTHER, FILE4(day), place, bytes, PAYLOAD));
-        CHECK_BYTES(bytes, payloads[place], PAYLOAD, "%s: linked read of place %zu", part, place);
+        DONE_UNSEEN(abz_linked_read(image, pack, OTHER, FILE4(day), place, bytes, tried->payload));
+        CHECK_BYTES(bytes, payloads[place], tried->payload, "%s: linked read of place %zu", part, place);
     }
-    REFUSED(abz_linked_read(image, PACK, OTHER, FILE4(day), COUNT(payloads), bytes, PAYLOAD), ABZ_NO_BLOCK);
+    REFUSED(abz_linked_read(image, pack, OTHER, FILE4(day), COUNT(payloads), bytes, tried->payload), ABZ_NO_BLOCK);
 
-    DONE_UNSEEN(abz_openi(image, PACK, OTHER, FILE4(table)));
+    DONE_UNSEEN(abz_openi(image, pack, OTHER, FILE4(table)));
     for (size_t place = 0; place < COUNT(blocks); place++) {
-        DONE_UNSEEN(abz_block_in(image, PACK, OTHER, FILE4(table), place, bytes, BLOCK));
-        CHECK_BYTES(bytes, blocks[place], BLOCK, "%s: BLOCK input of place %zu", part, place);
+        DONE_UNSEEN(abz_block_in(image, pack, OTHER, FILE4(table), place, bytes, tried->block));
+        CHECK_BYTES(bytes, blocks[place], tried->block, "%s: BLOCK input of place %zu", part, place);
     }
-    REFUSED(abz_block_in(image, PACK, OTHER, FILE4(table), COUNT(blocks), bytes, BLOCK), ABZ_NO_BLOCK);
-    REFUSED(abz_delet(image, PACK, ME, FILE4(day)), ABZ_OPEN);
+    REFUSED(abz_block_in(image, pack, OTHER, FILE4(table), COUNT(blocks), bytes, tried->block), ABZ_NO_BLOCK);
+    REFUSED(abz_delet(image, pack, ME, FILE4(day)), ABZ_OPEN);
 
-    DONE_UNSEEN(abz_close(image, PACK, OTHER, FILE4(day), ABZ_INPUT));
-    DONE_UNSEEN(abz_close(image, PACK, OTHER, FILE4(table), ABZ_INPUT));
+    DONE_UNSEEN(abz_close(image, pack, OTHER, FILE4(day), ABZ_INPUT));
+    DONE_UNSEEN(abz_close(image, pack, OTHER, FILE4(table), ABZ_INPUT));
 }
 
 /* And so are the lines, the last of them behind the NULs that fill up a block. */
@@ -276,51 +277,52 @@ static void reading_lines(void)
     size_t position = 0;
     uint8_t byte = '?';
 
-    DONE_UNSEEN(abz_openi(image, PACK, OTHER, FILE4(days)));
+    DONE_UNSEEN(abz_openi(image, pack, OTHER, FILE4(days)));
     for (size_t i = 0; i < COUNT(lines); i++)
         read_line(OTHER, days, lines[i], &position);
 
-    const abz_read_answer answer = abz_line_read(image, PACK, OTHER, FILE4(days), ABZ_SPECIAL, position, &byte, 1);
+    const abz_read_answer answer = abz_line_read(image, pack, OTHER, FILE4(days), ABZ_SPECIAL, position, &byte, 1);
     DONE_UNSEEN(answer.code);
     CHECK_NUMBER(answer.count, 0, "%s: behind the last line", part);
     CHECK_NUMBER(answer.status, ABZ_FILE_ENDED, "%s: status behind the last line", part);
-    CHECK_NUMBER(answer.position, 4 * PAYLOAD, "%s: position behind the last line", part);
+    CHECK_NUMBER(answer.position, 4 * tried->payload, "%s: position behind the last line", part);
     CHECK_NUMBER(byte, '?', "%s: buffer behind the last line", part);
-    REFUSED(abz_line_read(image, PACK, OTHER, FILE4(days), ABZ_NORMAL, 4 * PAYLOAD + 1, &byte, 1).code, ABZ_NO_BLOCK);
-    DONE_UNSEEN(abz_close(image, PACK, OTHER, FILE4(days), ABZ_INPUT));
-    REFUSED(abz_line_read(image, PACK, OTHER, FILE4(days), ABZ_NORMAL, 0, &byte, 1).code, ABZ_NOT_OPEN);
+    position = answer.position + 1;
+    REFUSED(abz_line_read(image, pack, OTHER, FILE4(days), ABZ_NORMAL, position, &byte, 1).code, ABZ_NO_BLOCK);
+    DONE_UNSEEN(abz_close(image, pack, OTHER, FILE4(days), ABZ_INPUT));
+    REFUSED(abz_line_read(image, pack, OTHER, FILE4(days), ABZ_NORMAL, 0, &byte, 1).code, ABZ_NOT_OPEN);
 }
 
 /* Everything is deleted, by its owner alone, who finishes the day; what was written stays in the image. */
 static void night(void)
 {
-    static uint8_t before[PACK];
+    static uint8_t before[SMALL_ROOM];
     const file_key day = named("DAY   LOG", ME), table = named("FREQ  DAT", ME), days = named("MONTH TXT", ME);
 
-    memcpy(before, image, PACK);
-    DONE(abz_delet(image, PACK, ME, FILE4(days)));
+    memcpy(before, image, pack);
+    DONE(abz_delet(image, pack, ME, FILE4(days)));
     shows("ss.....022200000", "BLOCKS 00016 FREE 00005\n"
                               "DAY   .LOG L 00006 [023,010] 001\n"
                               "FREQ  .DAT C 00003 [023,010] 003\n");
-    REFUSED(abz_delet(image, PACK, OTHER, FILE4(day)), ABZ_RIGHT);
-    DONE(abz_keep(image, PACK, ME, FILE4(table)));
+    REFUSED(abz_delet(image, pack, OTHER, FILE4(day)), ABZ_RIGHT);
+    DONE(abz_keep(image, pack, ME, FILE4(table)));
     shows("ss.....022200000", "BLOCKS 00016 FREE 00005\n"
                               "DAY   .LOG L 00006 [023,010] 001\n"
                               "FREQ  .DAT C 00003 [023,010] 203\n");
     end_day(OTHER, 0);
     shows(whose, text);
-    DONE_UNSEEN(abz_openi(image, PACK, ME, FILE4(day)));
+    DONE_UNSEEN(abz_openi(image, pack, ME, FILE4(day)));
     end_day(ME, 0);
     shows(whose, text);
-    DONE_UNSEEN(abz_close(image, PACK, ME, FILE4(day), ABZ_INPUT));
+    DONE_UNSEEN(abz_close(image, pack, ME, FILE4(day), ABZ_INPUT));
     end_day(ME, 1);
     shows("ss......222.....", "BLOCKS 00016 FREE 00011\n"
                               "FREQ  .DAT C 00003 [023,010] 203\n");
     end_day(ME, 0);
     shows(whose, text);
-    DONE(abz_delet(image, PACK, ME, FILE4(table)));
+    DONE(abz_delet(image, pack, ME, FILE4(table)));
     shows("ss..............", "BLOCKS 00016 FREE 00014\n");
-    CHECK_BYTES(image + 2 * BLOCK, before + 2 * BLOCK, PACK - 2 * BLOCK, "%s: bodies", part);
+    CHECK_BYTES(image + 2 * tried->block, before + 2 * tried->block, pack - 2 * tried->block, "%s: bodies", part);
 }
 
 int main(void)
@@ -333,6 +335,7 @@ int main(void)
         { "reading", reading }, { "reading lines", reading_lines }, { "night", night },
     };
 
+    pack = tried->block * 16;
     for (size_t i = 0; i < COUNT(day); i++) {
         part = day[i].name;
         day[i].part();

@@ -32,17 +32,17 @@ static void deletes_one_by_one(const char *name, size_t number, size_t length, s
 /* What was not removed has the same words and bytes, and only the blocks of what was are free. */
 static void leaves_the_rest(const char *name, size_t number, size_t length, size_t caller)
 {
-    static block_owner before[BLOCKS_MAX], after[BLOCKS_MAX];
+    static block_owner before[BLOCKS_MOST], after[BLOCKS_MOST];
 
     CHECK_NUMBER(judge(kept + GUARD, length, before), true, "%s %zu: consistent before", name, number);
     CHECK_NUMBER(judge(image, length, after), true, "%s %zu: consistent after", name, number);
-    for (size_t block = 0; block < length / BLOCK; block++) {
+    for (size_t block = 0; block < get_word(image, BLOCKS); block++) {
         const bool goes = before[block].kind == HELD && is_scratch(kept + GUARD, before[block].entry, caller);
         CHECK_NUMBER(after[block].kind, goes ? FREE : before[block].kind, "%s %zu: whose block %zu is", name, number,
                      block);
     }
-    CHECK_BYTES(image + BLOCK * (1 + get_word(image, CONTENTS)), kept + GUARD + BLOCK * (1 + get_word(image, CONTENTS)),
-                length - BLOCK * (1 + get_word(image, CONTENTS)), "%s %zu: bodies", name, number);
+    CHECK_BYTES(image + system_bytes(image), kept + GUARD + system_bytes(image), length - system_bytes(image),
+                "%s %zu: bodies", name, number);
 }
 
 /* A Finish on the image, and where it is done all that is said of one. Returns how many files it removed. */
@@ -71,28 +71,28 @@ enum {
 
 static size_t make_sorts(uint8_t *bytes)
 {
-    static const size_t two[] = { 9, 7 }, one[] = { 12 }, another[] = { 14 };
+    const size_t two[] = { small(9), small(7) }, one[] = { small(12) }, another[] = { small(14) };
 
-    chance_bytes(bytes, BLOCK * 32);
-    const size_t length = make_pack(bytes, 32, 1, users, COUNT(users));
-    put_contiguous(bytes, SCRATCH, key_of("A     ", "   ", ME), 2, 3);
+    chance_bytes(bytes, tried->block * small(32));
+    const size_t length = make_pack(bytes, small(32), contents_like(1), users, COUNT(users));
+    put_contiguous(bytes, SCRATCH, key_of("A     ", "   ", ME), small(2), 3);
     put_linked(bytes, KEPT, key_of("B     ", "   ", ME), two, 2);
     set_field(bytes, KEPT, PROTECT, 0200);
-    put_contiguous(bytes, READ, key_of("C     ", "   ", ME), 15, 1);
+    put_contiguous(bytes, READ, key_of("C     ", "   ", ME), small(15), 1);
     set_open(bytes, READ, 0, 1);
-    put_contiguous(bytes, UPDATED, key_of("D     ", "   ", ME), 16, 2);
+    put_contiguous(bytes, UPDATED, key_of("D     ", "   ", ME), small(16), 2);
     set_open(bytes, UPDATED, 1, 0);
     put_linked(bytes, EXTENDED, key_of("E     ", "   ", ME), one, 1);
     set_open(bytes, EXTENDED, 3, 2);
-    put_contiguous(bytes, BIT_6, key_of("F     ", "   ", ME), 18, 1);
+    put_contiguous(bytes, BIT_6, key_of("F     ", "   ", ME), small(18), 1);
     set_field(bytes, BIT_6, PROTECT, 0100);
-    put_contiguous(bytes, FREE_FOR_ALL, key_of("A     ", "   ", OTHER), 19, 1);
-    put_contiguous(bytes, FREE_FOR_GROUP, key_of("A     ", "   ", GROUP), 20, 1);
+    put_contiguous(bytes, FREE_FOR_ALL, key_of("A     ", "   ", OTHER), small(19), 1);
+    put_contiguous(bytes, FREE_FOR_GROUP, key_of("A     ", "   ", GROUP), small(20), 1);
     set_field(bytes, FREE_FOR_GROUP, PROTECT, 7);
     put_linked(bytes, NO_BLOCKS, key_of("G     ", "DAT", ME), NULL, 0);
     put_linked(bytes, OWNERS_ONLY, key_of("H     ", "DAT", ME), another, 1);
     set_field(bytes, OWNERS_ONLY, PROTECT, 077);
-    put_contiguous(bytes, LAST_ONE, key_of("I     ", "DAT", ME), 31, 1);
+    put_contiguous(bytes, LAST_ONE, key_of("I     ", "DAT", ME), small(31), 1);
     return length;
 }
 
@@ -102,17 +102,17 @@ static void sorts(void)
     const size_t length = make_sorts(image);
     abz_answer answer;
 
-    CHECK_NUMBER(abz_owner(image, length, 3).kind, ABZ_HELD, "sorts: block 3 before");
+    CHECK_NUMBER(abz_owner(image, length, small(3)).kind, ABZ_HELD, "sorts: block 3 before");
     answer = abz_finish(image, length, ME);
     CHECK_NUMBER(answer.code, 0, "sorts: code");
     CHECK_NUMBER(answer.number, 4, "sorts: number");
     for (size_t entry = 0; entry < SORTS; entry++)
         CHECK_NUMBER(used(image, entry), entry != HOLE && !mine[entry], "sorts: whether entry %zu is left", entry);
-    CHECK_NUMBER(abz_owner(image, length, 3).kind, ABZ_FREE, "sorts: block 3");
-    CHECK_NUMBER(abz_owner(image, length, 14).kind, ABZ_FREE, "sorts: block 14");
-    CHECK_NUMBER(abz_owner(image, length, 31).kind, ABZ_FREE, "sorts: block 31");
-    CHECK_NUMBER(abz_owner(image, length, 7).place, 1, "sorts: place of block 7");
-    CHECK_NUMBER(abz_owner(image, length, 19).kind, ABZ_HELD, "sorts: block 19");
+    CHECK_NUMBER(abz_owner(image, length, small(3)).kind, ABZ_FREE, "sorts: block 3");
+    CHECK_NUMBER(abz_owner(image, length, small(14)).kind, ABZ_FREE, "sorts: block 14");
+    CHECK_NUMBER(abz_owner(image, length, small(31)).kind, ABZ_FREE, "sorts: block 31");
+    CHECK_NUMBER(abz_owner(image, length, small(7)).place, 1, "sorts: place of block 7");
+    CHECK_NUMBER(abz_owner(image, length, small(19)).kind, ABZ_HELD, "sorts: block 19");
     answer = abz_finish(image, length, ME);
     CHECK_NUMBER(answer.code, 0, "sorts: code of a second Finish");
     CHECK_NUMBER(answer.number, 0, "sorts: number of a second Finish");
@@ -137,8 +137,7 @@ static void states(void)
 {
     static const size_t callers[] = { ME, GROUP, OTHER, 0, ME + 65536, 023 * 256, 022 * 256 + 010, SIZE_MAX };
     static const size_t writers[] = { 0, 0, 0, 2, 3, 3 }, readers[] = { 0, 1, 62, 0, 0, 61 };
-    static const size_t blocks[] = { 6 };
-    const size_t length = make_pack(pack, 16, 1, users, COUNT(users));
+    const size_t blocks[] = { small(6) }, length = make_small_pack(pack, users, COUNT(users));
 
     put_linked(pack, 3, key_of("ABC   ", "   ", ME), blocks, 1);
     for (size_t c = 0; c < COUNT(callers); c++)
@@ -170,9 +169,10 @@ static void nobody(void)
 /* Contents that are full, with all of the files the caller's, none, or some of them. */
 static void full_contents(void)
 {
-    for (size_t c = CONTENTS_MIN; c <= CONTENTS_MAX; c++)
+    for (size_t c = tried->contents_least; c <= tried->contents_most; c++)
         for (size_t sort = 0; sort < 6; sort++) {
-            const size_t entries = BLOCK_ENTRIES * c, length = make_pack(image, 9 + entries, c, users, COUNT(users));
+            const size_t entries = tried->entries * c, first = first_body(tried, c);
+            const size_t length = make_pack(image, first + entries + 16, c, users, COUNT(users));
             size_t due = 0;
 
             for (size_t entry = 0; entry < entries; entry++) {
@@ -180,7 +180,7 @@ static void full_contents(void)
                                   || (sort == 4 && entry % 2) || (sort == 5 && chance(2));
                 file_key key = key_of("AAA   ", "   ", goes ? ME : users[1 + chance(2)]);
                 key.name2 = 1600 * (1 + entry / 26) + 40 * (1 + entry % 26);
-                put_contiguous(image, entry, key, c + 1 + entry, 1);
+                put_contiguous(image, entry, key, first + entry, 1);
                 due += goes;
             }
             CHECK_NUMBER(try_finish("full contents", 10 * c + sort, length, ME), due, "full contents %zu %zu", c, sort);
@@ -192,7 +192,7 @@ static void by_chance(void)
 {
     for (size_t i = 0; i < 200; i++) {
         const size_t c = 1 + chance(8), n = 16 + chance(i % 10 ? 100 : 1000);
-        size_t files = chance(BLOCK_ENTRIES * c + 1), length;
+        size_t files = chance(tried->entries * c + 1), length;
 
         length = chance_pack(image, n, c, files < 90 ? files : 90);
         if (i % 4)
@@ -208,12 +208,14 @@ static void by_chance(void)
 
 int main(void)
 {
-    sorts();
-    states();
-    nobody();
-    full_contents();
-    by_chance();
-    damaged_images(FINISH, FINISH + 1, 400);
+    EACH_FORM {
+        sorts();
+        states();
+        nobody();
+        full_contents();
+        by_chance();
+        damaged_images(FINISH, FINISH + 1, 400);
+    }
     check_given(FINISH, FINISH + 1);
     CHECK_NUMBER(removed > 2000, true, "files removed: %zu", removed);
     CHECK_NUMBER(idle > 2000, true, "Finish with nothing to do: %zu", idle);

@@ -1,7 +1,8 @@
 /*
  * Packs as document 01 describes them, with nothing taken from the library: put together entry by entry, judged, and
  * each block's owner told. The judgement is for reading beside document 01, so it is plain before it is quick. The
- * measures are the header's, which pack.c holds to the numbers of document 01.
+ * measures are those of form.h, which pack.c holds to the numbers of document 01: of an image those of the form that it
+ * names, of a new pack those of the form that is tried.
  */
 #ifndef IMAGE_H
 #define IMAGE_H
@@ -11,14 +12,14 @@
 #include <stdint.h>
 #include <string.h>
 
-#include "abezolit.h"
+#include "../form.h"
 
-enum {
-    BLOCK = ABZ_BLOCK_BYTES, BLOCK_WORDS = BLOCK / 2, PAYLOAD = ABZ_PAYLOAD_BYTES, SEGMENTS = ABZ_BLOCK_SEGMENTS,
-    BLOCK_ENTRIES = ABZ_BLOCK_ENTRIES, ENTRY_WORDS = ABZ_ENTRY_BYTES / 2,
-    BLOCKS_MIN = ABZ_BLOCKS_LEAST, BLOCKS_MAX = ABZ_BLOCKS_MOST,
-    CONTENTS_MIN = ABZ_CONTENTS_LEAST, CONTENTS_MAX = ABZ_CONTENTS_MOST, UICS_MAX = ABZ_UICS_MOST
-};
+/* A test goes through the forms. */
+static const pack_form *tried = forms;
+
+#define EACH_FORM for (tried = forms; tried < forms + sizeof forms / sizeof *forms; tried++)
+
+enum { ENTRY_WORDS = ABZ_ENTRY_BYTES / 2 };
 
 /* The words of block 0, and those of an entry. */
 enum { FORM, BLOCKS, CONTENTS, UICS, UIC_LIST };
@@ -48,20 +49,35 @@ static inline void set_word(uint8_t *image, size_t word, size_t value)
     image[2 * word + 1] = (uint8_t)(value / 256 % 256);
 }
 
-/* Where in the image a word of an entry is. */
-static inline size_t entry_word(size_t entry, size_t word)
+/* Where in the image a word of an entry is, and the link of a block. */
+static inline size_t entry_word(const uint8_t *image, size_t entry, size_t word)
 {
-    return BLOCK_WORDS + ENTRY_WORDS * entry + word;
+    return form_of(image)->block / 2 + ENTRY_WORDS * entry + word;
+}
+
+static inline size_t link_word(const uint8_t *image, size_t block)
+{
+    return form_of(image)->block / 2 * block;
 }
 
 static inline size_t get_field(const uint8_t *image, size_t entry, size_t word)
 {
-    return get_word(image, entry_word(entry, word));
+    return get_word(image, entry_word(image, entry, word));
 }
 
 static inline void set_field(uint8_t *image, size_t entry, size_t word, size_t value)
 {
-    set_word(image, entry_word(entry, word), value);
+    set_word(image, entry_word(image, entry, word), value);
+}
+
+static inline size_t get_link(const uint8_t *image, size_t block)
+{
+    return get_word(image, link_word(image, block));
+}
+
+static inline void set_link(uint8_t *image, size_t block, size_t next)
+{
+    set_word(image, link_word(image, block), next);
 }
 
 /* ---- Names ---- */
@@ -115,7 +131,18 @@ static inline bool legal(file_key key)
 
 static inline size_t entry_count(const uint8_t *image)
 {
-    return BLOCK_ENTRIES * get_word(image, CONTENTS);
+    return form_of(image)->entries * get_word(image, CONTENTS);
+}
+
+/* Where the bodies begin: a block's number, and a byte of the image. */
+static inline size_t bodies_from(const uint8_t *image)
+{
+    return first_body(form_of(image), get_word(image, CONTENTS));
+}
+
+static inline size_t system_bytes(const uint8_t *image)
+{
+    return form_of(image)->block * bodies_from(image);
 }
 
 static inline bool used(const uint8_t *image, size_t entry)
@@ -154,7 +181,7 @@ static inline size_t block_at(const uint8_t *image, size_t entry, size_t place)
     if (get_field(image, entry, KIND) == CONTIGUOUS)
         return block + place;
     for (; place > 0; place--)
-        block = get_word(image, BLOCK_WORDS * block);
+        block = get_link(image, block);
     return block;
 }
 
@@ -170,14 +197,16 @@ static inline bool listed(const uint8_t *image, size_t uic)
 
 static inline bool header_right(const uint8_t *image, size_t length)
 {
-    if (length < BLOCK) /* n is more than 1; and this much must be there to be read */
+    const pack_form *form = length < 2 ? NULL : form_numbered(get_word(image, FORM));
+
+    if (!form || length < form->block) /* n is more than 1; and this much must be there to be read */
         return false;
 
     size_t n = get_word(image, BLOCKS), c = get_word(image, CONTENTS), u = get_word(image, UICS);
 
-    if (length != BLOCK * n || get_word(image, FORM) != ABZ_FORM || n < BLOCKS_MIN || n > BLOCKS_MAX)
+    if (length != form->block * n || n < form->blocks_least || n > form->blocks_most)
         return false;
-    if (c < CONTENTS_MIN || c > CONTENTS_MAX || u > UICS_MAX)
+    if (c < form->contents_least || c > form->contents_most || first_body(form, c) >= n || u > form->uics_most)
         return false;
     for (size_t i = 0; i < u; i++) {
         if (get_word(image, UIC_LIST + i) == 0)
@@ -186,7 +215,7 @@ static inline bool header_right(const uint8_t *image, size_t length)
             if (get_word(image, UIC_LIST + i) == get_word(image, UIC_LIST + j))
                 return false;
     }
-    for (size_t word = UIC_LIST + u; word < BLOCK_WORDS; word++)
+    for (size_t word = UIC_LIST + u; word < form->block / 2; word++)
         if (get_word(image, word) != 0)
             return false;
     return true;
@@ -222,7 +251,7 @@ static inline bool blocks_right(const uint8_t *image, size_t entry, block_owner 
         owners[block].entry = entry;
         owners[block].place = place;
         last = block;
-        block = contiguous ? block + 1 : get_word(image, BLOCK_WORDS * block);
+        block = contiguous ? block + 1 : get_link(image, block);
     }
     if (get_field(image, entry, LAST) != last) /* 0 at length 0 */
         return false;
@@ -230,13 +259,13 @@ static inline bool blocks_right(const uint8_t *image, size_t entry, block_owner 
 }
 
 /* Whether an image is consistent. If so, owners[b] says whose block b is, for every b below n. */
-static inline bool judge(const uint8_t *image, size_t length, block_owner owners[BLOCKS_MAX])
+static inline bool judge(const uint8_t *image, size_t length, block_owner owners[BLOCKS_MOST])
 {
     if (!header_right(image, length))
         return false;
 
     for (size_t block = 0; block < get_word(image, BLOCKS); block++) {
-        owners[block].kind = block <= get_word(image, CONTENTS) ? SYSTEM : FREE;
+        owners[block].kind = block < bodies_from(image) ? SYSTEM : FREE;
         owners[block].entry = owners[block].place = 0;
     }
     for (size_t entry = 0; entry < entry_count(image); entry++)
@@ -248,23 +277,28 @@ static inline bool judge(const uint8_t *image, size_t length, block_owner owners
 /* ---- Making packs, right ones and wrong ones: nothing is tested ---- */
 
 /* An empty pack; the bodies keep what they hold. Returns the length of the image. */
-static inline size_t make_pack(uint8_t *image, size_t n, size_t c, const size_t *uics, size_t u)
+static inline size_t make_form(const pack_form *form, uint8_t *image, size_t n, size_t c, const size_t *uics, size_t u)
 {
-    memset(image, 0, BLOCK * (1 + c));
-    set_word(image, FORM, 1);
+    memset(image, 0, form->block * first_body(form, c));
+    set_word(image, FORM, form->number);
     set_word(image, BLOCKS, n);
     set_word(image, CONTENTS, c);
     set_word(image, UICS, u);
     for (size_t i = 0; i < u; i++)
         set_word(image, UIC_LIST + i, uics[i]);
-    return BLOCK * n;
+    return form->block * n;
+}
+
+static inline size_t make_pack(uint8_t *image, size_t n, size_t c, const size_t *uics, size_t u)
+{
+    return make_form(tried, image, n, c, uics, u);
 }
 
 /* A closed file with protect code 0; what is to be otherwise is set afterwards. */
 static inline void put_file(uint8_t *image, size_t entry, file_key key, size_t kind, size_t first, size_t length,
                             size_t last)
 {
-    memset(image + 2 * entry_word(entry, 0), 0, 2 * ENTRY_WORDS);
+    memset(image + 2 * entry_word(image, entry, 0), 0, 2 * ENTRY_WORDS);
     set_field(image, entry, NAME1, key.name1);
     set_field(image, entry, NAME2, key.name2);
     set_field(image, entry, EXTENSION, key.extension);
@@ -284,13 +318,50 @@ static inline void put_linked(uint8_t *image, size_t entry, file_key key, const 
 {
     put_file(image, entry, key, LINKED, length ? blocks[0] : 0, length, length ? blocks[length - 1] : 0);
     for (size_t i = 0; i < length; i++)
-        set_word(image, BLOCK_WORDS * blocks[i], i + 1 < length ? blocks[i + 1] : 0);
+        set_link(image, blocks[i], i + 1 < length ? blocks[i + 1] : 0);
 }
 
 static inline void set_open(uint8_t *image, size_t entry, size_t writer, size_t readers)
 {
     set_field(image, entry, WRITER, writer);
     set_field(image, entry, READERS, readers);
+}
+
+/*
+ * ---- Packs laid out by hand ----
+ *
+ * They are written in the numbers of form 1. In another form such a pack has as many entries, or a few more, and as many
+ * bodies in the same order, but its contents and its bodies have other numbers.
+ */
+
+/* The blocks of contents, if form 1 has c. */
+static inline size_t contents_like(size_t c)
+{
+    return (forms->entries * c + tried->entries - 1) / tried->entries;
+}
+
+/* The number of a body, which in form 1 lies behind c blocks of contents; or how many blocks there are. */
+static inline size_t block_like(size_t c, size_t block)
+{
+    return block - first_body(forms, c) + first_body(tried, contents_like(c));
+}
+
+/* The same in the small pack: in form 1 it has 16 blocks, of which one is contents. */
+static inline size_t small(size_t block)
+{
+    return block_like(1, block);
+}
+
+enum { SMALL_ROOM = 24 * BLOCK_MOST };
+
+static inline size_t small_bytes(void)
+{
+    return tried->block * small(16);
+}
+
+static inline size_t make_small_pack(uint8_t *image, const size_t *uics, size_t u)
+{
+    return make_pack(image, small(16), contents_like(1), uics, u);
 }
 
 /* ---- Chance, the same in every run ---- */
@@ -323,19 +394,44 @@ static inline file_key chance_key(const uint8_t *image)
     return key_of(names[chance(16)], extensions[chance(6)], uic);
 }
 
+static inline void shuffle(size_t *blocks, size_t count)
+{
+    for (size_t i = count; i > 1; i--) {
+        size_t other = chance(i), block = blocks[other];
+        blocks[other] = blocks[i - 1];
+        blocks[i - 1] = block;
+    }
+}
+
+/* Gives the linked files, which have no block yet, some of the free ones; and every file a protect code and opens. */
+static inline void chance_fields(uint8_t *image, const size_t *free, size_t count)
+{
+    for (size_t entry = 0; entry < entry_count(image); entry++) {
+        bool linked = get_field(image, entry, KIND) == LINKED;
+        size_t length = chance(6), writer = chance(2) ? 0 : linked ? 2 + chance(2) : 1, most = writer ? 61 : 62;
+        if (!used(image, entry))
+            continue;
+        if (linked && length <= count)
+            put_linked(image, entry, entry_key(image, entry), free + (count -= length), length);
+        set_field(image, entry, PROTECT, chance(256));
+        set_open(image, entry, writer, chance(3) ? chance(3) : most - chance(2));
+    }
+}
+
 /*
- * A consistent pack with so many files, at most 16c, its bodies full of random bytes. Contiguous files lie behind one
- * another with gaps, and linked ones are scattered over all that remains. Returns the length of the image.
+ * A consistent pack with so many files, at most all of its entries, its bodies full of random bytes. Contiguous files lie
+ * behind one another with gaps, and linked ones are scattered over all that remains. Returns the length of the image.
  */
 static inline size_t chance_pack(uint8_t *image, size_t n, size_t c, size_t files)
 {
-    size_t uics[UICS_MAX], rest[BLOCKS_MAX], count = 0, next = c + 1, entries = BLOCK_ENTRIES * c;
+    const size_t entries = tried->entries * c, step = entries % 13 ? 13 : 11; /* which comes to every entry */
+    size_t uics[UICS_MOST], rest[BLOCKS_MOST], count = 0, next = first_body(tried, c);
 
-    chance_bytes(image, BLOCK * n);
+    chance_bytes(image, tried->block * n);
     uics[0] = 65535;
-    for (size_t i = 1; i < UICS_MAX; i++)
+    for (size_t i = 1; i < tried->uics_most; i++)
         uics[i] = 100 * i + chance(100);
-    make_pack(image, n, c, uics, 2 + chance(UICS_MAX - 1));
+    make_pack(image, n, c, uics, 2 + chance(tried->uics_most - 1));
 
     for (size_t entry = chance(entries); files > 0; files--) {
         size_t gap = chance(3), length = 1 + chance(5);
@@ -351,27 +447,13 @@ static inline size_t chance_pack(uint8_t *image, size_t n, size_t c, size_t file
         } else {
             put_linked(image, entry, key, NULL, 0);
         }
-        entry = (entry + 13) % entries; /* comes to every entry, since 13 and 16c have no factor in common */
+        entry = (entry + step) % entries;
     }
     for (; next < n; next++)
         rest[count++] = next;
-    for (size_t i = count; i > 1; i--) {
-        size_t other = chance(i), block = rest[other];
-        rest[other] = rest[i - 1];
-        rest[i - 1] = block;
-    }
-
-    for (size_t entry = 0; entry < entries; entry++) {
-        bool linked = get_field(image, entry, KIND) == LINKED;
-        size_t length = chance(6), writer = chance(2) ? 0 : linked ? 2 + chance(2) : 1, most = writer ? 61 : 62;
-        if (!used(image, entry))
-            continue;
-        if (linked && length <= count)
-            put_linked(image, entry, entry_key(image, entry), rest + (count -= length), length);
-        set_field(image, entry, PROTECT, chance(256));
-        set_open(image, entry, writer, chance(3) ? chance(3) : most - chance(2));
-    }
-    return BLOCK * n;
+    shuffle(rest, count);
+    chance_fields(image, rest, count);
+    return tried->block * n;
 }
 
 #endif

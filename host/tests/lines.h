@@ -10,7 +10,7 @@
 enum { NORMAL, SPECIAL, MODES };
 enum { NUL = 0, TAB = 011, LF = 012, VT = 013, FF = 014, RUBOUT = 0177 };
 enum { LINE_READ, LINE_WRITE, LINE_END, CALLS };
-enum { INVALID = 1, ENDED = 64, STATUSES = 66, TEXT_ROOM = 16 * PAYLOAD };
+enum { INVALID = 1, ENDED = 64, STATUSES = 66, TEXT_ROOM = 16 * PAYLOAD_MOST };
 
 static const char *const call_names[CALLS] = { "line read", "line write", "line end" };
 
@@ -35,7 +35,9 @@ static inline bool terminates(uint8_t character)
 /* Where in the image a byte of "the file's payloads, joined" is. */
 static inline uint8_t *text_byte(uint8_t *pack, file it, size_t position)
 {
-    return body(pack, it, position / PAYLOAD) + 2 + position % PAYLOAD;
+    const size_t payload = form_of(pack)->payload;
+
+    return body(pack, it, position / payload) + 2 + position % payload;
 }
 
 /*
@@ -49,7 +51,7 @@ static inline line_answer model_read(uint8_t *pack, uint8_t *bytes, const line_c
     const file one = file_of(pack, meant(it->file, it->caller));
     line_answer answer = { 0, 0, 0, it->position };
 
-    while (answer.next < PAYLOAD * one.length) {
+    while (answer.next < form_of(pack)->payload * one.length) {
         const uint8_t character = *text_byte(pack, one, answer.next++) & 0177;
         if (character == NUL || character == RUBOUT)
             continue;
@@ -81,13 +83,13 @@ static inline size_t taken(const uint8_t *text, const line_call *it)
  * The bytes that a write or the end lays: "It puts one RUBOUT after TAB and one NUL after FORM FEED"; "an ending call
  * fills the last with NUL, or adds none at 0". Returns how many they are.
  */
-static inline size_t laid_bytes(uint8_t *laid, const uint8_t *text, const line_call *it)
+static inline size_t laid_bytes(uint8_t *laid, const uint8_t *text, size_t payload, const line_call *it)
 {
     size_t size = 0;
 
     if (it->what == LINE_END) {
-        if (it->filled > 0 && it->filled < PAYLOAD)
-            size = PAYLOAD - it->filled;
+        if (it->filled > 0 && it->filled < payload)
+            size = payload - it->filled;
         memset(laid, NUL, size);
         return size;
     }
@@ -101,16 +103,17 @@ static inline size_t laid_bytes(uint8_t *laid, const uint8_t *text, const line_c
     return size;
 }
 
-/* "Writing gathers a block's payload in a lent 510-byte buffer ... and adds full blocks". Returns the filled count. */
+/* "Writing gathers a block's payload in a lent ... buffer ... and adds full blocks". Returns the filled count. */
 static inline size_t lay(uint8_t *pack, size_t length, uint8_t *gather, const uint8_t *laid, size_t size,
                          const line_call *it)
 {
-    const request add = { .what = LINKED_ADD, .caller = it->caller, .file = it->file, .buffer_len = PAYLOAD };
+    const size_t payload = form_of(pack)->payload;
+    const request add = { .what = LINKED_ADD, .caller = it->caller, .file = it->file, .buffer_len = payload };
     size_t filled = it->filled;
 
     for (size_t i = 0; i < size; i++) {
         gather[filled++] = laid[i];
-        if (filled == PAYLOAD) {
+        if (filled == payload) {
             model(pack, length, gather, &add);
             filled = 0;
         }
@@ -119,13 +122,13 @@ static inline size_t lay(uint8_t *pack, size_t length, uint8_t *gather, const ui
 }
 
 /*
- * "Refusals: those of linked read and add; 41 also for a maximum count of 0 or a filled count over 509; 44 for a
- * position beyond the payloads." And: "A write whose full blocks have no room is refused whole." size is how many bytes
- * are laid.
+ * "Refusals: those of linked read and add; 41 also for a maximum count of 0 or a filled count" of a payload or more; "44
+ * for a position beyond the payloads." And: "A write whose full blocks have no room is refused whole." size is how many
+ * bytes are laid.
  */
 static inline size_t refusal(const uint8_t *pack, size_t length, size_t size, const line_call *it)
 {
-    static block_owner owners[BLOCKS_MAX];
+    static block_owner owners[BLOCKS_MOST];
     bool cause[CODES] = { false };
     size_t room = 0;
 
@@ -136,7 +139,7 @@ static inline size_t refusal(const uint8_t *pack, size_t length, size_t size, co
 
     const file_key key = meant(it->file, it->caller);
     const file one = file_of(pack, key);
-    const size_t may = rights(it->caller, one);
+    const size_t may = rights(it->caller, one), payload = form_of(pack)->payload;
 
     cause[015] = !legal(key);
     cause[2] = !one.there;
@@ -145,12 +148,13 @@ static inline size_t refusal(const uint8_t *pack, size_t length, size_t size, co
         cause[041] = it->mode >= MODES || it->buffer_len == 0;
         cause[6] = may < MAY_READ;
         cause[045] = one.readers == 0;
-        cause[044] = it->position > PAYLOAD * one.length;
+        cause[044] = it->position > payload * one.length;
     } else {
-        cause[041] = it->buffer_len != PAYLOAD || it->filled > 509 || (it->what == LINE_WRITE && it->mode >= MODES);
+        cause[041] = it->buffer_len != payload || it->filled >= payload
+                     || (it->what == LINE_WRITE && it->mode >= MODES);
         cause[6] = may < MAY_WRITE;
         cause[045] = one.writer != 2 && one.writer != 3;
-        cause[042] = (it->filled + size) / PAYLOAD > room;
+        cause[042] = (it->filled + size) / payload > room;
     }
     for (size_t i = 0; i < COUNT(table); i++)
         if (cause[table[i]])
@@ -163,7 +167,8 @@ static inline line_answer model_line(uint8_t *pack, size_t length, const uint8_t
                                      const line_call *it)
 {
     static uint8_t laid[2 * TEXT_ROOM];
-    const size_t size = it->what == LINE_READ ? 0 : laid_bytes(laid, text, it);
+    const size_t payload = length < 2 ? 0 : form_of(pack)->payload;
+    const size_t size = it->what == LINE_READ ? 0 : laid_bytes(laid, text, payload, it);
     line_answer answer = { 0 };
 
     answer.code = refusal(pack, length, size, it);
@@ -214,7 +219,7 @@ static size_t codes_given[CALLS][CODES], statuses_given[CALLS][MODES][STATUSES];
  */
 static inline line_answer go_on(const char *name, size_t number, size_t length, line_call it)
 {
-    static block_owner owners[BLOCKS_MAX];
+    static block_owner owners[BLOCKS_MOST];
     const size_t all = GUARD + length + GUARD, all_buffer = GUARD + it.buffer_len + GUARD;
     const size_t all_text = GUARD + it.text_len + GUARD;
 
@@ -265,7 +270,7 @@ static inline line_call call_on(const uint8_t *pack, size_t what, size_t entry, 
 {
     line_call it = { .what = what, .caller = ME, .file = entry_key(pack, entry), .mode = mode };
 
-    it.buffer_len = PAYLOAD;
+    it.buffer_len = form_of(pack)->payload;
     return it;
 }
 

@@ -1,19 +1,18 @@
-/* The listing program, run on packs that are built here word by word, against texts that are written out. */
+/* The listing program, run on packs of form 1 that are built here word by word, against texts that are written out. */
 #define _POSIX_C_SOURCE 200809L
 
 #include <string.h>
 
-#include "abezolit.h"
+#include "../form.h"
 #include "check.h"
 #include "listing.h"
 
+static const pack_form *const form = forms;
+
 enum {
-    BLOCK = ABZ_BLOCK_BYTES,
-    WORDS = BLOCK / 2,
     ENTRY = ABZ_ENTRY_BYTES / 2, /* words */
-    FILES = ABZ_CONTENTS_MOST * ABZ_BLOCK_ENTRIES, /* the most that a pack has */
     LONGEST = 65536,
-    ROOM = LONGEST + 3 * BLOCK
+    ROOM = LONGEST + 3 * BLOCK_MOST
 };
 
 #define REFUSED "REFUSED 40\n"
@@ -37,10 +36,12 @@ static size_t uic(size_t group, size_t user)
 /* Every byte of a body is set, since none is to be looked at but the links of linked files. */
 static void format(size_t blocks, size_t contents, size_t uics, const size_t *list)
 {
-    length = blocks * BLOCK;
-    memset(image, 0, (contents + 1) * BLOCK);
-    memset(image + (contents + 1) * BLOCK, 0xA5, length - (contents + 1) * BLOCK);
-    set_word(0, 1);
+    const size_t bodies = form->block * first_body(form, contents);
+
+    length = form->block * blocks;
+    memset(image, 0, bodies);
+    memset(image + bodies, 0xA5, length - bodies);
+    set_word(0, form->number);
     set_word(1, blocks);
     set_word(2, contents);
     set_word(3, uics);
@@ -58,10 +59,21 @@ static size_t radix(const char *characters)
     return word;
 }
 
+/* Where the words of an entry begin, and those of a block, of which the first is a link. */
+static size_t entry_at(size_t e)
+{
+    return form->block / 2 + e * ENTRY;
+}
+
+static size_t link_at(size_t block)
+{
+    return form->block / 2 * block;
+}
+
 /* A name is nine characters: six, and three of the extension. */
 static void set_entry(size_t e, const char *name, size_t owner, size_t protect, size_t kind, size_t first, size_t count, size_t last)
 {
-    size_t at = WORDS + e * ENTRY;
+    const size_t at = entry_at(e);
 
     for (size_t i = 0; i < 3; i++)
         set_word(at + i, radix(name + 3 * i));
@@ -75,8 +87,8 @@ static void set_entry(size_t e, const char *name, size_t owner, size_t protect, 
 
 static void set_opens(size_t e, size_t writer, size_t readers)
 {
-    set_word(WORDS + e * ENTRY + 9, writer);
-    set_word(WORDS + e * ENTRY + 10, readers);
+    set_word(entry_at(e) + 9, writer);
+    set_word(entry_at(e) + 10, readers);
 }
 
 static void set_contiguous(size_t e, const char *name, size_t owner, size_t protect, size_t first, size_t count)
@@ -90,7 +102,7 @@ static void set_linked(size_t e, const char *name, size_t owner, size_t protect,
     size_t count = 0;
 
     for (; blocks[count]; count++)
-        set_word(blocks[count] * WORDS, blocks[count + 1]);
+        set_word(link_at(blocks[count]), blocks[count + 1]);
     set_entry(e, name, owner, protect, 2, blocks[0], count, count ? blocks[count - 1] : 0);
 }
 
@@ -154,7 +166,7 @@ static void mixed(void)
 /* One word of the mixed pack changed, each time another rule broken. */
 static void damaged(void)
 {
-    static const struct {
+    const struct {
         const char *rule;
         size_t at, word;
     } changes[] = {
@@ -163,27 +175,27 @@ static void damaged(void)
         { "no contents", 2, 0 },
         { "a UIC twice", 5, 0177777 },
         { "a UIC 0", 6, 0 },
-        { "rest of block 0", WORDS - 1, 1 },
-        { "a name with a code of no character", WORDS + 1 * ENTRY, 29 },
-        { "a name that begins with a blank", WORDS + 1 * ENTRY, 1 },
-        { "an extension with a period", WORDS + 4 * ENTRY + 2, 28 },
-        { "a UIC that is not listed", WORDS + 4 * ENTRY + 3, 0401 },
-        { "protect code", WORDS + 4 * ENTRY + 4, 256 },
-        { "kind", WORDS + 4 * ENTRY + 5, 3 },
-        { "a linked file as a contiguous one", WORDS + 1 * ENTRY + 5, 1 },
-        { "first block in the contents", WORDS + 31 * ENTRY + 6, 2 },
-        { "length", WORDS + 4 * ENTRY + 7, 3 },
-        { "last block", WORDS + 1 * ENTRY + 8, 3 },
-        { "writer", WORDS + 1 * ENTRY + 9, 1 },
-        { "62 readers and a writer", WORDS + 1 * ENTRY + 10, 62 },
-        { "word 15 of an entry", WORDS + 31 * ENTRY + 15, 1 },
-        { "an entry that is not all zero", WORDS + 2 * ENTRY + 4, 1 },
-        { "a chain that loops", 7 * WORDS, 19 },
-        { "a chain that leaves the pack", 3 * WORDS, 20 },
-        { "a chain that is too short", 3 * WORDS, 0 },
-        { "a chain that is too long", 7 * WORDS, 8 },
-        { "a chain into another file", 3 * WORDS, 4 },
-        { "two files of one name, extension and UIC", WORDS + 31 * ENTRY + 3, 0400 },
+        { "rest of block 0", entry_at(0) - 1, 1 },
+        { "a name with a code of no character", entry_at(1), 29 },
+        { "a name that begins with a blank", entry_at(1), 1 },
+        { "an extension with a period", entry_at(4) + 2, 28 },
+        { "a UIC that is not listed", entry_at(4) + 3, 0401 },
+        { "protect code", entry_at(4) + 4, 256 },
+        { "kind", entry_at(4) + 5, 3 },
+        { "a linked file as a contiguous one", entry_at(1) + 5, 1 },
+        { "first block in the contents", entry_at(31) + 6, 2 },
+        { "length", entry_at(4) + 7, 3 },
+        { "last block", entry_at(1) + 8, 3 },
+        { "writer", entry_at(1) + 9, 1 },
+        { "62 readers and a writer", entry_at(1) + 10, 62 },
+        { "word 15 of an entry", entry_at(31) + 15, 1 },
+        { "an entry that is not all zero", entry_at(2) + 4, 1 },
+        { "a chain that loops", link_at(7), 19 },
+        { "a chain that leaves the pack", link_at(3), 20 },
+        { "a chain that is too short", link_at(3), 0 },
+        { "a chain that is too long", link_at(7), 8 },
+        { "a chain into another file", link_at(3), 4 },
+        { "two files of one name, extension and UIC", entry_at(31) + 3, 0400 },
     };
 
     for (size_t i = 0; i < sizeof changes / sizeof *changes; i++) {
@@ -196,7 +208,9 @@ static void damaged(void)
 /* Nothing at all, parts of a pack, and bytes behind it. */
 static void other_lengths(void)
 {
-    static const size_t lengths[] = { 0, 1, 2, 3, 7, 8, 9, 511, 512, 513, 1023, 1024, 2048, 8190, 8191, 8193, 8704, LONGEST };
+    const size_t block = form->block, whole = 16 * block;
+    const size_t lengths[] = { 0, 1, 2, 3, 7, 8, 9, block - 1, block, block + 1, 2 * block - 1, 2 * block, 4 * block,
+                               whole - 2, whole - 1, whole + 1, whole + block, LONGEST };
 
     for (size_t i = 0; i < sizeof lengths / sizeof *lengths; i++) {
         char name[64];
@@ -210,19 +224,21 @@ static void other_lengths(void)
 }
 
 /*
- * Each entry of the most blocks of contents has a file, so that the text is as long as it can be. Of the blocks those
- * below FILES are taken.
+ * Each entry of the most blocks of contents has a file, so that the text is as long as it can be. Of the blocks as many
+ * are taken, from 0 on.
  */
 static void build_largest(size_t blocks, char *text)
 {
-    format(blocks, ABZ_CONTENTS_MOST, 1, (size_t[]){ uic(2, 3) });
-    text += sprintf(text, "BLOCKS %05zu FREE %05zu\n", blocks, blocks - FILES);
-    for (size_t e = 0; e < FILES; e++) {
+    const size_t files = form->entries * form->contents_most, held = files - first_body(form, form->contents_most);
+
+    format(blocks, form->contents_most, 1, (size_t[]){ uic(2, 3) });
+    text += sprintf(text, "BLOCKS %05zu FREE %05zu\n", blocks, blocks - files);
+    for (size_t e = 0; e < files; e++) {
         char name[16];
 
         sprintf(name, "N%05zuEXT", e);
-        if (e < FILES - (1 + ABZ_CONTENTS_MOST)) {
-            set_contiguous(e, name, uic(2, 3), 0, FILES - 1 - e, 1);
+        if (e < held) {
+            set_contiguous(e, name, uic(2, 3), 0, files - 1 - e, 1);
             text += sprintf(text, "%.6s.EXT C 00001 [002,003] 000\n", name);
         } else {
             set_linked(e, name, uic(2, 3), 0, (size_t[]){ 0 });
@@ -236,10 +252,11 @@ static void largest(void)
 {
     static const char parts[] = "(head -c 1 " LISTED "; sleep 0.1; tail -c +2 " LISTED ") 2>/dev/null | " LISTING;
     static char text[LISTING_ROOM];
+    const size_t blocks = LONGEST / form->block;
 
-    build_largest(128, text);
+    build_largest(blocks, text);
     CHECK_NUMBER(length, LONGEST, "largest: length");
-    CHECK_NUMBER(strlen(text), 24 + 128 * 33, "largest: length of the text");
+    CHECK_NUMBER(strlen(text), 24 + form->entries * form->contents_most * 33, "largest: length of the text");
     try_image(text, "largest");
     try_command(parts, text, "largest, from a pipe");
 
@@ -247,9 +264,9 @@ static void largest(void)
     try_image(REFUSED, "largest and a byte more");
     try_command(parts, REFUSED, "largest and a byte more, from a pipe");
 
-    build_largest(129, text);
-    try_image(REFUSED, "a consistent pack of 129 blocks");
-    try_command(parts, REFUSED, "a consistent pack of 129 blocks, from a pipe");
+    build_largest(blocks + 1, text);
+    try_image(REFUSED, "a consistent pack of a block more");
+    try_command(parts, REFUSED, "a consistent pack of a block more, from a pipe");
     try_command("cat " LISTED " " LISTED " " LISTED " 2>/dev/null | " LISTING, REFUSED, "three packs");
 }
 

@@ -6,7 +6,7 @@
 
 enum {
     GUARD = 16,
-    ROOM = BLOCK * (BLOCKS_MAX + 8),
+    ROOM = IMAGE_MOST + 8 * BLOCK_MOST,
     UICS_ROOM = 2 * (65536 + 66), /* so that the count of UICs can be wrong in its high bits alone */
     ME = 023 * 256 + 010,
     OTHER = 012 * 256 + 04
@@ -17,9 +17,9 @@ enum {
 /* Among them numbers that are in order in their low 16 or 32 bits, or when multiplied by a measure of the pack. */
 static const size_t huge[] = {
     65535, 65536, 65537, 65536 + 16, UINT32_MAX, (size_t)UINT32_MAX + 1, (size_t)UINT32_MAX + 2,
-    (size_t)UINT32_MAX + 17, SIZE_MAX / BLOCK, SIZE_MAX / BLOCK + 1, SIZE_MAX / BLOCK + 2, SIZE_MAX / BLOCK + 17,
-    SIZE_MAX / ABZ_ENTRY_BYTES + 1, SIZE_MAX / ABZ_ENTRY_BYTES + 17, SIZE_MAX / 2, SIZE_MAX / 2 + 1, SIZE_MAX - 1,
-    SIZE_MAX
+    (size_t)UINT32_MAX + 17, SIZE_MAX / BLOCK_MOST, SIZE_MAX / BLOCK_MOST + 1, SIZE_MAX / BLOCK_MOST + 2,
+    SIZE_MAX / BLOCK_MOST + 17, SIZE_MAX / ABZ_ENTRY_BYTES + 1, SIZE_MAX / ABZ_ENTRY_BYTES + 17, SIZE_MAX / 2,
+    SIZE_MAX / 2 + 1, SIZE_MAX - 1, SIZE_MAX
 };
 
 /* A lent slice has guards on both sides and is compared with them. What to expect is told from the kept copy. */
@@ -157,7 +157,7 @@ static bool try_verdict(size_t length, block_owner *owners)
 /* All that can be asked of an image. */
 static bool try_image(size_t length)
 {
-    static block_owner owners[BLOCKS_MAX];
+    static block_owner owners[BLOCKS_MOST];
 
     if (!try_verdict(length, owners))
         return false;
@@ -176,7 +176,7 @@ static bool try_image(size_t length)
 /* The same two where the verdict is known beforehand, so that the judgement is tested as well. */
 static void expect_verdict(size_t length, bool consistent)
 {
-    static block_owner owners[BLOCKS_MAX];
+    static block_owner owners[BLOCKS_MOST];
 
     CHECK_NUMBER(try_verdict(length, owners), consistent, CASE "judged consistent", CASE_ARGUMENTS);
 }
@@ -188,13 +188,15 @@ static void expect_image(size_t length, bool consistent)
 
 /* ---- Format ---- */
 
-static bool format_right(size_t length, size_t form, size_t blocks, size_t contents, size_t uics_len)
+static bool format_right(size_t length, const pack_form *form, size_t blocks, size_t contents, size_t uics_len)
 {
     size_t u = uics_len / 2;
 
-    if (form != ABZ_FORM || blocks < BLOCKS_MIN || blocks > BLOCKS_MAX || length != BLOCK * blocks)
+    if (!form || blocks < form->blocks_least || blocks > form->blocks_most || length != form->block * blocks)
         return false;
-    if (contents < CONTENTS_MIN || contents > CONTENTS_MAX || uics_len % 2 == 1 || u > UICS_MAX)
+    if (contents < form->contents_least || contents > form->contents_most || first_body(form, contents) >= blocks)
+        return false;
+    if (uics_len % 2 == 1 || u > form->uics_most)
         return false;
     for (size_t i = 0; i < u; i++) {
         if (get_word(uics, i) == 0)
@@ -209,16 +211,17 @@ static bool format_right(size_t length, size_t form, size_t blocks, size_t conte
 /* The UICs are those in the lent slice. Returns whether there is a pack now. */
 static bool try_format(size_t length, size_t form, size_t blocks, size_t contents, size_t uics_len)
 {
-    bool right = format_right(length, form, blocks, contents, uics_len);
+    const pack_form *const chosen = form_numbered(form);
+    bool right = format_right(length, chosen, blocks, contents, uics_len);
 
     memcpy(lent, filling, GUARD + length + GUARD);
     memcpy(kept, filling, GUARD + length + GUARD);
     memcpy(kept_uics, lent_uics, GUARD + uics_len + GUARD);
     if (right) {
-        size_t list[UICS_MAX];
+        size_t list[UICS_MOST];
         for (size_t i = 0; i < uics_len / 2; i++)
             list[i] = get_word(uics, i);
-        make_pack(before, blocks, contents, list, uics_len / 2);
+        make_form(chosen, before, blocks, contents, list, uics_len / 2);
     }
 
     size_t code = abz_format(image, length, form, blocks, contents, uics, uics_len);
@@ -234,93 +237,104 @@ static bool try_format(size_t length, size_t form, size_t blocks, size_t content
     return right;
 }
 
+/* Of 16 blocks, with one of contents. */
+static bool format_small(size_t uics_len)
+{
+    return try_format(tried->block * 16, tried->number, 16, 1, uics_len);
+}
+
 static void fill_uics(size_t count)
 {
     for (size_t i = 0; i < count; i++)
         set_word(uics, i, 65535 - 1021 * i); /* distinct up to 65536 of them; 0 is none of the first 66 */
 }
 
-/* After Format: a consistent pack, of which all above c is free. */
+/* After Format: a consistent pack, of which all behind the contents is free. */
 static void try_formatted(size_t length, size_t contents)
 {
-    static block_owner owners[BLOCKS_MAX];
+    static block_owner owners[BLOCKS_MOST];
+    const size_t blocks = length / tried->block;
 
     call_it("formatted with contents", contents);
     CHECK_NUMBER(try_verdict(length, owners), true, CASE "judged consistent", CASE_ARGUMENTS);
-    for (size_t block = 0; block < length / BLOCK; block++) {
-        CHECK_NUMBER(owners[block].kind, block <= contents ? SYSTEM : FREE, CASE "block %zu", CASE_ARGUMENTS, block);
+    for (size_t block = 0; block < blocks; block++) {
+        CHECK_NUMBER(owners[block].kind, block < first_body(tried, contents) ? SYSTEM : FREE, CASE "block %zu",
+                     CASE_ARGUMENTS, block);
         try_owner(length, owners, block);
     }
-    try_owner(length, owners, length / BLOCK);
+    try_owner(length, owners, blocks);
 }
 
 static void format_sizes(void)
 {
-    fill_uics(66);
-    for (size_t n = 0; n <= 1030; n++) {
-        size_t contents = 1 + n % CONTENTS_MAX, uics_len = 2 * (n % (UICS_MAX + 1)), right = BLOCK * n;
-        size_t wrong[] = { 0, n, right - 1, right + 1, right - BLOCK, right + BLOCK, right / 2, right % 65536 };
+    const size_t block = tried->block, form = tried->number;
 
-        if (try_format(right, 1, n, contents, uics_len))
+    fill_uics(66);
+    for (size_t n = 0; n <= tried->blocks_most + 6; n++) {
+        size_t contents = 1 + n % tried->contents_most, uics_len = 2 * (n % (tried->uics_most + 1)), right = block * n;
+        size_t wrong[] = { 0, n, right - 1, right + 1, right - block, right + block, right / 2, right % 65536 };
+
+        if (try_format(right, form, n, contents, uics_len))
             try_formatted(right, contents);
         for (size_t i = 0; i < COUNT(wrong); i++)
             if (wrong[i] <= ROOM) /* and so not below 0 */
-                try_format(wrong[i], 1, n, contents, uics_len);
+                try_format(wrong[i], form, n, contents, uics_len);
     }
 }
 
 static void format_counts(void)
 {
-    static const size_t sizes[] = { BLOCKS_MIN - 1, BLOCKS_MIN, BLOCKS_MIN + 1, 100, BLOCKS_MAX, BLOCKS_MAX + 1 };
+    const size_t least = tried->blocks_least, most = tried->blocks_most;
+    const size_t sizes[] = { least - 1, least, least + 1, 100, most, most + 1 };
 
     fill_uics(66);
-    for (size_t contents = 0; contents <= 10; contents++)
+    for (size_t contents = 0; contents <= tried->contents_most + 2; contents++)
         for (size_t uics_len = 0; uics_len <= 2 * 66; uics_len++)
-            if (try_format(BLOCK * 16, 1, 16, contents, uics_len))
-                try_formatted(BLOCK * 16, contents);
+            if (try_format(tried->block * 16, tried->number, 16, contents, uics_len))
+                try_formatted(tried->block * 16, contents);
     for (size_t i = 0; i < COUNT(sizes); i++)
-        for (size_t contents = 0; contents <= 10; contents++)
+        for (size_t contents = 0; contents <= tried->contents_most + 2; contents++)
             for (size_t form = 0; form <= 4; form++)
-                try_format(BLOCK * sizes[i], form, sizes[i], contents, 2);
+                try_format(tried->block * sizes[i], form, sizes[i], contents, 2);
 
     /* Right in the low 16 bits of their count. */
     fill_uics(UICS_ROOM / 2);
     for (size_t u = 0; u <= 66; u++)
-        try_format(BLOCK * 16, 1, 16, 1, 2 * (65536 + u));
+        format_small(2 * (65536 + u));
 }
 
 static void format_uics(void)
 {
     static const size_t near[] = { 1, 2, 0x0100, 0x0101, 0x0201, 0x0102, 0x7FFF, 0x8000, 0xFF00, 0x00FF, 0xFFFF };
 
-    for (size_t u = 1; u <= UICS_MAX; u += 21)
+    for (size_t u = 1; u <= tried->uics_most; u += 21)
         for (size_t i = 0; i < u; i++) {
             fill_uics(u);
             set_word(uics, i, 0);
-            try_format(BLOCK * 16, 1, 16, 1, 2 * u);
+            format_small(2 * u);
             for (size_t j = 0; j < i; j++) {
                 set_word(uics, i, get_word(uics, j));
-                try_format(BLOCK * 16, 1, 16, 1, 2 * u);
+                format_small(2 * u);
             }
         }
 
     /* Alike in one byte, or in both but the other way round: distinct all the same. */
     for (size_t i = 0; i < COUNT(near); i++)
         set_word(uics, i, near[i]);
-    CHECK_NUMBER(try_format(BLOCK * 16, 1, 16, 1, 2 * COUNT(near)), true, "format with UICs that are alike in a byte");
+    CHECK_NUMBER(format_small(2 * COUNT(near)), true, "format with UICs that are alike in a byte");
 
     /* What lies behind the list does not matter, whether it is 0 or a UIC again. */
-    for (size_t u = 0; u < UICS_MAX; u++) {
-        fill_uics(UICS_MAX);
+    for (size_t u = 0; u < tried->uics_most; u++) {
+        fill_uics(tried->uics_most);
         set_word(uics, u, u ? get_word(uics, 0) : 0);
-        CHECK_NUMBER(try_format(BLOCK * 16, 1, 16, 1, 2 * u), true, "format with a wrong UIC behind %zu", u);
+        CHECK_NUMBER(format_small(2 * u), true, "format with a wrong UIC behind %zu", u);
     }
 }
 
 /* One, two or all three numbers. */
 static void format_huge(void)
 {
-    static const size_t lengths[] = { 0, 16, BLOCK, BLOCK * 16 };
+    const size_t lengths[] = { 0, 16, tried->block, tried->block * 16 }, form = tried->number;
     const size_t end = COUNT(huge);
 
     fill_uics(2);
@@ -328,7 +342,7 @@ static void format_huge(void)
         for (size_t b = 0; b <= end; b++)
             for (size_t c = 0; c <= end; c++)
                 for (size_t i = 0; i < COUNT(lengths); i++)
-                    try_format(lengths[i], f < end ? huge[f] : 1, b < end ? huge[b] : 16, c < end ? huge[c] : 1, 4);
+                    try_format(lengths[i], f < end ? huge[f] : form, b < end ? huge[b] : 16, c < end ? huge[c] : 1, 4);
 }
 
 /* ---- Images ---- */
@@ -336,11 +350,12 @@ static void format_huge(void)
 /* A file of each sort, and room left. The tables of known changes and files count on what is where. */
 static size_t make_small(void)
 {
-    static const size_t users[] = { ME, OTHER }, three[] = { 9, 7, 12 }, one[] = { 6 };
+    static const size_t users[] = { ME, OTHER };
+    const size_t three[] = { small(9), small(7), small(12) }, one[] = { small(6) };
 
-    memset(image, 0xFF, BLOCK * 16);
-    size_t length = make_pack(image, 16, 1, users, 2);
-    put_contiguous(image, 0, key_of("A     ", "DAT", ME), 2, 3);
+    memset(image, 0xFF, small_bytes());
+    size_t length = make_small_pack(image, users, 2);
+    put_contiguous(image, 0, key_of("A     ", "DAT", ME), small(2), 3);
     set_open(image, 0, 1, 61);
     put_linked(image, 1, key_of("B     ", "DAT", ME), three, 3);
     set_open(image, 1, 0, 62);
@@ -348,25 +363,26 @@ static size_t make_small(void)
     set_open(image, 2, 2, 0);
     put_linked(image, 4, key_of("A     ", "DAT", OTHER), one, 1);
     set_open(image, 4, 3, 5);
-    put_contiguous(image, 15, key_of("999999", "999", OTHER), 15, 1);
+    put_contiguous(image, 15, key_of("999999", "999", OTHER), small(15), 1);
     set_field(image, 15, PROTECT, 0377);
     return length;
 }
 
-/* Document 01's example, written out. */
+/* Document 01's example, which is of form 1, written out. */
 static void example(void)
 {
     static const uint8_t header[] = { 1, 0, 16, 0, 1, 0, 1, 0, 010, 023, 0 };
     static const uint8_t entry[32] = { 0125, 050, 0100, 0152, 074, 031, 010, 023, 3, 0, 1, 0, 13, 0, 3, 0, 15, 0 };
     static const uint8_t me[] = { 010, 023 };
+    const size_t length = tried->block * 16;
 
     call_it("example", 0);
-    CHECK_NUMBER(abz_format(image, BLOCK * 16, 1, 16, 1, me, sizeof me), ABZ_OK, "example: format");
+    CHECK_NUMBER(abz_format(image, length, 1, 16, 1, me, sizeof me), ABZ_OK, "example: format");
     CHECK_BYTES(image, header, sizeof header, "example: header");
-    memcpy(image + BLOCK, entry, sizeof entry);
-    expect_image(BLOCK * 16, true);
+    memcpy(image + tried->block, entry, sizeof entry);
+    expect_image(length, true);
 
-    abz_look_answer look = abz_look(image, BLOCK * 16, ME, 10325, 27200, 6460, 0);
+    abz_look_answer look = abz_look(image, length, ME, 10325, 27200, 6460, 0);
     CHECK_NUMBER(look.code, 0, "example: code");
     CHECK_NUMBER(look.kind, 1, "example: kind");
     CHECK_NUMBER(look.first, 13, "example: first");
@@ -374,25 +390,27 @@ static void example(void)
     CHECK_NUMBER(look.protect, 3, "example: protect");
     CHECK_NUMBER(look.writer, 0, "example: writer");
     CHECK_NUMBER(look.readers, 0, "example: readers");
-    CHECK_NUMBER(abz_look(image, BLOCK * 16, OTHER, 10325, 27200, 6460, 0).code, 02, "example: another's");
-    CHECK_NUMBER(abz_look(image, BLOCK * 16, OTHER, 64000, 27200, 6460, 0).code, 015, "example: a bad name");
-    CHECK_NUMBER(abz_look(image, BLOCK * 16 - 1, OTHER, 64000, 27200, 6460, 0).code, 040, "example: cut short");
+    CHECK_NUMBER(abz_look(image, length, OTHER, 10325, 27200, 6460, 0).code, 02, "example: another's");
+    CHECK_NUMBER(abz_look(image, length, OTHER, 64000, 27200, 6460, 0).code, 015, "example: a bad name");
+    CHECK_NUMBER(abz_look(image, length - 1, OTHER, 64000, 27200, 6460, 0).code, 040, "example: cut short");
 
     for (size_t block = 0; block < 16; block++) {
-        abz_owner_answer owner = abz_owner(image, BLOCK * 16, block);
+        abz_owner_answer owner = abz_owner(image, length, block);
         CHECK_NUMBER(owner.code, 0, "example: owner of %zu", block);
         CHECK_NUMBER(owner.kind, block < 2 ? 0 : block < 13 ? 1 : 2, "example: owner of %zu, kind", block);
         CHECK_NUMBER(owner.entry, 0, "example: owner of %zu, entry", block);
         CHECK_NUMBER(owner.place, block < 13 ? 0 : block - 13, "example: owner of %zu, place", block);
     }
-    CHECK_NUMBER(abz_owner(image, BLOCK * 16, 16).code, 044, "example: owner of 16");
-    CHECK_NUMBER(abz_owner(image, BLOCK * 16 - 1, 16).code, 040, "example: owner of 16, cut short");
+    CHECK_NUMBER(abz_owner(image, length, 16).code, 044, "example: owner of 16");
+    CHECK_NUMBER(abz_owner(image, length - 1, 16).code, 040, "example: owner of 16, cut short");
 }
 
 /* No pack is so short; what makes it one may still stand behind it in memory. */
 static void short_images(void)
 {
-    for (size_t length = 0; length <= 4 * BLOCK; length++) {
+    const size_t block = tried->block, more = 65536 / block;
+
+    for (size_t length = 0; length <= 4 * block; length++) {
         memset(lent, 0, GUARD + length + GUARD);
         call_it("zeros", 0);
         expect_verdict(length, false);
@@ -406,22 +424,24 @@ static void short_images(void)
         expect_verdict(length, false);
 
         /* As many blocks as the length has, which are too few; and as many bytes in their low 16 bits. */
-        set_word(image, BLOCKS, length / BLOCK);
-        call_it("pack of blocks", length / BLOCK);
+        set_word(image, BLOCKS, length / block);
+        call_it("pack of blocks", length / block);
         expect_verdict(length, false);
-        set_word(image, BLOCKS, 128 + length / BLOCK);
-        call_it("pack of blocks", 128 + length / BLOCK);
+        set_word(image, BLOCKS, more + length / block);
+        call_it("pack of blocks", more + length / block);
         expect_verdict(length, false);
     }
 }
 
 static void other_lengths(void)
 {
-    memset(image, 0, BLOCK * 18);
+    const size_t block = tried->block, right = small_bytes();
+
+    memset(image, 0, right + 2 * block);
     make_small();
     call_it("small pack", 0);
-    for (size_t length = BLOCK * 15; length <= BLOCK * 17; length++)
-        expect_verdict(length, length == BLOCK * 16);
+    for (size_t length = right - block; length <= right + block; length++)
+        expect_verdict(length, length == right);
 }
 
 /* LOOK with every word there is, in each part of a name, and beyond: legal or not. */
@@ -448,20 +468,20 @@ static void headers(void)
 
     for (size_t i = 0; i < COUNT(users); i++)
         users[i] = 65535 - i;
-    for (size_t n = 0; n <= BLOCKS_MAX + 6; n++) {
+    for (size_t n = 0; n <= tried->blocks_most + 6; n++) {
         call_it("empty pack of blocks", n);
-        expect_verdict(make_pack(image, n, 1, users, 1), n >= BLOCKS_MIN && n <= BLOCKS_MAX);
+        expect_verdict(make_pack(image, n, 1, users, 1), n >= tried->blocks_least && n <= tried->blocks_most);
     }
-    for (size_t c = 0; c <= 20; c++) {
+    for (size_t c = 0, most = tried->contents_most; c <= most + 12; c++) {
         call_it("empty pack with contents", c);
-        expect_verdict(make_pack(image, 21, c, users, 1), c >= CONTENTS_MIN && c <= CONTENTS_MAX);
+        expect_verdict(make_pack(image, most + 13, c, users, 1), c >= tried->contents_least && c <= most);
     }
     for (size_t u = 0; u <= COUNT(users); u++) {
         call_it("empty pack with UICs", u);
-        expect_verdict(make_pack(image, 16, 1, users, u), u <= UICS_MAX);
+        expect_verdict(make_pack(image, 16, 1, users, u), u <= tried->uics_most);
     }
-    for (size_t i = 0; i < UICS_MAX; i++) {
-        size_t length = make_pack(image, 16, 1, users, UICS_MAX);
+    for (size_t i = 0; i < tried->uics_most; i++) {
+        size_t length = make_pack(image, 16, 1, users, tried->uics_most);
         call_it("empty pack with a wrong UIC", i);
         set_word(image, UIC_LIST + i, 0);
         expect_verdict(length, false);
@@ -472,55 +492,68 @@ static void headers(void)
     }
 }
 
-static void made_packs(void)
+static const size_t owners_to_be[] = { ME, OTHER, 1, 0xFF00, 0x00FF, 0x0100, 0xFFFF };
+
+/* Every entry used, with files that differ in one part only. */
+static void full_directories(void)
 {
-    static const size_t users[] = { ME, OTHER, 1, 0xFF00, 0x00FF, 0x0100, 0xFFFF };
-    size_t list[BLOCKS_MAX], length;
+    static const char names[7][7] = { "A     ", "B     ", "A0    ", "ABC   ", "ABCA  ", "ABCDEF", "0     " };
+    static const char extensions[12][4] = { "   ", "A  ", "AA ", "B  ", "BA ", "BAA", "0  ", "0A ", "0AA", "Z  ", "ZA ",
+                                            "ZAA" };
+    const size_t n = tried->contents_most + 8;
 
-    call_it("no users", 0);
-    expect_image(make_pack(image, 16, CONTENTS_MAX, NULL, 0), true);
-
-    call_it("small pack", 0);
-    expect_image(make_small(), true);
-
-    /* Every entry used, with files that differ in one part only. */
-    for (size_t c = 1; c <= CONTENTS_MAX; c++) {
-        length = make_pack(image, 16, c, users, COUNT(users));
-        for (size_t entry = 0; entry < BLOCK_ENTRIES * c; entry++) {
-            static const char names[][7] = { "A     ", "B     ", "A0    ", "ABC   ", "ABCA  ", "ABCDEF", "0     " };
-            static const char extensions[][4] = { "   ", "A  ", "AA " };
-            put_linked(image, entry, key_of(names[entry % 7], extensions[entry / 7 % 3], users[entry / 21]), NULL, 0);
+    for (size_t c = 1; c <= tried->contents_most; c++) {
+        const size_t length = make_pack(image, n, c, owners_to_be, COUNT(owners_to_be));
+        for (size_t entry = 0; entry < tried->entries * c; entry++) {
+            const char *extension = extensions[entry / 7 % 3 + 3 * (entry / 147)];
+            put_linked(image, entry, key_of(names[entry % 7], extension, owners_to_be[entry / 21 % 7]), NULL, 0);
         }
         call_it("full directory, contents", c);
         expect_image(length, true);
     }
+}
 
-    /* One file that has all bodies: one extent, a chain upwards, a chain downwards. */
-    for (size_t n = BLOCKS_MIN; n <= BLOCKS_MAX; n += 252) {
-        size_t c = n / 252 + 1, bodies = n - c - 1;
+/* One file that has all bodies: one extent, a chain upwards, a chain downwards. */
+static void full_packs(void)
+{
+    size_t list[BLOCKS_MOST], length;
+
+    for (size_t n = tried->blocks_least; n <= tried->blocks_most; n += 252) {
+        const size_t c = n / 252 + 1, first = first_body(tried, c), bodies = n - first;
         for (size_t i = 0; i < bodies; i++)
-            list[i] = c + 1 + i;
-        length = make_pack(image, n, c, users, 1);
-        put_contiguous(image, 0, freq, c + 1, bodies);
+            list[i] = first + i;
+        length = make_pack(image, n, c, owners_to_be, 1);
+        put_contiguous(image, 0, freq, first, bodies);
         call_it("one extent", n);
         expect_image(length, true);
 
-        length = make_pack(image, n, c, users, 1);
+        length = make_pack(image, n, c, owners_to_be, 1);
         put_linked(image, 0, freq, list, bodies);
         call_it("one chain", n);
         expect_image(length, true);
 
-        set_word(image, BLOCK_WORDS * list[bodies - 1], list[0]);
+        set_link(image, list[bodies - 1], list[0]);
         call_it("one chain, closed", n);
         expect_image(length, false);
 
         for (size_t i = 0; i < bodies; i++)
             list[i] = n - 1 - i;
-        length = make_pack(image, n, c, users, 1);
-        put_linked(image, BLOCK_ENTRIES * c - 1, freq, list, bodies);
+        length = make_pack(image, n, c, owners_to_be, 1);
+        put_linked(image, tried->entries * c - 1, freq, list, bodies);
         call_it("one chain downwards", n);
         expect_image(length, true);
     }
+}
+
+static void made_packs(void)
+{
+    size_t length;
+
+    call_it("no users", 0);
+    expect_image(make_pack(image, tried->contents_most + 8, tried->contents_most, NULL, 0), true);
+
+    call_it("small pack", 0);
+    expect_image(make_small(), true);
 
     /* Every way of being open. */
     for (size_t writer = 0; writer <= 4; writer++)
@@ -540,19 +573,21 @@ static void made_packs(void)
 /* Words of the small pack set to another value, and whether it is consistent then. */
 static void known_changes(void)
 {
-#define ENTRY(entry, word) (BLOCK_WORDS + ENTRY_WORDS * (entry) + (word))
-#define LINK(block) (BLOCK_WORDS * (block))
-    static const struct {
+    make_small(); /* where a word is goes by its form */
+    const size_t n = small(16), c = contents_like(1), last = tried->block / 2 - 1;
+#define ENTRY(entry, word) entry_word(image, entry, word)
+#define LINK(block) link_word(image, small(block))
+    const struct {
         size_t word, value;
         bool consistent;
     } changes[] = {
-        { FORM, 0, false },                { FORM, 2, false },                 { FORM, 257, false },
-        { BLOCKS, 0, false },              { BLOCKS, 15, false },              { BLOCKS, 17, false },
-        { BLOCKS, 16 + 256, false },       { CONTENTS, 0, false },             { CONTENTS, 9, false },
-        { CONTENTS, 2, false },            { UICS, 1, false },                 { UICS, 3, false },
-        { UICS, 65, false },               { UICS, 0, false },                 { UIC_LIST, 0, false },
-        { UIC_LIST, OTHER, false },        { UIC_LIST, 5, false },             { UIC_LIST + 2, 5, false },
-        { BLOCK_WORDS - 1, 1, false },     { BLOCK_WORDS - 1, 256, false },
+        { FORM, 0, false },                { FORM, tried->number + 1, false }, { FORM, tried->number + 256, false },
+        { BLOCKS, 0, false },              { BLOCKS, n - 1, false },           { BLOCKS, n + 1, false },
+        { BLOCKS, n + 256, false },        { CONTENTS, 0, false },             { CONTENTS, c + 1, false },
+        { CONTENTS, tried->contents_most + 1, false },                         { UICS, tried->uics_most + 1, false },
+        { UICS, 1, false },                { UICS, 3, false },                 { UICS, 0, false },
+        { UIC_LIST, 0, false },            { UIC_LIST, OTHER, false },         { UIC_LIST, 5, false },
+        { UIC_LIST + 2, 5, false },        { last, 1, false },                 { last, 256, false },
 
         { ENTRY(0, NAME1), 0, false },             /* blanks */
         { ENTRY(0, NAME1), 1, false },             /* "  A" */
@@ -596,38 +631,38 @@ static void known_changes(void)
         { ENTRY(0, KIND), 3, false },              { ENTRY(0, KIND), 257, false },
         { ENTRY(1, KIND), 1, false },              { ENTRY(2, KIND), 1, false },
 
-        { ENTRY(0, FIRST), 3, false },             { ENTRY(0, FIRST), 1, false },
+        { ENTRY(0, FIRST), small(3), false },             { ENTRY(0, FIRST), 1, false },
         { ENTRY(0, FIRST), 0, false },             { ENTRY(0, LENGTH), 0, false },
         { ENTRY(0, LENGTH), 2, false },            { ENTRY(0, LENGTH), 4, false },
-        { ENTRY(0, LENGTH), 65535, false },        { ENTRY(0, LAST), 3, false },
-        { ENTRY(0, LAST), 5, false },              { ENTRY(0, LAST), 0, false },
-        { ENTRY(15, FIRST), 14, false },           { ENTRY(15, FIRST), 16, false },
-        { ENTRY(15, LENGTH), 2, false },           { ENTRY(15, LAST), 16, false },
+        { ENTRY(0, LENGTH), 65535, false },        { ENTRY(0, LAST), small(3), false },
+        { ENTRY(0, LAST), small(5), false },              { ENTRY(0, LAST), 0, false },
+        { ENTRY(15, FIRST), small(14), false },           { ENTRY(15, FIRST), small(16), false },
+        { ENTRY(15, LENGTH), 2, false },           { ENTRY(15, LAST), small(16), false },
 
-        { ENTRY(1, FIRST), 7, false },             { ENTRY(1, FIRST), 0, false },
-        { ENTRY(1, FIRST), 12, false },            { ENTRY(1, LENGTH), 0, false },
+        { ENTRY(1, FIRST), small(7), false },             { ENTRY(1, FIRST), 0, false },
+        { ENTRY(1, FIRST), small(12), false },            { ENTRY(1, LENGTH), 0, false },
         { ENTRY(1, LENGTH), 2, false },            { ENTRY(1, LENGTH), 4, false },
-        { ENTRY(1, LAST), 7, false },              { ENTRY(1, LAST), 9, false },
-        { ENTRY(1, LAST), 0, false },              { ENTRY(2, FIRST), 8, false },
-        { ENTRY(2, LAST), 8, false },              { ENTRY(2, LENGTH), 1, false },
+        { ENTRY(1, LAST), small(7), false },              { ENTRY(1, LAST), small(9), false },
+        { ENTRY(1, LAST), 0, false },              { ENTRY(2, FIRST), small(8), false },
+        { ENTRY(2, LAST), small(8), false },              { ENTRY(2, LENGTH), 1, false },
 
         { ENTRY(0, ZEROS), 1, false },             { ENTRY(0, ZEROS + 1), 1, false },
         { ENTRY(0, ZEROS + 2), 256, false },       { ENTRY(0, ZEROS + 3), 1, false },
         { ENTRY(0, ZEROS + 4), 32768, false },     { ENTRY(3, NAME1), 1600, false },
         { ENTRY(3, ZEROS + 4), 1, false },         { ENTRY(14, KIND), 2, false },
 
-        { LINK(9), 0, false },                     { LINK(9), 9, false },
-        { LINK(9), 12, false },                    { LINK(9), 8, false },
-        { LINK(9), 6, false },                     { LINK(9), 2, false },
-        { LINK(9), 1, false },                     { LINK(9), 16, false },
+        { LINK(9), 0, false },                     { LINK(9), small(9), false },
+        { LINK(9), small(12), false },                    { LINK(9), small(8), false },
+        { LINK(9), small(6), false },                     { LINK(9), small(2), false },
+        { LINK(9), 1, false },                     { LINK(9), small(16), false },
         { LINK(9), 65535, false },                 { LINK(9), 7 + 256, false },
-        { LINK(7), 9, false },                     { LINK(7), 7, false },
-        { LINK(12), 9, false },                    { LINK(12), 12, false },
-        { LINK(12), 8, false },                    { LINK(12), 65535, false },
-        { LINK(6), 12, false },                    { LINK(6), 256, false },
+        { LINK(7), small(9), false },                     { LINK(7), small(7), false },
+        { LINK(12), small(9), false },                    { LINK(12), small(12), false },
+        { LINK(12), small(8), false },                    { LINK(12), 65535, false },
+        { LINK(6), small(12), false },                    { LINK(6), 256, false },
 
-        { LINK(2), 0, true },                      { LINK(3), 3, true },  /* of a contiguous file */
-        { LINK(8), 9, true },                      { LINK(14), 0, true }, /* free */
+        { LINK(2), 0, true },                      { LINK(3), small(3), true },  /* of a contiguous file */
+        { LINK(8), small(9), true },                      { LINK(14), 0, true }, /* free */
         { LINK(9) + 1, 0, true },                  { LINK(13) - 1, 0, true },
     };
 
@@ -639,6 +674,12 @@ static void known_changes(void)
     }
 #undef LINK
 #undef ENTRY
+}
+
+/* A block of the small pack, as form 1 numbers it; 0, 1 and what no pack has stay as they are. */
+static size_t like(size_t block)
+{
+    return block < 2 || block == 65535 ? block : small(block);
 }
 
 /* One file more in the small pack, and whether it may be there. */
@@ -664,7 +705,7 @@ static void known_files(void)
 
     for (size_t i = 0; i < COUNT(files); i++) {
         size_t length = make_small();
-        put_file(image, 3, freq, files[i].kind, files[i].first, files[i].length, files[i].last);
+        put_file(image, 3, freq, files[i].kind, like(files[i].first), files[i].length, like(files[i].last));
         call_it("known file", i);
         expect_image(length, files[i].consistent);
     }
@@ -676,9 +717,11 @@ static void word_changes(void)
     static const size_t values[] = { 0,   1,   2,   3,   4,    5,    6,    7,    8,    9,     10,    12,    13,
                                      14,  15,  16,  17,  40,   61,   62,   63,   64,   254,   255,   256,   257,
                                      512, 777, 888, 999, 1023, 1024, 1025, 1600, 1640, 63999, 64000, 65534, 65535 };
-    static block_owner owners[BLOCKS_MAX];
+    static block_owner owners[BLOCKS_MOST];
 
-    for (size_t word = 0; word < BLOCK_WORDS * 16; word += word < BLOCK_WORDS * 2 ? 1 : BLOCK_WORDS) {
+    const size_t bodies = tried->block / 2 * small(2), end = small_bytes() / 2;
+
+    for (size_t word = 0; word < end; word += word < bodies ? 1 : tried->block / 2) {
         size_t length = make_small(), old = get_word(image, word);
         call_it("changed word", word);
         for (size_t i = 0; i < COUNT(values); i++) {
@@ -695,7 +738,7 @@ static void word_changes(void)
 /* ---- Damage to packs made by chance ---- */
 
 /* The pack before the damage, two linked and two contiguous files with blocks in it, and the damaged pack's length. */
-static uint8_t sound[BLOCK * BLOCKS_MAX];
+static uint8_t sound[IMAGE_MOST];
 static size_t chain, other_chain, extent, other_extent, damaged_len;
 
 static size_t chance_file(size_t kind)
@@ -753,10 +796,10 @@ static void one_word(void)
     switch (chance(6)) {
     case 0: disturb(chance(damaged_len / 2)); break;
     case 1: disturb(chance(UIC_LIST + get_word(sound, UICS) + 1)); break;
-    case 2: disturb(entry_word(chance(entry_count(sound)), chance(ENTRY_WORDS))); break;
-    case 3: disturb(entry_word(extent, chance(ENTRY_WORDS))); break;
-    case 4: disturb(entry_word(chain, chance(ENTRY_WORDS))); break;
-    case 5: disturb(BLOCK_WORDS * chance_block(chain)); break;
+    case 2: disturb(entry_word(sound, chance(entry_count(sound)), chance(ENTRY_WORDS))); break;
+    case 3: disturb(entry_word(sound, extent, chance(ENTRY_WORDS))); break;
+    case 4: disturb(entry_word(sound, chain, chance(ENTRY_WORDS))); break;
+    case 5: disturb(link_word(sound, chance_block(chain))); break;
     }
 }
 
@@ -779,9 +822,9 @@ static void one_byte_more(void)
 /* By up to three blocks, more or less. */
 static void resized(void)
 {
-    damaged_len += BLOCK * chance(4);
-    damaged_len -= BLOCK * chance(4);
-    set_word(image, BLOCKS, damaged_len / BLOCK);
+    damaged_len += tried->block * chance(4);
+    damaged_len -= tried->block * chance(4);
+    set_word(image, BLOCKS, damaged_len / tried->block);
 }
 
 static void other_contents(void)
@@ -791,7 +834,7 @@ static void other_contents(void)
 
 static void entries_exchanged(void)
 {
-    size_t from = 2 * entry_word(chain, 0), to = 2 * entry_word(chance(entry_count(sound)), 0);
+    size_t from = 2 * entry_word(sound, chain, 0), to = 2 * entry_word(sound, chance(entry_count(sound)), 0);
 
     memcpy(image + from, sound + to, 2 * ENTRY_WORDS);
     memcpy(image + to, sound + from, 2 * ENTRY_WORDS);
@@ -818,7 +861,7 @@ static void chain_into_chain(void)
 {
     size_t place = chance_place(other_chain);
 
-    set_word(image, BLOCK_WORDS * get_field(sound, chain, LAST), block_at(sound, other_chain, place));
+    set_link(image, get_field(sound, chain, LAST), block_at(sound, other_chain, place));
     set_field(image, chain, LENGTH, get_field(sound, chain, LENGTH) + get_field(sound, other_chain, LENGTH) - place);
     set_field(image, chain, LAST, get_field(sound, other_chain, LAST));
 }
@@ -828,8 +871,8 @@ static void chain_longer(void)
 {
     size_t block = chance(2) ? chance_block(extent) : chance(get_word(sound, BLOCKS));
 
-    set_word(image, BLOCK_WORDS * get_field(sound, chain, LAST), block);
-    set_word(image, BLOCK_WORDS * block, 0);
+    set_link(image, get_field(sound, chain, LAST), block);
+    set_link(image, block, 0);
     set_field(image, chain, LENGTH, get_field(sound, chain, LENGTH) + 1);
     set_field(image, chain, LAST, block);
 }
@@ -839,7 +882,7 @@ static void chain_shorter(void)
 {
     size_t place = chance_place(chain), block = block_at(sound, chain, place);
 
-    set_word(image, BLOCK_WORDS * block, 0);
+    set_link(image, block, 0);
     set_field(image, chain, LENGTH, place + 1);
     set_field(image, chain, LAST, block);
 }
@@ -848,14 +891,14 @@ static void chain_loop(void)
 {
     size_t from = chance_place(chain), to = chance(from + 1);
 
-    set_word(image, BLOCK_WORDS * block_at(sound, chain, from), block_at(sound, chain, to));
+    set_link(image, block_at(sound, chain, from), block_at(sound, chain, to));
     set_field(image, chain, LENGTH, chance(2) ? 65535 - chance(2) : from + 1 + chance(8));
     set_field(image, chain, LAST, chance_block(chain));
 }
 
 static void chain_goes_on(void)
 {
-    set_word(image, BLOCK_WORDS * get_field(sound, chain, LAST), chance(get_word(sound, BLOCKS)));
+    set_link(image, get_field(sound, chain, LAST), chance(get_word(sound, BLOCKS)));
 }
 
 static void wrong_last(void)
@@ -957,7 +1000,8 @@ static void damaged_packs(void)
     size_t refused[COUNT(damages)] = { 0 };
 
     for (size_t pack = 0; pack < PACKS; pack++) {
-        size_t c = 1 + chance(3), n = 24 + chance(80), files = pack % 4 ? 8 + chance(8) : BLOCK_ENTRIES * c, length;
+        size_t c = contents_like(1 + chance(3)), n = 24 + chance(80), length;
+        size_t files = pack % 4 ? 8 + chance(8) : tried->entries * c;
 
         do
             length = chance_pack(sound, n, c, files);
@@ -985,7 +1029,7 @@ static void damaged_packs(void)
 static void large_packs(void)
 {
     for (size_t pack = 0; pack < 4; pack++) {
-        size_t length = chance_pack(image, BLOCKS_MAX - pack % 2, CONTENTS_MAX, pack < 2 ? 128 : 100);
+        size_t length = chance_pack(image, tried->blocks_most - pack % 2, tried->contents_most, pack < 2 ? 128 : 100);
         call_it("large pack by chance", pack);
         expect_image(length, true);
     }
@@ -1006,26 +1050,49 @@ static void header_numbers(void)
         CHECK_NUMBER(numbers[i].named, numbers[i].number, "header number %zu", i);
 }
 
+/* And so are those of each form; no form has more than the most of all. */
+static void form_numbers(void)
+{
+    static const pack_form numbers[] = { { 1, 512, 510, 4, 16, 16, 1024, 1, 8, 64, 1 } };
+
+    CHECK_NUMBER(COUNT(forms), COUNT(numbers), "forms");
+    for (size_t i = 0; i < COUNT(numbers); i++) {
+        const pack_form *const form = &forms[i];
+        CHECK_BYTES((const uint8_t *)form, (const uint8_t *)&numbers[i], sizeof *form, "numbers of form %zu", i + 1);
+        CHECK_NUMBER(form_numbered(form->number) == form, true, "form %zu", form->number);
+        CHECK_NUMBER(form->block <= BLOCK_MOST && form->payload <= PAYLOAD_MOST && form->blocks_most <= BLOCKS_MOST
+                         && form->block * form->blocks_most <= IMAGE_MOST
+                         && form->entries * form->contents_most <= ENTRIES_MOST && form->uics_most <= UICS_MOST,
+                     true, "the most of form %zu", form->number);
+    }
+    CHECK_NUMBER(form_numbered(0) == NULL, true, "form 0");
+}
+
 int main(void)
 {
     for (size_t i = 0; i < sizeof filling; i++)
         filling[i] = (uint8_t)(i * 31 + i / 256 * 7 + 0xA5);
 
     header_numbers();
+    form_numbers();
     example();
-    format_sizes();
-    format_counts();
-    format_uics();
-    format_huge();
-    short_images();
-    other_lengths();
-    name_words();
-    headers();
-    made_packs();
-    known_changes();
-    known_files();
-    word_changes();
-    damaged_packs();
-    large_packs();
+    EACH_FORM {
+        format_sizes();
+        format_counts();
+        format_uics();
+        format_huge();
+        short_images();
+        other_lengths();
+        name_words();
+        headers();
+        full_directories();
+        full_packs();
+        made_packs();
+        known_changes();
+        known_files();
+        word_changes();
+        damaged_packs();
+        large_packs();
+    }
     return check_end("pack");
 }

@@ -9,7 +9,7 @@
 #include "image.h"
 #include "report.h"
 
-enum { GUARD = 16, ROOM = BLOCK * BLOCKS_MAX, ME = 023 * 256 + 010, OTHER = 012 * 256 + 04, N = 32 };
+enum { GUARD = 16, ROOM = IMAGE_MOST, ME = 023 * 256 + 010, OTHER = 012 * 256 + 04, N = 32 };
 
 /* The image is lent with bytes around it, which are looked after. */
 static uint8_t lent[GUARD + ROOM + GUARD], kept[sizeof lent];
@@ -28,7 +28,7 @@ static void check_answer(abz_report_answer answer, abz_report_answer expected, c
 /* Reports as report.h does, reads nothing but the image, writes nothing, and names a fault exactly if LOOK gives 40. */
 static abz_report_answer try_report(size_t length, const char *name)
 {
-    static block_owner owners[BLOCKS_MAX];
+    static block_owner owners[BLOCKS_MOST];
 
     memset(lent, 0xA5, GUARD);
     memset(image + length, 0x5A, GUARD);
@@ -45,29 +45,42 @@ static abz_report_answer try_report(size_t length, const char *name)
     return answer;
 }
 
+/* A block of the sample, as form 1 numbers it; 0, 1 and what is behind the sample stay as they are. */
+static size_t at(size_t block)
+{
+    return block < 2 || block > N ? block : block_like(2, block);
+}
+
 static void expect(size_t length, size_t rule, size_t entry, size_t word, size_t block, const char *name)
 {
-    check_answer(try_report(length, name), told(rule, entry, word, block), name);
+    check_answer(try_report(length, name), told(rule, entry, word, at(block)), name);
 }
 
 /* Entry 0 contiguous of 3 blocks, 1 linked of 4, 2 linked without blocks, 5 linked of 1, 20 contiguous of 1; c is 2. */
 static size_t sample(void)
 {
-    static const size_t uics[] = { ME, OTHER }, chain[] = { 20, 9, 31, 3 }, one[] = { 12 };
+    static const size_t uics[] = { ME, OTHER };
+    const size_t chain[] = { at(20), at(9), at(31), at(3) }, one[] = { at(12) };
 
-    memset(image, 0x77, BLOCK * N);
-    const size_t length = make_pack(image, N, 2, uics, 2);
-    put_contiguous(image, 0, key_of("FREQ  ", "DAT", ME), 4, 3);
+    memset(image, 0x77, tried->block * at(N));
+    const size_t length = make_pack(image, at(N), contents_like(2), uics, 2);
+    put_contiguous(image, 0, key_of("FREQ  ", "DAT", ME), at(4), 3);
     put_linked(image, 1, key_of("LINKED", "   ", ME), chain, 4);
     put_linked(image, 2, key_of("EMPTY ", "L  ", OTHER), NULL, 0);
     put_linked(image, 5, key_of("FREQ  ", "DAT", OTHER), one, 1);
-    put_contiguous(image, 20, key_of("Z     ", "999", OTHER), 14, 1);
+    put_contiguous(image, 20, key_of("Z     ", "999", OTHER), at(14), 1);
     return length;
 }
 
-static void set_link(size_t block, size_t next)
+static void relink(size_t block, size_t next)
 {
-    set_word(image, BLOCK_WORDS * block, next);
+    set_link(image, at(block), at(next));
+}
+
+/* Sets a word of an entry of the sample, words 6 and 8 to a block. */
+static void set_like(size_t entry, size_t word, size_t value)
+{
+    set_field(image, entry, word, word == FIRST || word == LAST ? at(value) : value);
 }
 
 /* ---- Cases ---- */
@@ -78,7 +91,7 @@ static void try_sizes(void)
 
     expect(length, 0, 0, 0, 0, "sample");
     expect(length - 1, 1, 0, 0, 0, "cut by a byte");
-    expect(length - BLOCK, 1, 0, 0, 0, "cut by a block");
+    expect(length - tried->block, 1, 0, 0, 0, "cut by a block");
     expect(length + 1, 1, 0, 0, 0, "longer by a byte");
     for (size_t short_length = 0; short_length <= 12; short_length++)
         expect(short_length, 1, 0, 0, 0, "a few bytes");
@@ -86,15 +99,15 @@ static void try_sizes(void)
     for (size_t short_length = 0; short_length <= 12; short_length++)
         expect(short_length, 1, 0, 0, 0, "no blocks");
     expect(length, 1, 0, 0, 0, "no blocks, whole");
-    set_word(image, BLOCKS, N + 1);
+    set_word(image, BLOCKS, at(N) + 1);
     expect(length, 1, 0, 0, 0, "another number of blocks");
     sample();
     set_word(image, BLOCKS, 1);
-    expect(BLOCK, 2, 0, BLOCKS, 0, "one block");
+    expect(tried->block, 2, 0, BLOCKS, 0, "one block");
     set_word(image, BLOCKS, 15);
-    expect(15 * BLOCK, 2, 0, BLOCKS, 0, "15 blocks");
-    set_word(image, FORM, 0);
-    expect(15 * BLOCK, 2, 0, FORM, 0, "15 blocks of no form");
+    expect(15 * tried->block, 2, 0, BLOCKS, 0, "15 blocks");
+    set_word(image, FORM, 0); /* so it is measured as form 1 is */
+    expect(15 * forms->block, 2, 0, FORM, 0, "15 blocks of no form");
 }
 
 /* Each word of block 0 with several values: below, above, 0, and as another. */
@@ -103,7 +116,7 @@ static void try_header(void)
     static const size_t values[] = { 0, 1, 2, 3, 4, 8, 9, 15, 16, 32, 64, 65, ME, OTHER, 1024, 1025, 65535 };
     const size_t length = sample();
 
-    for (size_t word = 0; word < BLOCK_WORDS; word++) {
+    for (size_t word = 0; word < tried->block / 2; word++) {
         const size_t old = get_word(image, word);
         for (size_t i = 0; i < sizeof values / sizeof *values; i++) {
             set_word(image, word, values[i]);
@@ -112,15 +125,15 @@ static void try_header(void)
         set_word(image, word, old);
     }
 
-    set_word(image, FORM, 2);
-    expect(length, 2, 0, 0, 0, "form");
+    set_word(image, FORM, 65535);
+    expect(length, tried->block == forms->block ? 2 : 1, 0, 0, 0, "form");
     sample();
     set_word(image, CONTENTS, 0);
     expect(length, 2, 0, 2, 0, "no contents");
-    set_word(image, CONTENTS, 9);
+    set_word(image, CONTENTS, tried->contents_most + 1);
     expect(length, 2, 0, 2, 0, "much contents");
     sample();
-    set_word(image, UICS, 65);
+    set_word(image, UICS, tried->uics_most + 1);
     expect(length, 2, 0, 3, 0, "many UICs");
     sample();
     set_word(image, UIC_LIST + 1, ME);
@@ -128,8 +141,8 @@ static void try_header(void)
     set_word(image, UIC_LIST, 0);
     expect(length, 2, 0, UIC_LIST, 0, "a UIC 0");
     sample();
-    set_word(image, BLOCK_WORDS - 1, 1);
-    expect(length, 2, 0, BLOCK_WORDS - 1, 0, "last word of block 0");
+    set_word(image, tried->block / 2 - 1, 1);
+    expect(length, 2, 0, tried->block / 2 - 1, 0, "last word of block 0");
 }
 
 /* Each word of each entry with several values; then what each is told as. */
@@ -162,7 +175,7 @@ static void try_entries(void)
     for (size_t i = 0; i < sizeof cases / sizeof *cases; i++) {
         char name[64];
         sample();
-        set_field(image, cases[i].entry, cases[i].word, cases[i].value);
+        set_like(cases[i].entry, cases[i].word, cases[i].value);
         sprintf(name, "entry %zu word %zu value %zu", cases[i].entry, cases[i].word, cases[i].value);
         expect(length, cases[i].rule, cases[i].entry, cases[i].told_word, 0, name);
     }
@@ -180,58 +193,58 @@ static void try_links(void)
 {
     const size_t length = sample(); /* entry 1: 20, 9, 31, 3 */
 
-    set_link(20, 0);
+    relink(20, 0);
     expect(length, 6, 1, 0, 20, "chain ends early");
-    set_link(20, 2);
+    relink(20, 2);
     expect(length, 6, 1, 0, 20, "link into the contents");
-    set_link(20, N);
+    relink(20, N);
     expect(length, 6, 1, 0, 20, "link behind the pack");
     sample();
-    set_link(31, 65535);
+    relink(31, 65535);
     expect(length, 6, 1, 0, 31, "link far behind the pack");
     sample();
-    set_link(3, 8);
+    relink(3, 8);
     expect(length, 8, 1, 0, 3, "chain goes on");
-    set_link(3, 20);
+    relink(3, 20);
     expect(length, 8, 1, 0, 3, "the end leads back");
 
     /* loops of 1, 2, 3 and 4 blocks; with a huge length too */
     for (size_t huge = 0; huge < 2; huge++) {
         sample();
         set_field(image, 1, LENGTH, huge ? 65535 : 4);
-        set_link(20, 20);
+        relink(20, 20);
         expect(length, 7, 1, 0, 20, "loop of 1 block");
-        set_link(20, 9), set_link(9, 20);
+        relink(20, 9), relink(9, 20);
         expect(length, 7, 1, 0, 20, "loop of 2 blocks");
-        set_link(9, 31), set_link(31, 9);
+        relink(9, 31), relink(31, 9);
         expect(length, 7, 1, 0, 9, "loop of 2 blocks behind the first");
-        set_link(31, 20);
+        relink(31, 20);
         expect(length, 7, 1, 0, 20, "loop of 3 blocks");
     }
-    set_link(31, 3), set_link(3, 20);
+    relink(31, 3), relink(3, 20);
     expect(length, 7, 1, 0, 20, "loop of 4 blocks");
-    set_link(3, 0);
+    relink(3, 0);
     expect(length, 6, 1, 0, 3, "a huge length");
     set_field(image, 5, LENGTH, 65535);
     set_field(image, 1, LENGTH, 4);
-    set_link(12, 12);
+    relink(12, 12);
     expect(length, 7, 5, 0, 12, "loop of the only block");
 
     /* every body in one chain that leads back to the first, with any length above it: as many steps as there are bodies */
     sample();
-    memset(image + BLOCK, 0, 2 * BLOCK);
-    size_t blocks[N];
+    memset(image + tried->block, 0, system_bytes(image) - tried->block);
+    size_t blocks[N], chain[N];
     for (size_t i = 0; i < N - 3; i++)
-        blocks[i] = 3 + (7 * i) % (N - 3);
-    put_linked(image, 31, key_of("ALL   ", "   ", ME), blocks, N - 3);
+        chain[i] = at(blocks[i] = 3 + (7 * i) % (N - 3));
+    put_linked(image, 31, key_of("ALL   ", "   ", ME), chain, N - 3);
     expect(length, 0, 0, 0, 0, "all bodies in one chain");
-    set_link(blocks[N - 4], blocks[0]);
+    relink(blocks[N - 4], blocks[0]);
     expect(length, 8, 31, 0, blocks[N - 4], "all bodies, and back");
     set_field(image, 31, LENGTH, N - 2);
     expect(length, 7, 31, 0, blocks[0], "loop of all bodies");
     set_field(image, 31, LENGTH, 65535);
     expect(length, 7, 31, 0, blocks[0], "loop of all bodies, huge");
-    set_link(blocks[N - 4], blocks[N - 5]);
+    relink(blocks[N - 4], blocks[N - 5]);
     expect(length, 7, 31, 0, blocks[N - 5], "loop at the end");
 }
 
@@ -239,26 +252,26 @@ static void try_shared(void)
 {
     const size_t length = sample();
 
-    set_field(image, 20, FIRST, 12), set_field(image, 20, LAST, 12);
+    set_like(20, FIRST, 12), set_like(20, LAST, 12);
     expect(length, 9, 20, 0, 12, "shared with a linked file");
-    set_field(image, 20, FIRST, 4), set_field(image, 20, LAST, 4);
+    set_like(20, FIRST, 4), set_like(20, LAST, 4);
     expect(length, 9, 20, 0, 4, "shared with a contiguous file");
-    set_field(image, 20, LENGTH, 29), set_field(image, 20, FIRST, 3), set_field(image, 20, LAST, 31);
+    set_field(image, 20, LENGTH, 29), set_like(20, FIRST, 3), set_like(20, LAST, 31);
     expect(length, 9, 20, 0, 3, "one holds all");
 
     /* three holders of block 12: entries 0, 5 and 20 */
     sample();
-    put_contiguous(image, 0, key_of("FREQ  ", "DAT", ME), 11, 3);
-    put_contiguous(image, 20, key_of("Z     ", "999", OTHER), 12, 1);
+    put_contiguous(image, 0, key_of("FREQ  ", "DAT", ME), at(11), 3);
+    put_contiguous(image, 20, key_of("Z     ", "999", OTHER), at(12), 1);
     expect(length, 9, 5, 0, 12, "three holders");
-    put_contiguous(image, 20, key_of("Z     ", "999", OTHER), 11, 1);
+    put_contiguous(image, 20, key_of("Z     ", "999", OTHER), at(11), 1);
     expect(length, 9, 20, 0, 11, "two shared blocks: the lower, though of later files");
-    put_contiguous(image, 3, key_of("FIRST ", "   ", OTHER), 30, 2);
+    put_contiguous(image, 3, key_of("FIRST ", "   ", OTHER), at(30), 2);
     expect(length, 9, 20, 0, 11, "a third shared block");
 
     /* two chains that meet */
     sample();
-    set_field(image, 5, LENGTH, 3), set_field(image, 5, LAST, 3), set_link(12, 31);
+    set_field(image, 5, LENGTH, 3), set_like(5, LAST, 3), relink(12, 31);
     expect(length, 9, 5, 0, 3, "two chains that meet");
 }
 
@@ -275,57 +288,63 @@ static void try_two(void)
     for (size_t i = 0; i < count; i++)
         for (size_t j = 0; j < count; j++) {
             sample();
-            set_field(image, faults[i].entry, faults[i].word, faults[i].value);
-            set_field(image, faults[j].entry, faults[j].word, faults[j].value);
+            set_like(faults[i].entry, faults[i].word, faults[i].value);
+            set_like(faults[j].entry, faults[j].word, faults[j].value);
             try_report(length, "two faults");
-            set_link(9, 20);
+            relink(9, 20);
             try_report(length, "two faults and a loop");
-            set_word(image, 100, 1);
-            expect(length, 2, 0, 100, 0, "two faults behind one of the header");
+            set_word(image, 60, 1);
+            expect(length, 2, 0, 60, 0, "two faults behind one of the header");
         }
 
     sample();
-    set_field(image, 0, FIRST, 2), set_field(image, 0, WRITER, 2);
+    set_like(0, FIRST, 2), set_field(image, 0, WRITER, 2);
     expect(length, 3, 0, WRITER, 0, "word 9 before word 6");
     sample();
-    set_field(image, 20, FIRST, 12), set_field(image, 20, LAST, 12), set_field(image, 20, 15, 1);
+    set_like(20, FIRST, 12), set_like(20, LAST, 12), set_field(image, 20, 15, 1);
     expect(length, 3, 20, 15, 0, "an entry before shared blocks");
     sample();
     set_field(image, 5, UIC, ME), set_field(image, 5, PROTECT, 256);
     expect(length, 4, 5, 3, 0, "the name before word 4");
     sample();
-    set_link(20, 0), set_field(image, 1, LAST, 9);
+    relink(20, 0), set_like(1, LAST, 9);
     expect(length, 6, 1, 0, 20, "a link before word 8");
     sample();
-    set_link(3, 3), set_field(image, 1, LAST, 9);
+    relink(3, 3), set_like(1, LAST, 9);
     expect(length, 5, 1, LAST, 0, "word 8 before the end");
     sample();
-    set_field(image, 1, FIRST, 1), set_field(image, 1, LAST, 9), set_link(9, 9);
+    set_like(1, FIRST, 1), set_like(1, LAST, 9), relink(9, 9);
     expect(length, 5, 1, FIRST, 0, "word 6 before all else of a chain");
+}
+
+static void copy_entry(size_t to, size_t from)
+{
+    memcpy(image + 2 * entry_word(image, to, 0), image + 2 * entry_word(image, from, 0), ABZ_ENTRY_BYTES);
 }
 
 /* Packs by chance, whole and with a few bytes or words changed. */
 static void try_chance(void)
 {
     for (int round = 0; round < 3000; round++) {
-        const size_t c = 1 + chance(CONTENTS_MAX), n = BLOCKS_MIN + chance(64), files = chance(16 * c + 1);
+        const size_t c = 1 + chance(8), n = tried->blocks_least + chance(64), entries = tried->entries * c;
+        const size_t files = chance(entries + 1);
         const size_t length = chance_pack(image, n, c, files);
 
         expect(length, 0, 0, 0, 0, "a pack by chance");
         for (int change = 0; change < 3; change++) {
-            const size_t entry = chance(16 * c), near = get_field(image, entry, chance(ENTRY_WORDS));
+            const size_t entry = chance(entries), near = get_field(image, entry, chance(ENTRY_WORDS));
             switch (chance(5)) {
             case 0: image[chance(length)] ^= (uint8_t)(1 << chance(8)); break;
             case 1: set_field(image, entry, chance(ENTRY_WORDS), chance(n + 2)); break;
-            case 2: set_link(1 + c + chance(n - 1 - c), chance(n + 1)); break;
-            case 3: set_field(image, chance(16 * c), FIRST + chance(3), near); break;
-            default: memcpy(image + 2 * entry_word(entry, 0), image + 2 * entry_word(chance(16 * c), 0), ABZ_ENTRY_BYTES); break;
+            case 2: set_link(image, first_body(tried, c) + chance(n - first_body(tried, c)), chance(n + 1)); break;
+            case 3: set_field(image, chance(entries), FIRST + chance(3), near); break;
+            default: copy_entry(entry, chance(entries)); break;
             }
             try_report(length, "a pack by chance, changed");
         }
     }
     for (int round = 0; round < 200; round++) {
-        const size_t length = chance(2 * BLOCK);
+        const size_t length = chance(2 * tried->block);
         chance_bytes(image, length);
         try_report(length, "bytes by chance");
     }
@@ -333,13 +352,15 @@ static void try_chance(void)
 
 int main(void)
 {
-    try_sizes();
-    try_header();
-    try_entries();
-    try_links();
-    try_shared();
-    try_two();
-    try_chance();
+    EACH_FORM {
+        try_sizes();
+        try_header();
+        try_entries();
+        try_links();
+        try_shared();
+        try_two();
+        try_chance();
+    }
     for (size_t rule = 0; rule < 10; rule++)
         CHECK_NUMBER(rules_seen[rule] > 0, 1, "rule %zu was told", rule);
     return check_end("report");

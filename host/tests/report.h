@@ -16,32 +16,33 @@ static inline abz_report_answer told(size_t rule, size_t entry, size_t word, siz
     return answer;
 }
 
-/* The first word of block 0 that breaks its rule, or BLOCK_WORDS. */
+/* The first word of block 0 that breaks its rule, or as many as it has. */
 static inline size_t first_header_word(const uint8_t *image)
 {
     const size_t n = get_word(image, BLOCKS), c = get_word(image, CONTENTS), u = get_word(image, UICS);
+    const pack_form *form = form_numbered(get_word(image, FORM));
 
-    if (get_word(image, FORM) != ABZ_FORM)
+    if (!form)
         return FORM;
-    if (n < BLOCKS_MIN || n > BLOCKS_MAX)
+    if (n < form->blocks_least || n > form->blocks_most)
         return BLOCKS;
-    if (c < CONTENTS_MIN || c > CONTENTS_MAX || c + 1 >= n)
+    if (c < form->contents_least || c > form->contents_most || first_body(form, c) >= n)
         return CONTENTS;
-    if (u > UICS_MAX)
+    if (u > form->uics_most)
         return UICS;
-    for (size_t word = UIC_LIST; word < BLOCK_WORDS; word++) {
+    for (size_t word = UIC_LIST; word < form->block / 2; word++) {
         if ((word < UIC_LIST + u) != (get_word(image, word) != 0))
             return word;
         for (size_t before = UIC_LIST; before < word && word < UIC_LIST + u; before++)
             if (get_word(image, before) == get_word(image, word))
                 return word;
     }
-    return BLOCK_WORDS;
+    return form->block / 2;
 }
 
 static inline bool is_body(const uint8_t *image, size_t block)
 {
-    return block > get_word(image, CONTENTS) && block < get_word(image, BLOCKS);
+    return block >= bodies_from(image) && block < get_word(image, BLOCKS);
 }
 
 /* Word 6 to 8 of a contiguous file. */
@@ -71,17 +72,17 @@ static inline abz_report_answer report_chain(const uint8_t *image, size_t entry)
     if (!is_body(image, first))
         return told(5, entry, FIRST, 0);
     for (size_t place = 0; place + 1 < length; place++) {
-        const size_t next = get_word(image, BLOCK_WORDS * block);
+        const size_t next = get_link(image, block);
         if (!is_body(image, next))
             return told(6, entry, 0, block);
-        for (size_t before = 0, at = first; before <= place; before++, at = get_word(image, BLOCK_WORDS * at))
+        for (size_t before = 0, at = first; before <= place; before++, at = get_link(image, at))
             if (at == next)
                 return told(7, entry, 0, next);
         block = next;
     }
     if (get_field(image, entry, LAST) != block)
         return told(5, entry, LAST, 0);
-    return get_word(image, BLOCK_WORDS * block) != 0 ? told(8, entry, 0, block) : told(0, 0, 0, 0);
+    return get_link(image, block) != 0 ? told(8, entry, 0, block) : told(0, 0, 0, 0);
 }
 
 static inline abz_report_answer report_entry(const uint8_t *image, size_t entry)
@@ -129,9 +130,9 @@ static inline abz_report_answer report_shared(const uint8_t *image)
 
 static inline abz_report_answer judge_report(const uint8_t *image, size_t length)
 {
-    if (length < 4 || length != BLOCK * get_word(image, BLOCKS))
+    if (length < 4 || length != form_of(image)->block * get_word(image, BLOCKS))
         return told(1, 0, 0, 0);
-    if (first_header_word(image) < BLOCK_WORDS)
+    if (first_header_word(image) < form_of(image)->block / 2)
         return told(2, 0, first_header_word(image), 0);
     for (size_t entry = 0; entry < entry_count(image); entry++) {
         const abz_report_answer answer = used(image, entry) ? report_entry(image, entry) : told(0, 0, 0, 0);

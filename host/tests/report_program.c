@@ -9,7 +9,7 @@
 #define REPORT "$EMULATOR target/bin/report"
 #define REPORTED "target/host/reported.image"
 
-enum { LONGEST = 65536, ROOM = LONGEST + 2 * BLOCK, ME = 023 * 256 + 010, N = 32 };
+enum { LONGEST = 65536, ROOM = LONGEST + 2 * BLOCK_MOST, ME = 023 * 256 + 010, N = 32 };
 
 static uint8_t image[ROOM];
 
@@ -51,7 +51,7 @@ static size_t sample(void)
 {
     static const size_t uics[] = { ME }, chain[] = { 20, 9, 31, 3 };
 
-    memset(image, 0x77, BLOCK * N);
+    memset(image, 0x77, tried->block * N);
     const size_t length = make_pack(image, N, 2, uics, 1);
     put_contiguous(image, 0, key_of("FREQ  ", "DAT", ME), 4, 3);
     put_linked(image, 3, key_of("LINKED", "   ", ME), chain, 4);
@@ -59,6 +59,7 @@ static size_t sample(void)
     return length;
 }
 
+/* Written out for form 1. */
 static void lines(void)
 {
     const size_t length = sample();
@@ -81,12 +82,12 @@ static void lines(void)
     set_field(image, 0, LENGTH, 0);
     expect(length, "FAULT EXTENT ENTRY 00000 WORD 00007\n");
     sample();
-    set_word(image, BLOCK_WORDS * 9, 0);
+    set_link(image, 9, 0);
     expect(length, "FAULT LINK ENTRY 00003 BLOCK 00009\n");
-    set_word(image, BLOCK_WORDS * 9, 20);
+    set_link(image, 9, 20);
     expect(length, "FAULT LOOP ENTRY 00003 BLOCK 00020\n");
     sample();
-    set_word(image, BLOCK_WORDS * 3, 20);
+    set_link(image, 3, 20);
     expect(length, "FAULT END ENTRY 00003 BLOCK 00003\n");
     sample();
     put_contiguous(image, 12, key_of("Z     ", "999", ME), 31, 1);
@@ -97,25 +98,27 @@ static void lines(void)
 static void lengths(void)
 {
     static const size_t uics[] = { ME };
+    const size_t n = LONGEST / tried->block, c = contents_like(8);
     const char *const parts = "(head -c 1 " REPORTED "; sleep 0.1; tail -c +2 " REPORTED ") 2>/dev/null | " REPORT;
 
     memset(image, 0, sizeof image);
-    expect(make_pack(image, 128, 8, uics, 1), "CONSISTENT\n");
+    expect(make_pack(image, n, c, uics, 1), "CONSISTENT\n");
     try_command(parts, "CONSISTENT\n", "from a pipe");
-    put_contiguous(image, 127, key_of("LAST  ", "   ", ME), 127, 2);
+    put_contiguous(image, 127, key_of("LAST  ", "   ", ME), n - 1, 2);
     expect(LONGEST, "FAULT EXTENT ENTRY 00127 WORD 00007\n");
     try_image(LONGEST + 1, "REFUSED 40\n");
-    make_pack(image, 129, 8, uics, 1);
-    CHECK_NUMBER(abz_report(image, 129 * BLOCK).rule, 0, "a pack of 129 blocks");
-    try_image(129 * BLOCK, "REFUSED 40\n");
-    try_command(parts, "REFUSED 40\n", "a pack of 129 blocks, from a pipe");
+    const size_t longer = make_pack(image, n + 1, c, uics, 1);
+    CHECK_NUMBER(abz_report(image, longer).rule, 0, "a pack of a block more");
+    try_image(longer, "REFUSED 40\n");
+    try_command(parts, "REFUSED 40\n", "a pack of a block more, from a pipe");
 }
 
 /* By chance: a few words of packs changed. */
 static void changed(void)
 {
     for (int round = 0; round < 200; round++) {
-        const size_t c = 1 + chance(CONTENTS_MAX), n = BLOCKS_MIN + chance(32), length = chance_pack(image, n, c, chance(16 * c + 1));
+        const size_t c = 1 + chance(8), n = tried->blocks_least + chance(32);
+        const size_t length = chance_pack(image, n, c, chance(tried->entries * c + 1));
 
         for (int change = 0; change < 2; change++)
             set_word(image, chance(length / 2), chance(n + 3));
@@ -126,7 +129,9 @@ static void changed(void)
 int main(void)
 {
     lines();
-    lengths();
-    changed();
+    EACH_FORM {
+        lengths();
+        changed();
+    }
     return check_end("report_program");
 }

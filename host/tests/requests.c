@@ -60,22 +60,22 @@ static void examples(void)
     /* Joined to an empty file, and another behind that; block 0 stays. */
     EXPECT(abz_appnd(image, length, ME, FILE4(none), FILE4(three)), 0);
     EXPECT(abz_appnd(image, length, ME, FILE4(none), FILE4(others)), 0);
-    EXPECT(get_word(image, FORM), 1);
-    EXPECT(get_field(image, EMPTY, FIRST), 9);
+    EXPECT(get_word(image, FORM), tried->number);
+    EXPECT(get_field(image, EMPTY, FIRST), small(9));
     EXPECT(get_field(image, EMPTY, LENGTH), 5);
-    EXPECT(get_field(image, EMPTY, LAST), 5);
-    EXPECT(get_word(image, BLOCK_WORDS * 9), 7);
-    EXPECT(get_word(image, BLOCK_WORDS * 7), 12);
-    EXPECT(get_word(image, BLOCK_WORDS * 12), 15);
-    EXPECT(get_word(image, BLOCK_WORDS * 15), 5);
-    EXPECT(get_word(image, BLOCK_WORDS * 5), 0);
+    EXPECT(get_field(image, EMPTY, LAST), small(5));
+    EXPECT(get_link(image, small(9)), small(7));
+    EXPECT(get_link(image, small(7)), small(12));
+    EXPECT(get_link(image, small(12)), small(15));
+    EXPECT(get_link(image, small(15)), small(5));
+    EXPECT(get_link(image, small(5)), 0);
     EXPECT(abz_look(image, length, ME, FILE4(three)).code, 2);
 
     /* Its blocks are free when it is deleted, and stay as they were. */
-    EXPECT(abz_owner(image, length, 12).kind, ABZ_HELD);
+    EXPECT(abz_owner(image, length, small(12)).kind, ABZ_HELD);
     EXPECT(abz_delet(image, length, OTHER, FILE4(none)), 0);
-    EXPECT(abz_owner(image, length, 12).kind, ABZ_FREE);
-    EXPECT(get_word(image, BLOCK_WORDS * 12), 15);
+    EXPECT(abz_owner(image, length, small(12)).kind, ABZ_FREE);
+    EXPECT(get_link(image, small(12)), small(15));
 
     /* 62 opens, and the writer counts. */
     for (size_t i = 0; i < 61; i++)
@@ -94,7 +94,7 @@ static void states(void)
     static const size_t callers[] = { ME, GROUP, OTHER, 0, ME + 65536, GROUP + 65536, 023 * 256, 022 * 256 + 010 };
     static const size_t protects[] = { 0, 1, 2, 4, 0100, 010, 020, 0107, 0377 };
     static const size_t readers[] = { 0, 1, 2, 60, 61, 62 };
-    static uint8_t pack[BLOCK * 16];
+    static uint8_t pack[SMALL_ROOM];
     const size_t length = make_closed(pack);
     request it = { .mode = 4, .protect = 0201, .second = key_of("ZZZ   ", "   ", ME) };
 
@@ -136,7 +136,7 @@ static void states(void)
 /* APPND of each file to each, and RENAM of each to the name of each. */
 static void pairs(void)
 {
-    static uint8_t pack[BLOCK * 16];
+    static uint8_t pack[SMALL_ROOM];
     const size_t length = make_closed(pack);
 
     for (size_t what = RENAM; what <= APPND; what++)
@@ -157,7 +157,7 @@ static void pairs(void)
 
 static void huge_everywhere(void)
 {
-    static uint8_t pack[BLOCK * 16];
+    static uint8_t pack[SMALL_ROOM];
     const size_t length = make_closed(pack);
 
     set_open(pack, THREE, 3, 7);
@@ -173,7 +173,7 @@ static void huge_everywhere(void)
 static void large_packs(void)
 {
     for (size_t pack = 0; pack < 3; pack++) {
-        size_t length = chance_pack(image, BLOCKS_MAX - pack, CONTENTS_MAX, 96);
+        size_t length = chance_pack(image, tried->blocks_most - pack, tried->contents_most, 96);
         ease(image);
         for (size_t i = 0; i < 60; i++) {
             request it = chance_request(i % BLOCK_IN, image);
@@ -185,13 +185,15 @@ static void large_packs(void)
 int main(void)
 {
     header_codes();
-    examples();
-    states();
-    pairs();
-    huge_everywhere();
-    chance_requests(OPENI, BLOCK_IN, 400, 40);
-    damaged_images(OPENI, BLOCK_IN, 60);
-    large_packs();
+    EACH_FORM {
+        examples();
+        states();
+        pairs();
+        huge_everywhere();
+        chance_requests(OPENI, BLOCK_IN, 400, 40);
+        damaged_images(OPENI, BLOCK_IN, 60);
+        large_packs();
+    }
     for (size_t i = 0; i < COUNT(joined); i++)
         CHECK_NUMBER(joined[i] > 0, true, "APPND with %zu (1 the first, 2 the second) empty", i);
     check_given(OPENI, BLOCK_IN);

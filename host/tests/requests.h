@@ -12,8 +12,8 @@
 
 #define COUNT(array) (sizeof(array) / sizeof *(array))
 
-enum { GUARD = 16, ROOM = BLOCK * BLOCKS_MAX, CODES = 0100 };
-enum { BUFFER_ROOM = 65536 + BLOCK }; /* so that a size can be wrong in its high bits alone */
+enum { GUARD = 16, ROOM = IMAGE_MOST, CODES = 0100 };
+enum { BUFFER_ROOM = 65536 + BLOCK_MOST }; /* so that a size can be wrong in its high bits alone */
 enum { ME = 023 * 256 + 010, GROUP = 023 * 256 + 011, OTHER = 012 * 256 + 04 };
 
 /*
@@ -41,9 +41,10 @@ typedef struct {
 
 /* Among them numbers that are in order in their low 16 or 32 bits, or when multiplied by a measure of the pack. */
 static const size_t huge[] = {
-    65535, 65536, 65537, 65536 + 16, UINT32_MAX, (size_t)UINT32_MAX + 1, (size_t)UINT32_MAX + 2, SIZE_MAX / BLOCK + 1,
-    SIZE_MAX / BLOCK + 17, SIZE_MAX / ABZ_ENTRY_BYTES + 1, SIZE_MAX / SEGMENTS, SIZE_MAX / SEGMENTS + 1,
-    SIZE_MAX / SEGMENTS + 2, SIZE_MAX / 2, SIZE_MAX / 2 + 1, SIZE_MAX - 3, SIZE_MAX - 2, SIZE_MAX - 1, SIZE_MAX
+    65535, 65536, 65537, 65536 + 16, UINT32_MAX, (size_t)UINT32_MAX + 1, (size_t)UINT32_MAX + 2,
+    SIZE_MAX / BLOCK_MOST + 1, SIZE_MAX / BLOCK_MOST + 17, SIZE_MAX / ABZ_ENTRY_BYTES + 1,
+    SIZE_MAX / ABZ_BLOCK_SEGMENTS, SIZE_MAX / ABZ_BLOCK_SEGMENTS + 1, SIZE_MAX / ABZ_BLOCK_SEGMENTS + 2,
+    SIZE_MAX / 2, SIZE_MAX / 2 + 1, SIZE_MAX - 3, SIZE_MAX - 2, SIZE_MAX - 1, SIZE_MAX
 };
 
 /* ---- Document 01 ---- */
@@ -147,7 +148,7 @@ static inline size_t free_run(const uint8_t *image, const block_owner *owners, s
 /* Gives a file more blocks, behind its own. All links of its chain are set, also those that are right already. */
 static inline void lengthen(uint8_t *image, file it, const size_t *more, size_t count)
 {
-    size_t blocks[BLOCKS_MAX];
+    size_t blocks[BLOCKS_MOST];
 
     for (size_t place = 0; place < it.length; place++)
         blocks[place] = block_at(image, it.entry, place);
@@ -160,12 +161,12 @@ static inline void lengthen(uint8_t *image, file it, const size_t *more, size_t 
 
 static inline void clear_entry(uint8_t *image, size_t entry)
 {
-    memset(image + 2 * entry_word(entry, 0), 0, 2 * ENTRY_WORDS);
+    memset(image + 2 * entry_word(image, entry, 0), 0, 2 * ENTRY_WORDS);
 }
 
 static inline void join(uint8_t *image, file first, file second)
 {
-    size_t blocks[BLOCKS_MAX];
+    size_t blocks[BLOCKS_MOST];
 
     for (size_t place = 0; place < second.length; place++)
         blocks[place] = block_at(image, second.entry, place);
@@ -203,13 +204,13 @@ static inline size_t finish(uint8_t *image, size_t caller)
 /* Where in the image a block of a file starts. */
 static inline uint8_t *body(uint8_t *image, file it, size_t place)
 {
-    return image + BLOCK * block_at(image, it.entry, place);
+    return image + form_of(image)->block * block_at(image, it.entry, place);
 }
 
 /* What a request does to an image and a buffer, and answers. */
 static inline abz_answer model(uint8_t *image, size_t length, uint8_t *buffer, const request *it)
 {
-    static block_owner owners[BLOCKS_MAX];
+    static block_owner owners[BLOCKS_MOST];
     bool cause[CODES] = { false };
     abz_answer answer = { 0, 0 };
 
@@ -218,11 +219,12 @@ static inline abz_answer model(uint8_t *image, size_t length, uint8_t *buffer, c
         return answer;
     }
 
+    const pack_form *form = form_of(image);
     const size_t caller = it->caller, none = entry_count(image);
     const file_key key = meant(it->file, caller);
     const file one = file_of(image, key);
     const size_t may = rights(caller, one), empty = empty_entry(image);
-    size_t start = 0, needed = it->segments / SEGMENTS + (it->segments % SEGMENTS != 0);
+    size_t start = 0, needed = it->segments / form->segments + (it->segments % form->segments != 0);
     file_key second_key = it->second;
     file two = { 0 };
 
@@ -283,21 +285,21 @@ static inline abz_answer model(uint8_t *image, size_t length, uint8_t *buffer, c
         cause[015] = cause[2] = false;
         break;
     case BLOCK_IN:
-        cause[041] = it->buffer_len != BLOCK;
+        cause[041] = it->buffer_len != form->block;
         cause[6] = may < MAY_READ;
         cause[043] = one.kind == LINKED;
         cause[045] = one.readers == 0 && one.writer != 1;
         cause[044] = it->place >= one.length;
         break;
     case BLOCK_OUT:
-        cause[041] = it->buffer_len != BLOCK;
+        cause[041] = it->buffer_len != form->block;
         cause[6] = may < MAY_WRITE;
         cause[043] = one.kind == LINKED;
         cause[045] = one.writer != 1;
         cause[044] = it->place >= one.length;
         break;
     case LINKED_READ:
-        cause[041] = it->buffer_len != PAYLOAD;
+        cause[041] = it->buffer_len != form->payload;
         cause[6] = may < MAY_READ;
         cause[043] = one.kind == CONTIGUOUS;
         cause[045] = one.readers == 0;
@@ -305,7 +307,7 @@ static inline abz_answer model(uint8_t *image, size_t length, uint8_t *buffer, c
         break;
     case LINKED_ADD:
         start = free_run(image, owners, 1);
-        cause[041] = it->buffer_len != PAYLOAD;
+        cause[041] = it->buffer_len != form->payload;
         cause[6] = may < MAY_WRITE;
         cause[043] = one.kind == CONTIGUOUS;
         cause[045] = one.writer != 2 && one.writer != 3;
@@ -353,18 +355,18 @@ static inline abz_answer model(uint8_t *image, size_t length, uint8_t *buffer, c
         break;
     case APPND: join(image, one, two); break;
     case FINISH: answer.number = finish(image, caller); break;
-    case BLOCK_IN: memcpy(buffer, body(image, one, it->place), BLOCK); break;
-    case BLOCK_OUT: memcpy(body(image, one, it->place), buffer, BLOCK); break;
-    case LINKED_READ: memcpy(buffer, body(image, one, it->place) + 2, PAYLOAD); break;
+    case BLOCK_IN: memcpy(buffer, body(image, one, it->place), form->block); break;
+    case BLOCK_OUT: memcpy(body(image, one, it->place), buffer, form->block); break;
+    case LINKED_READ: memcpy(buffer, body(image, one, it->place) + 2, form->payload); break;
     case LINKED_ADD:
         lengthen(image, one, &start, 1);
-        memcpy(image + BLOCK * start + 2, buffer, PAYLOAD);
+        memcpy(image + form->block * start + 2, buffer, form->payload);
         answer.number = start;
         break;
     case ALLOC:
         put_contiguous(image, empty, key, start, needed);
         set_field(image, empty, PROTECT, it->protect);
-        memset(image + BLOCK * start, 0, BLOCK * needed);
+        memset(image + form->block * start, 0, form->block * needed);
         answer.number = start;
         break;
     case OPENO:
@@ -431,7 +433,7 @@ static size_t given[REQUESTS][CODES], joined[4];
  */
 static inline size_t try_request(const char *name, size_t number, size_t length, request it)
 {
-    static block_owner owners[BLOCKS_MAX];
+    static block_owner owners[BLOCKS_MOST];
     const size_t all = GUARD + length + GUARD, all_buffer = GUARD + it.buffer_len + GUARD;
 
     chance_bytes(lent_buffer, all_buffer);
@@ -507,11 +509,11 @@ enum { EXTENT, EMPTY, ONE, THREE, OTHERS, FILES };
 
 static inline size_t make_closed(uint8_t *pack)
 {
-    static const size_t one[] = { 6 }, three[] = { 9, 7, 12 }, two[] = { 15, 5 };
+    const size_t one[] = { small(6) }, three[] = { small(9), small(7), small(12) }, two[] = { small(15), small(5) };
 
-    chance_bytes(pack, BLOCK * 16);
-    size_t length = make_pack(pack, 16, 1, users, COUNT(users));
-    put_contiguous(pack, EXTENT, key_of("FREQ  ", "DAT", ME), 2, 3);
+    chance_bytes(pack, small_bytes());
+    size_t length = make_small_pack(pack, users, COUNT(users));
+    put_contiguous(pack, EXTENT, key_of("FREQ  ", "DAT", ME), small(2), 3);
     put_linked(pack, EMPTY, key_of("B     ", "DAT", ME), NULL, 0);
     put_linked(pack, ONE, key_of("ABC   ", "   ", ME), one, 1);
     put_linked(pack, THREE, key_of("ABCDEF", "999", ME), three, 3);
@@ -563,20 +565,21 @@ static inline void spoil(size_t *number)
     *number = others[chance(COUNT(others))];
 }
 
-/* The size that a request asks of its buffer. */
-static inline size_t right_buffer(size_t what)
+/* The size that a request on a pack asks of its buffer. */
+static inline size_t right_buffer(const uint8_t *pack, size_t what)
 {
     switch (what) {
     case BLOCK_IN:
-    case BLOCK_OUT: return BLOCK;
+    case BLOCK_OUT: return form_of(pack)->block;
     case LINKED_READ:
-    case LINKED_ADD: return PAYLOAD;
+    case LINKED_ADD: return form_of(pack)->payload;
     default: return 0;
     }
 }
 
 static inline request chance_request(size_t what, const uint8_t *pack)
 {
+    const pack_form *form = form_of(pack);
     request it = { .what = what, .file = likely_key(pack), .second = likely_key(pack) };
 
     it.caller = likely_caller(pack, it.file.uic);
@@ -593,9 +596,9 @@ static inline request chance_request(size_t what, const uint8_t *pack)
     it.segments = chance(4) ? 1 + chance(24) : chance(5 * get_word(pack, BLOCKS));
     it.mode = 1 + chance(4);
     it.place = chance(7);
-    it.buffer_len = right_buffer(what);
+    it.buffer_len = right_buffer(pack, what);
     if (it.buffer_len > 0 && chance(16) == 0)
-        it.buffer_len = chance(2) ? BLOCK + PAYLOAD - it.buffer_len : chance(2 * BLOCK);
+        it.buffer_len = chance(2) ? form->block + form->payload - it.buffer_len : chance(2 * form->block);
     if (it.caller == it.file.uic && chance(2))
         it.file.uic = 0;
     if (it.caller == it.second.uic && chance(2))
@@ -621,7 +624,8 @@ static inline void ease(uint8_t *pack)
 static inline void chance_requests(size_t from, size_t end, size_t packs, size_t times)
 {
     for (size_t pack = 0; pack < packs; pack++) {
-        size_t c = 1 + chance(3), n = 16 + chance(64), files = pack % 3 ? 4 + chance(12) : BLOCK_ENTRIES * c;
+        size_t c = contents_like(1 + chance(3)), n = 16 + chance(64);
+        size_t files = pack % 3 ? 4 + chance(12) : tried->entries * c;
         size_t length = chance_pack(image, n, c, files);
         if (pack % 4)
             ease(image);
@@ -635,7 +639,7 @@ static inline void chance_requests(size_t from, size_t end, size_t packs, size_t
 /* Makes the image a pack with one of its first words changed, a link of it, or its length. Returns the length. */
 static inline size_t damage(const uint8_t *sound, size_t length, size_t words)
 {
-    const size_t word = chance(words), old = get_word(sound, word);
+    const size_t word = chance(words), old = get_word(sound, word), n = get_word(sound, BLOCKS);
     size_t block;
 
     memcpy(image, sound, length);
@@ -643,9 +647,9 @@ static inline size_t damage(const uint8_t *sound, size_t length, size_t words)
     case 0: return chance(2) ? chance(length) : length + 1 - 2 * chance(2);
     case 1:
         do
-            block = chance(length / BLOCK);
-        while (block <= get_word(sound, CONTENTS));
-        set_word(image, BLOCK_WORDS * block, chance(2) ? 0 : chance(length / BLOCK));
+            block = chance(n);
+        while (block < bodies_from(sound));
+        set_link(image, block, chance(2) ? 0 : chance(n));
         return length;
     default:
         set_word(image, word, chance(2) ? old ^ ((size_t)1 << chance(16)) : chance(65536));
@@ -660,10 +664,10 @@ static inline void damaged_images(size_t from, size_t end, size_t packs)
     size_t refused = 0;
 
     for (size_t pack = 0; pack < packs; pack++) {
-        size_t c = 1 + chance(2), length = chance_pack(sound, 16 + chance(24), c, 16);
+        size_t c = contents_like(1 + chance(2)), length = chance_pack(sound, 16 + chance(24), c, 16);
         for (size_t i = 0; i < 8 * (end - from); i++) {
             request it = chance_request(from + i % (end - from), sound);
-            size_t damaged_len = damage(sound, length, i % 3 ? BLOCK_WORDS * (1 + c) : length / 2);
+            size_t damaged_len = damage(sound, length, (i % 3 ? system_bytes(sound) : length) / 2);
             refused += try_request("damaged pack", pack, damaged_len, it) == 040;
         }
     }
@@ -673,7 +677,7 @@ static inline void damaged_images(size_t from, size_t end, size_t packs)
     for (size_t short_len = 0; short_len < 40; short_len++)
         for (size_t what = from; what < end; what++) {
             request it = chance_request(what, sound);
-            memcpy(image, sound, BLOCK * 16);
+            memcpy(image, sound, tried->block * get_word(sound, BLOCKS));
             CHECK_NUMBER(try_request("short image", what, short_len, it), 040, "short image of %zu", short_len);
         }
 }

@@ -6,14 +6,15 @@
 /* As many blocks are free as become full, or one less by a byte: in both modes, and with TABs, which count twice. */
 static void room(void)
 {
-    static const size_t others[] = { 8, 10, 11, 13, 14 }, counts[] = { 0, 1, 255, 509 };
+    const size_t others[] = { small(8), small(10), small(11), small(13), small(14) }, payload = tried->payload;
+    const size_t counts[] = { 0, 1, payload / 2, payload - 1 };
 
     for (size_t number = 0;; number++) {
         size_t rest = number;
         const size_t length = make_open(image), left = digit(&rest, COUNT(others) + 1), over = digit(&rest, 2);
         line_call it = call_on(image, LINE_WRITE, THREE, digit(&rest, MODES));
         it.filled = counts[digit(&rest, COUNT(counts))];
-        const size_t size = PAYLOAD * (left + 1) - 1 - it.filled + over, tabs = digit(&rest, 2) * (size / 3);
+        const size_t size = payload * (left + 1) - 1 - it.filled + over, tabs = digit(&rest, 2) * (size / 3);
         if (rest > 0)
             break;
 
@@ -25,7 +26,7 @@ static void room(void)
 
         /* Where it was taken there is no block for the end; else, if there is one at all, there is. */
         it.what = LINE_END;
-        it.filled = over ? it.filled : PAYLOAD - 1;
+        it.filled = over ? it.filled : payload - 1;
         const bool refused = it.filled > 0 && (left == 0 || !over);
         CHECK_NUMBER(go_on("room", number, length, it).code, refused ? 042 : 0, "room %zu for the end", number);
     }
@@ -34,13 +35,16 @@ static void room(void)
 /* A text that grows line by line until there is no room for one; then one that needs no block is taken, and ended. */
 static void growing(void)
 {
+    const size_t payload = tried->payload;
+
     for (size_t pack = 0; pack < 24; pack++) {
-        const size_t length = make_pack(image, 16 + pack % 3, 1 + pack % 2, users, COUNT(users));
+        const size_t c = 1 + pack % 2;
+        const size_t length = make_pack(image, block_like(c, 16 + pack % 3), contents_like(c), users, COUNT(users));
         line_answer due = { 0 };
 
         put_linked(image, 3, key_of("GROWS ", "   ", ME), NULL, 0);
         set_open(image, 3, 2 + pack % 2, 0);
-        chance_bytes(lent_buffer, GUARD + PAYLOAD + GUARD);
+        chance_bytes(lent_buffer, GUARD + payload + GUARD);
         line_call it = call_on(image, LINE_WRITE, 3, pack / 2 % MODES);
         do {
             it.filled = due.next;
@@ -50,11 +54,11 @@ static void growing(void)
         } while (due.code == 0);
         CHECK_NUMBER(due.code, 042, "growing %zu", pack);
 
-        it.text_len = PAYLOAD - 1 - it.filled;
+        it.text_len = payload - 1 - it.filled;
         memset(text, 'G', it.text_len);
-        CHECK_NUMBER(go_on("growing", pack, length, it).next, PAYLOAD - 1, "growing %zu: no block needed", pack);
+        CHECK_NUMBER(go_on("growing", pack, length, it).next, payload - 1, "growing %zu: no block needed", pack);
         it.what = LINE_END;
-        it.filled = PAYLOAD - 1;
+        it.filled = payload - 1;
         while (go_on("growing", pack, length, it).code == 0)
             ;
         it.filled = 0;
@@ -66,17 +70,23 @@ static void growing(void)
 
 static const uint8_t day_line[] = "1971-02-01\tWIND 4\tSEA 3\n";
 
-enum { DAY_LINE = sizeof day_line - 1, DAY_LAID = DAY_LINE + 2, DAYS = 60 };
+enum { DAY_LINE = sizeof day_line - 1, DAY_LAID = DAY_LINE + 2 };
+
+/* As many as come into a fourth block. */
+static size_t days(void)
+{
+    return 3 * tried->payload / DAY_LAID + 2;
+}
 
 /* Writes the line again; the library alone. */
 static void write_day(size_t length, file_key key, uint8_t *gather, size_t *filled)
 {
     const abz_write_answer answer = abz_line_write(image, length, ME, FILE4(key), SPECIAL, day_line, DAY_LINE, gather,
-                                                   PAYLOAD, *filled);
+                                                   tried->payload, *filled);
 
     CHECK_NUMBER(answer.code, 0, "at once: line written, code");
     CHECK_NUMBER(answer.count, DAY_LINE, "at once: line written, count");
-    CHECK_NUMBER(answer.filled, (*filled + DAY_LAID) % PAYLOAD, "at once: line written, filled");
+    CHECK_NUMBER(answer.filled, (*filled + DAY_LAID) % tried->payload, "at once: line written, filled");
     *filled = answer.filled;
 }
 
@@ -99,15 +109,15 @@ static void read_day(size_t length, file_key key, size_t mode, size_t before, si
 /* One file open for extension and for input: what was added is there to be read, and what is gathered is not. */
 static void at_once(void)
 {
-    static uint8_t gather[PAYLOAD];
-    const size_t length = make_closed(image);
+    static uint8_t gather[PAYLOAD_MOST];
+    const size_t length = make_closed(image), payload = tried->payload;
     const file_key key = entry_key(image, EMPTY);
     size_t filled = 0, read = 0;
 
     CHECK_NUMBER(abz_opene(image, length, ME, FILE4(key)), 0, "at once: OPENE");
     CHECK_NUMBER(abz_openi(image, length, ME, FILE4(key)), 0, "at once: OPENI");
-    for (size_t day = 1; day <= DAYS; day++) {
-        const size_t total = day * DAY_LAID / PAYLOAD * PAYLOAD;
+    for (size_t day = 1; day <= days(); day++) {
+        const size_t total = day * DAY_LAID / payload * payload;
         write_day(length, key, gather, &filled);
         for (; DAY_LAID * (read + 1) <= total; read++)
             read_day(length, key, day % MODES, read, total);
@@ -115,14 +125,14 @@ static void at_once(void)
     }
 
     /* The reader stays where he was; when the rest is added he goes on to the end. */
-    CHECK_NUMBER(abz_line_end(image, length, ME, FILE4(key), gather, PAYLOAD, filled), 0, "at once: line end");
+    CHECK_NUMBER(abz_line_end(image, length, ME, FILE4(key), gather, payload, filled), 0, "at once: line end");
     CHECK_NUMBER(abz_close(image, length, ME, FILE4(key), 3), 0, "at once: CLOSE");
-    for (; read < DAYS; read++)
-        read_day(length, key, NORMAL, read, 4 * PAYLOAD);
-    const abz_read_answer answer = abz_line_read(image, length, ME, FILE4(key), NORMAL, DAY_LAID * DAYS, gather, 1);
+    for (; read < days(); read++)
+        read_day(length, key, NORMAL, read, 4 * payload);
+    const abz_read_answer answer = abz_line_read(image, length, ME, FILE4(key), NORMAL, DAY_LAID * days(), gather, 1);
     CHECK_NUMBER(answer.count, 0, "at once: behind the last line, count");
     CHECK_NUMBER(answer.status, 64, "at once: behind the last line, status");
-    CHECK_NUMBER(answer.position, 4 * PAYLOAD, "at once: behind the last line, position");
+    CHECK_NUMBER(answer.position, 4 * payload, "at once: behind the last line, position");
 }
 
 /* ---- Written, then read back ---- */
@@ -160,10 +170,10 @@ static size_t write_text(size_t round, size_t length, line_call it, size_t *size
 /* Lines for some blocks: one, two or more of them at a time, now and then ended before the next. */
 static void write_lines(size_t round, size_t length, file_key key)
 {
-    line_call it = { .what = LINE_WRITE, .caller = ME, .file = key, .buffer_len = PAYLOAD };
+    line_call it = { .what = LINE_WRITE, .caller = ME, .file = key, .buffer_len = tried->payload };
     size_t total = 0, size = 0;
 
-    for (line_count = 0; line_count < LINES && total < 5 * PAYLOAD; line_count++) {
+    for (line_count = 0; line_count < LINES && total < 5 * tried->payload; line_count++) {
         const size_t line_len = written_len[line_count] = 1 + chance(chance(4) ? 60 : LINE_MOST);
         chance_line(written[line_count], line_len);
         memcpy(text + size, written[line_count], line_len);
@@ -216,7 +226,7 @@ static void round_trips(void)
 
     for (size_t round = 0; round < 60; round++) {
         const size_t c = 1 + chance(2), n = 40 + chance(20), extends = round % 2;
-        chance_bytes(image, BLOCK * n);
+        chance_bytes(image, tried->block * n);
         const size_t length = make_pack(image, n, c, users, COUNT(users));
 
         expect_request(round, length, OPENO, key, 0);
@@ -224,74 +234,79 @@ static void round_trips(void)
             expect_request(round, length, CLOSE, key, 2);
             expect_request(round, length, OPENE, key, 0);
         }
-        chance_bytes(lent_buffer, GUARD + PAYLOAD + GUARD);
+        chance_bytes(lent_buffer, GUARD + tried->payload + GUARD);
         write_lines(round, length, key);
         expect_request(round, length, CLOSE, key, 2 + extends);
         expect_request(round, length, OPENI, key, 0);
         read_lines(round, length, key, NORMAL, LINE_MOST);
         read_lines(round, length, key, SPECIAL, LINE_MOST);
         read_lines(round, length, key, SPECIAL, 1 + chance(80));
-        read_lines(round, length, key, SPECIAL, round % 4 ? PAYLOAD : 1);
+        read_lines(round, length, key, SPECIAL, round % 4 ? tried->payload : 1);
     }
 }
 
 /* ---- The longest text there is ---- */
 
-enum { LONGEST = PAYLOAD * (BLOCKS_MAX - 2) };
+static uint8_t longest[PAYLOAD_MOST * BLOCKS_MOST];
 
-static uint8_t longest[LONGEST + PAYLOAD];
+/* How many bytes it has. What is written has a block more, which no pack has room for. */
+static size_t longest_len(void)
+{
+    return tried->payload * (tried->blocks_most - first_body(tried, 1));
+}
 
 /* All blocks full, and the gather buffer but for a byte; with that byte too it would be refused whole. */
 static void write_longest(size_t length, file_key key)
 {
-    static uint8_t gather[PAYLOAD], before[PAYLOAD];
+    static uint8_t gather[PAYLOAD_MOST], before[PAYLOAD_MOST];
+    const size_t payload = tried->payload, size = longest_len() + payload;
 
-    chance_bytes(gather, PAYLOAD);
-    memcpy(before, gather, PAYLOAD);
+    chance_bytes(gather, payload);
+    memcpy(before, gather, payload);
     memcpy(kept, image, length);
-    abz_write_answer answer = abz_line_write(image, length, ME, FILE4(key), NORMAL, longest, sizeof longest, gather,
-                                             PAYLOAD, 0);
+    abz_write_answer answer = abz_line_write(image, length, ME, FILE4(key), NORMAL, longest, size, gather, payload, 0);
     CHECK_NUMBER(answer.code, 042, "longest: a byte more");
     CHECK_BYTES(image, kept, length, "longest: a byte more, image");
-    CHECK_BYTES(gather, before, PAYLOAD, "longest: a byte more, gather buffer");
+    CHECK_BYTES(gather, before, payload, "longest: a byte more, gather buffer");
 
-    answer = abz_line_write(image, length, ME, FILE4(key), NORMAL, longest, sizeof longest - 1, gather, PAYLOAD, 0);
+    answer = abz_line_write(image, length, ME, FILE4(key), NORMAL, longest, size - 1, gather, payload, 0);
     CHECK_NUMBER(answer.code, 0, "longest: code");
-    CHECK_NUMBER(answer.count, sizeof longest - 1, "longest: count");
-    CHECK_NUMBER(answer.filled, PAYLOAD - 1, "longest: filled");
-    CHECK_BYTES(gather, longest + LONGEST, PAYLOAD - 1, "longest: gather buffer");
-    CHECK_NUMBER(abz_line_end(image, length, ME, FILE4(key), gather, PAYLOAD, PAYLOAD - 1), 042, "longest: end");
+    CHECK_NUMBER(answer.count, size - 1, "longest: count");
+    CHECK_NUMBER(answer.filled, payload - 1, "longest: filled");
+    CHECK_BYTES(gather, longest + longest_len(), payload - 1, "longest: gather buffer");
+    CHECK_NUMBER(abz_line_end(image, length, ME, FILE4(key), gather, payload, payload - 1), 042, "longest: end");
 }
 
 static void read_longest(size_t length, file_key key)
 {
-    static uint8_t bytes[LONGEST];
+    static uint8_t bytes[sizeof longest];
+    const size_t total = longest_len();
 
-    abz_read_answer answer = abz_line_read(image, length, ME, FILE4(key), SPECIAL, 0, bytes, sizeof bytes);
-    CHECK_NUMBER(answer.count, LONGEST, "longest: count read");
+    abz_read_answer answer = abz_line_read(image, length, ME, FILE4(key), SPECIAL, 0, bytes, total);
+    CHECK_NUMBER(answer.count, total, "longest: count read");
     CHECK_NUMBER(answer.status, 0, "longest: status");
-    CHECK_NUMBER(answer.position, LONGEST, "longest: position");
-    CHECK_BYTES(bytes, longest, LONGEST, "longest: text");
+    CHECK_NUMBER(answer.position, total, "longest: position");
+    CHECK_BYTES(bytes, longest, total, "longest: text");
     answer = abz_line_read(image, length, ME, FILE4(key), NORMAL, 0, bytes, 1);
-    CHECK_NUMBER(answer.count, LONGEST, "longest: count for a buffer of 1");
+    CHECK_NUMBER(answer.count, total, "longest: count for a buffer of 1");
     CHECK_NUMBER(answer.status, 1, "longest: status for a buffer of 1");
     CHECK_NUMBER(bytes[0], VT, "longest: buffer of 1");
-    answer = abz_line_read(image, length, ME, FILE4(key), NORMAL, LONGEST, bytes, 1);
+    answer = abz_line_read(image, length, ME, FILE4(key), NORMAL, total, bytes, 1);
     CHECK_NUMBER(answer.status, 64, "longest: status at the end");
-    answer = abz_line_read(image, length, ME, FILE4(key), NORMAL, LONGEST + 1, bytes, 1);
+    answer = abz_line_read(image, length, ME, FILE4(key), NORMAL, total + 1, bytes, 1);
     CHECK_NUMBER(answer.code, 044, "longest: behind the end");
 }
 
 /* One line. The library alone: beside the model this would take long. */
 static void longest_text(void)
 {
-    static block_owner owners[BLOCKS_MAX];
+    static block_owner owners[BLOCKS_MOST];
     const file_key key = key_of("LONG  ", "   ", ME);
-    const size_t length = make_pack(image, BLOCKS_MAX, 1, users, COUNT(users));
+    const size_t length = make_pack(image, tried->blocks_most, 1, users, COUNT(users));
 
     for (size_t i = 0; i < sizeof longest; i++)
-        longest[i] = (uint8_t)('0' + i % 7 + i / PAYLOAD % 60);
-    longest[LONGEST - 1] = VT;
+        longest[i] = (uint8_t)('0' + i % 7 + i / tried->payload % 60);
+    longest[longest_len() - 1] = VT;
     CHECK_NUMBER(abz_openo(image, length, ME, FILE4(key), 0), 0, "longest: OPENO");
     write_longest(length, key);
     CHECK_NUMBER(judge(image, length, owners), true, "longest: consistent");
@@ -302,10 +317,12 @@ static void longest_text(void)
 
 int main(void)
 {
-    room();
-    growing();
-    at_once();
-    round_trips();
-    longest_text();
+    EACH_FORM {
+        room();
+        growing();
+        at_once();
+        round_trips();
+        longest_text();
+    }
     return check_end("texts");
 }
