@@ -9,7 +9,8 @@ ghost use Rattle.numerals.specs.Digits.{digits};
 ghost use Rattle.pack.specs.GeometrySized.{Sized};
 ghost use Rattle.pack.specs.Geometry.{slots};
 ghost use Rattle.pack.specs.Entry.{entryOf};
-ghost use Rattle.printing.specs.Listing.{headLine, spelled, kindLetter, entryLine, lineOf, linesFrom, refusedLine, listing};
+ghost use Rattle.consistency.specs.Mapped.{Lent};
+ghost use Rattle.printing.specs.Listing.{headLine, spelled, kindLetter, entryLine, lineOf, linesFrom, longest, refusedLine, listing};
 ghost use Rattle.printing.specs.Pieces.{nameText, mostName, sizeText, mostSize, uicText, mostUic, mostLine, mostHead, longestText};
 ghost use Rattle.printing.specs.Put.{Put};
 use consistency::Opened;
@@ -178,7 +179,7 @@ fn put_refusal(out: &mut [u8], at: usize) -> usize
 // The listing of an image that is not too long, on a lent map.
 fn print_lent(img: &[u8], map: &mut [u8], out: &mut [u8]) -> usize
     requires { ⌜ longestText ≤ length (now out) ⌝ }
-    requires { ⌜ Lent (now map) (now img) × (length (now img) ≤ longestImage) ⌝ }
+    requires { ⌜ Lent (now map) (now img) × (length (now img) ≤ longest) ⌝ }
     ensures { λ r. ⌜ Put (now (out .entry)) (now (out .exit)) 0 r (listing (now (img .entry))) ⌝ }
     ensures { λ r. ⌜ r ≤ longestText ⌝ }
 {

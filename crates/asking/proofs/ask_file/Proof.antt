@@ -28,14 +28,14 @@ returns-2 c =
     let start = c .before .before .before .before .before .before in
     let opened = c .before .before .before .opened in
     asked-15 _ _ _ (sym (consistent-good _ _ _ (start .pre) (opened .given .1)))
-        (sym (c .before .is-legal .ensures) ∙ not-true _ (c .if1 .taken))
+    (sym (c .before .is-legal .ensures) ∙ not-true _ (c .if1 .taken))
 
 returns-3 : tie.Need-returns-3
 returns-3 c =
     let start = c .before .before .before .before .before .before .before in
     let opened = c .before .before .before .before .opened in
     asked-41 _ _ _ (sym (consistent-good _ _ _ (start .pre) (opened .given .1)))
-        (sym (c .before .before .is-legal .ensures) ∙ not-false _ (c .before .if1 .left)) (c .if2 .taken)
+    (sym (c .before .before .is-legal .ensures) ∙ not-false _ (c .before .if1 .left)) (c .if2 .taken)
 
 find-requires : tie.Need-find-requires
 find-requires c κs =
@@ -55,8 +55,8 @@ returns-4 c =
     let is-legal = c .before .before .before .before .before .is-legal in
     let o = opened-good _ _ (sym (start .pre) ∙ opened .given .1) in
     asked-2 _ _ _ (sym (consistent-good _ _ _ (start .pre) (opened .given .1)))
-        (sym (is-legal .ensures) ∙ not-false _ (c .before .before .before .before .if1 .left)) (c .before .before .before .if2 .left)
-        (found-at _ _ _ _ (o .1) (sym (ap foundIn (c .enum-told2 .given .1)) ∙ c .before .before .find .ensures))
+    (sym (is-legal .ensures) ∙ not-false _ (c .before .before .before .before .if1 .left)) (c .before .before .before .if2 .left)
+    (found-at _ _ _ _ (o .1) (sym (ap foundIn (c .enum-told2 .given .1)) ∙ c .before .before .find .ensures))
 
 read-entry-requires : tie.Need-read-entry-requires
 read-entry-requires c κs =
@@ -74,8 +74,8 @@ returns-5 c =
     let o = opened-good _ _ (sym (start .pre) ∙ opened .given .1) in
     let there = found-at _ _ _ _ (o .1) (sym (ap foundIn (c .before .before .e .given .1)) ∙ c .before .before .before .before .find .ensures) in
     file-at _ _ _ _ _ _ (o .1) (c .read-entry .ensures .0)
-        (asked-file _ _ _ (sym (consistent-good _ _ _ (start .pre) (opened .given .1)))
-            (sym (is-legal .ensures) ∙ not-false _ (c .before .before .before .before .before .before .if1 .left)) (c .before .before .before .before .before .if2 .left) _ there)
+    (asked-file _ _ _ (sym (consistent-good _ _ _ (start .pre) (opened .given .1)))
+    (sym (is-legal .ensures) ∙ not-false _ (c .before .before .before .before .before .before .if1 .left)) (c .before .before .before .before .before .if2 .left) _ there)
 
 pub ask-file-spec : {M : Type 1} → statement M
 ask-file-spec =
