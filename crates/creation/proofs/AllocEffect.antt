@@ -20,13 +20,15 @@ use Rattle.pack.specs.EntryWords.{setEntryWord, setEntryWords, wordsOf}
 use Rattle.pack.proofs.GeometryRoom.{sized-same}
 use Rattle.pack.specs.File.{nextOf, chain, blocksOf, count}
 use Rattle.pack.specs.Entry.{entryOf, Contiguous}
-use Rattle.pack.specs.Consistent.{Consistent}
+use Rattle.pack.specs.Consistent.{held, Consistent}
 use Rattle.pack.specs.Owner.{FreeBlock, ownerOf}
 use Rattle.pack.specs.Untouched.{Untouched}
+use Rattle.pack.proofs.FileCount.{count-at}
 use Rattle.pack.proofs.FileChain.{chain-length, next-contiguous}
 use Rattle.frame.proofs.FileChainWays.{extent-place, extent-below, extent-above, extent-most}
 use Rattle.frame.specs.Framed.{Only, Never, Kept}
 use Rattle.frame.proofs.FramedCompose.{entry-kept, entries-kept}
+use Rattle.frame.proofs.FramedStays.{stated-framed}
 use Rattle.frame.proofs.FramedHeld.{framed-one}
 use Rattle.frame.proofs.ChangesWritten.{changes-nothing, changes-then, Outside}
 use Rattle.frame.proofs.UntouchedFramed.{untouched-refl}
@@ -47,7 +49,7 @@ use Rattle.room.proofs.ClearedKept.{cleared-kept}
 use Rattle.room.proofs.RoomHighest.{run-none}
 use Rattle.creation.proofs.CreatingStage.{creatable}
 use Rattle.creation.proofs.AllocStage.{rows-42, rows-clear, Allocatable, segments-some, allocatable}
-use Rattle.creation.proofs.CreatingEffect.{Entered, entered, entered-kept, entry-entered, entered-untouched, entered-consistent, entered-owner, entered-others}
+use Rattle.creation.proofs.CreatingEffect.{Entered, entered, entered-kept, entry-entered, entered-untouched, entered-consistent, entered-owner, entered-others, entered-held}
 
 -- a byte that is none of the entry's
 words-outside : (words img : List ℕ) (g : Geometry) (e i : ℕ) → i + length words ≤ 16 → (k : ℕ) → Outside (2 * entryAt g e) 32 k
@@ -125,7 +127,7 @@ module _ (img : List ℕ) (key : Key) (caller protect segments : ℕ) where
   unfolding alloc
   alloc-refused = refusal-keeps (allocRows img key caller protect segments) img [] _
 
-  code-rows : alloc img key caller protect segments .code ≡ firstOf (allocRows img key caller protect segments)
+  pub code-rows : alloc img key caller protect segments .code ≡ firstOf (allocRows img key caller protect segments)
   unfolding alloc
   code-rows = code-is (allocRows img key caller protect segments) img [] _
 
@@ -222,6 +224,33 @@ module _ (img : List ℕ) (key : Key) (caller protect segments : ℕ) where
         entered-others (a .ready) shape made-entered b
         (extent-outside (made a) (geometryOf img) key protect (startFor img segments) (lengthFor img segments) b outside)
 
+    made-stated : geometryOf img ≡ geometryOf (made a)
+    made-stated = stated-framed refl (a .ready .right) (made-entered .framed)
+
+    made-held : (b : ℕ) → held (made a) b ≡ held img b + count b (blocksOf (made a) (geometryOf img) file)
+    made-held = entered-held (a .ready) shape made-entered
+
+    -- nobody held the blocks of the run
+    run-held : (b : ℕ) → InRun (startFor img segments) (lengthFor img segments) b → held (made a) b ≡ 1
+    run-held b run =
+        let at = extent-at (made a) (geometryOf img) key protect (startFor img segments) (lengthFor img segments) (b - startFor img segments) (omega (arith, run .0, run .1)) in
+        let back : startFor img segments + (b - startFor img segments) ≡ b = omega (arith, run .0) in
+        omega (
+          arith,
+          made-held b,
+          once b,
+          count-at (blocksOf (made a) (geometryOf img) file) (b - startFor img segments) b (at .0) (at .1 ∙ back),
+          a .extent .run .free b (run .0) (run .1) .nobody,
+        )
+
+    others-held : (b : ℕ) → (InRun (startFor img segments) (lengthFor img segments) b → ⊥) → held (made a) b ≡ held img b
+    others-held b outside =
+        omega (
+          arith,
+          made-held b,
+          extent-outside (made a) (geometryOf img) key protect (startFor img segments) (lengthFor img segments) b (λ low high. outside (low, high)),
+        )
+
   -- what was written, where nothing speaks against it
   image-is : (P : List ℕ → Type 0) → P img → ((a : Allocatable img key caller protect segments) → P (made a)) → P (alloc img key caller protect segments .image)
   unfolding alloc created
@@ -255,6 +284,22 @@ module _ (img : List ℕ) (key : Key) (caller protect segments : ℕ) where
   pub alloc-others : (b : ℕ) → (startFor img segments ≤ b → b < startFor img segments + lengthFor img segments → ⊥)
       → ownerOf (alloc img key caller protect segments .image) b ≡ ownerOf img b
   alloc-others b outside = image-is (λ img′. ownerOf img′ b ≡ ownerOf img b) refl (λ a. made-others a b outside)
+
+  -- each block of the run is then held once, and every other block as often as before
+  pub record HeldRun : Type 0 where
+    pub measures : geometryOf img ≡ geometryOf (alloc img key caller protect segments .image)
+    pub run : (b : ℕ) → InRun (startFor img segments) (lengthFor img segments) b → held (alloc img key caller protect segments .image) b ≡ 1
+    pub others : (b : ℕ) → (InRun (startFor img segments) (lengthFor img segments) b → ⊥)
+        → held (alloc img key caller protect segments .image) b ≡ held img b
+
+  pub alloc-held : alloc img key caller protect segments .code ≡ 0 → HeldRun
+  alloc-held success =
+      let a = alloc-allocatable success in
+      record {
+        measures = rw (image-made success) (made-stated a);
+        run = λ b inside. rw (image-made success) (run-held a b inside);
+        others = λ b outside. rw (image-made success) (others-held a b outside);
+      }
 
   -- the lowest empty entry, the free run with the highest start, and the entry of the new file
   pub record Made : Type 0 where

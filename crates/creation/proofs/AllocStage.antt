@@ -1,7 +1,7 @@
 -- ALLOC: its place in the table, what each answer of its stages comes to, and what there is where nothing speaks against it.
 use Prim.Native.Nat.{ℕ, _+_, _≤_, _<_}
 use mathlib.Core.Path.{_≡_, refl, sym, ap, _∙_}
-use mathlib.Core.Bool.{true}
+use mathlib.Core.Bool.{Bool, true}
 use mathlib.Core.List.{List, [], _∷_}
 use mathlib.Core.Option.{Option, none, some}
 use native.Mathlib.Omega.{arith}
@@ -21,12 +21,12 @@ use Rattle.asking.proofs.Outcome.{done-answer, refused-answer}
 use Rattle.room.specs.declared.Blocks.{Blocks}
 use Rattle.room.specs.RoomTest.{highestRun}
 use Rattle.room.specs.Room.{HighestRun, InRun}
-use Rattle.room.specs.RoomMap.{Says, FreeOn}
+use Rattle.room.specs.RoomMap.{Says, FreeOn, markedFrom}
 use Rattle.room.specs.Cleared.{cleared}
 use Rattle.room.proofs.RoomHighest.{run-highest, run-inside}
 use Rattle.room.proofs.RoomMapTaken.{free-on}
 use Rattle.pack.proofs.GeometryRoom.{sized-same}
-use Rattle.consistency.specs.ConsistentTest.{consistent}
+use Rattle.consistency.specs.Mapped.{MappedIf}
 use Rattle.consistency.proofs.ConsistentTestIff.{consistent-iff}
 use Rattle.pack.specs.EntryWords.{wordsOf, setEntryWords}
 use Rattle.pack.specs.EntryFields.{WordFields}
@@ -36,6 +36,7 @@ use Rattle.creation.specs.AllocRows.{allocRows}
 use Rattle.creation.specs.Rounding.{blocksFor, lengthFor}
 use Rattle.creation.specs.Alloc.{startFor, alloc, extentFrom}
 use Rattle.creation.specs.AllocStage.{allocatingOf}
+use Rattle.creation.specs.AllocMap.{allocMap}
 use Rattle.creation.specs.declared.alloc.Allocating.{Allocating}
 use Rattle.creation.specs.declared.alloc.Allocating.the-variants.{Extent, Refused}
 use Rattle.creation.proofs.AllocBlocks.{blocks-some}
@@ -45,6 +46,13 @@ use Rattle.creation.proofs.CreatingWritten.{created-at, writable, sized
 pub alloc-ordered : (img : List ℕ) (key : Key) (caller protect segments : ℕ) → inOrder tableOrder 0 (allocRows img key caller protect segments) ≡ true
 unfolding allocRows creatingRows
 alloc-ordered img key caller protect segments = refl
+
+-- a pack in which a file may be made is consistent, and so the map of its opening says how often each block is held
+pub allowed-mapped : {img map : List ℕ} {key : Key} {caller protect : ℕ} {wrong : Bool} {g : Geometry} {e : ℕ}
+    → Allowed img key caller protect wrong g e → MappedIf map img → (g .blocks ≤ length map) × Says map img
+allowed-mapped a mapped =
+    let m = mapped (consistent-iff _ .1 (creatable _ _ _ _ _ (a .clear) .right)) in
+    (omega (arith, m .enough, ap (λ (h : Geometry). h .blocks) (a .measures)), m .says)
 
 module _ (img : List ℕ) (key : Key) (caller protect segments : ℕ) where
   -- what speaks against any new file comes first, and then 42
@@ -156,23 +164,25 @@ module _ (img : List ℕ) (key : Key) (caller protect segments : ℕ) where
         by (no never) = let same = told-denied never in let z : _≡_ {A = ℕ} 0 1 = cc in absurd (omega arith)
 
     -- the answers of the request
-    pub alloc-denied : (code : ℕ) → answer ≡ Refused code
+    pub alloc-denied : (code : ℕ) → answer ≡ Refused code → (map : List ℕ)
         → (code ≡ alloc img key caller protect segments .code)
         × (((0 ∷ []) ≡ alloc img key caller protect segments .numbers)
-        × (img ≡ alloc img key caller protect segments .image))
-    unfolding alloc
-    alloc-denied code told = by (ℕ-discrete (firstOf (allocRows img key caller protect segments)) 0)
+        × ((img ≡ alloc img key caller protect segments .image)
+        × (map ≡ allocMap map img key caller protect segments)))
+    unfolding alloc allocMap
+    alloc-denied code told map = by (ℕ-discrete (firstOf (allocRows img key caller protect segments)) 0)
       where
         by : Dec (firstOf (allocRows img key caller protect segments) ≡ 0)
             → (code ≡ alloc img key caller protect segments .code)
             × (((0 ∷ []) ≡ alloc img key caller protect segments .numbers)
-            × (img ≡ alloc img key caller protect segments .image))
+            × ((img ≡ alloc img key caller protect segments .image)
+            × (map ≡ allocMap map img key caller protect segments)))
         by (yes clear) = let same = told-clear clear in let z : _≡_ {A = ℕ} 0 1 = cc in absurd (omega arith)
         by (no never) =
             let same = told-denied never in
             let first : firstOf (allocRows img key caller protect segments) ≡ code = cc in
             let r = refused-answer (allocRows img key caller protect segments) img [] _ first (λ zero. never (first ∙ zero)) in
-            (r .0, (r .1, r .2))
+            (r .0, (r .1, (r .2, sym (refusal-is _ _ never))))
 
     module _ (g : Geometry) (e : ℕ) (s : BlockNo) (k : Blocks) (told : answer ≡ Extent g e s k) where
       -- the last block is one of the pack
@@ -196,28 +206,30 @@ module _ (img : List ℕ) (key : Key) (caller protect segments : ℕ) where
           )
 
       -- the blocks of the run are still free on the map when the entry is written
-      pub alloc-run : (map : List ℕ) → length map ≡ mostBlocks → (consistent img ≡ true → Says map img) → (img′ : List ℕ) → length img′ ≡ length img
+      pub alloc-run : (map : List ℕ) → MappedIf map img → (img′ : List ℕ) → length img′ ≡ length img
           → Sized img′ g × (((g .blocks ≤ length map) × (s .0 + k .0 ≤ g .blocks)) × ((b : ℕ) → InRun (s .0) (k .0) b → FreeOn map g b))
-      alloc-run map long says img′ same =
+      alloc-run map mapped img′ same =
           let c = chosen g e s k told in
           let a = allocatable (c .clear) in
-          let sized : Sized img g = sized-at (a .ready) (c .measures) (c .number) in (
-            sized-same sized same,
+          let m = mapped (consistent-iff img .1 (a .ready .right)) in
+          let blocks = ap (λ (h : Geometry). h .blocks) (c .measures) in (
+            sized-same (sized-at (a .ready) (c .measures) (c .number)) same,
             (
-              (omega (arith, long, sized .most), omega (arith, a .inside, c .start, c .length, ap (λ (h : Geometry). h .blocks) (c .measures))),
+              (omega (arith, m .enough, blocks), omega (arith, a .inside, c .start, c .length, blocks)),
               λ b run.
-                  free-on (says (consistent-iff img .1 (a .ready .right))) (c .measures)
+                  free-on (m .says) (c .measures)
                   (a .extent .run .free b (omega (arith, run .0, c .start)) (omega (arith, run .1, c .start, c .length))),
             ),
           )
 
       pub alloc-done : (img′ : List ℕ) → img′ ≡ setEntryWords img g e 0 (wordsOf (newFile key protect (extentFrom (s .0) (k .0))))
-          → (img″ : List ℕ) → img″ ≡ cleared img′ g (s .0) (k .0)
+          → (img″ : List ℕ) → img″ ≡ cleared img′ g (s .0) (k .0) → (map map′ : List ℕ) → map′ ≡ markedFrom map (s .0) (k .0)
           → (0 ≡ alloc img key caller protect segments .code)
           × (((s .0 ∷ []) ≡ alloc img key caller protect segments .numbers)
-          × (img″ ≡ alloc img key caller protect segments .image))
-      unfolding alloc
-      alloc-done img′ written img″ taken =
+          × ((img″ ≡ alloc img key caller protect segments .image)
+          × (map′ ≡ allocMap map img key caller protect segments)))
+      unfolding alloc allocMap
+      alloc-done img′ written img″ taken map map′ marked =
           let c = chosen g e s k told in
           let extent : (s .0 ≡ startFor img segments) × (k .0 ≡ lengthFor img segments) = (sym (c .start), sym (c .length)) in
           let entered : img′ ≡ created img (newFile key protect (extentFrom (startFor img segments) (lengthFor img segments))) =
@@ -227,4 +239,4 @@ module _ (img : List ℕ) (key : Key) (caller protect segments : ℕ) where
           let d =
           done-answer (allocRows img key caller protect segments) img [] _ (c .clear) (s .0 ∷ []) img″ (ap (λ (x : ℕ). x ∷ []) (sym (c .start)))
           (taken ∙ (λ i. cleared (entered i) (sym (c .measures) i) (extent .0 i) (extent .1 i))) in
-          (d .0, (d .1, d .2))
+          (d .0, (d .1, (d .2, marked ∙ ((λ i. markedFrom map (extent .0 i) (extent .1 i)) ∙ sym (success-is _ _ (c .clear))))))

@@ -16,10 +16,11 @@ use Rattle.pack.specs.Geometry.{geometryOf, slots}
 use Rattle.pack.specs.File.{blocksOf, one, count}
 use Rattle.pack.specs.Entry.{entryWord, entryOf, blocksAt, Contiguous, Linked, Used, Empty}
 use Rattle.pack.specs.Key.{keyIn, SameKey}
-use Rattle.pack.specs.Consistent.{Consistent}
+use Rattle.pack.specs.Consistent.{held, Consistent}
 use Rattle.pack.specs.Owner.{FreeBlock, placeFrom, ownerOf}
 use Rattle.pack.specs.Untouched.{Untouched}
 use Rattle.pack.proofs.HeaderTestWords.{listed-iff}
+use Rattle.pack.proofs.FileCount.{count-nil}
 use Rattle.pack.proofs.EntryRead.{empty-blocks}
 use Rattle.asking.proofs.Keys.{legal-iff, absent-iff}
 use Rattle.owners.proofs.OwnerPlaces.{place-none}
@@ -28,7 +29,7 @@ use Rattle.frame.specs.Framed.{Only, Never, Kept}
 use Rattle.frame.specs.Framing.{Framed}
 use Rattle.frame.specs.Framing.Distinct.{new}
 use Rattle.frame.proofs.FramedStays.{stated-framed, listed-framed}
-use Rattle.frame.proofs.FramedHeld.{framed-never}
+use Rattle.frame.proofs.FramedHeld.{framed-never, held-one}
 use Rattle.frame.proofs.FramedConsistent.{consistent-one}
 use Rattle.frame.proofs.UntouchedFramed.{untouched-framed}
 use Rattle.frame.proofs.OwnerFramed.{owner-framed}
@@ -82,6 +83,17 @@ module _ {img : List ℕ} {key : Key} {caller protect : ℕ} {wrong : Bool} (rea
 
     blocks-before : blocksAt img (geometryOf img) (entryFor img) ≡ []
     blocks-before = empty-blocks img (geometryOf img) (entryFor img) (ready .entry .empty)
+
+    -- each block is held as often as before, and by the new file as often as it has it
+    pub entered-held : (b : ℕ) → held after b ≡ held img b + count b (blocksOf after (geometryOf img) file)
+    entered-held b =
+        omega (
+          arith,
+          held-one refl (ready .right) (e .framed) (ready .entry .inside) b,
+          ap (count b) blocks-entered,
+          ap (count b) blocks-before,
+          count-nil b,
+        )
 
     module _
         (right-kind : Contiguous file ⊎ Linked after (geometryOf img) file)

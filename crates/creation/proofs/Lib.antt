@@ -13,3 +13,5 @@ pub mod AllocStage
 pub mod CreatingEffect
 pub mod OpenoEffect
 pub mod AllocEffect
+pub mod MarkedRun
+pub mod AllocMap

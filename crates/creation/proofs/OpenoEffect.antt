@@ -10,7 +10,7 @@ use Rattle.pack.specs.declared.Geometry.{Geometry}
 use Rattle.pack.specs.Geometry.{geometryOf}
 use Rattle.pack.specs.File.{chain, after, lastOf, blocksOf, count}
 use Rattle.pack.specs.Entry.{entryOf, Linked}
-use Rattle.pack.specs.Consistent.{Consistent}
+use Rattle.pack.specs.Consistent.{held, Consistent}
 use Rattle.pack.specs.Owner.{ownerOf}
 use Rattle.pack.specs.Untouched.{Untouched}
 use Rattle.pack.proofs.FileCount.{count-nil}
@@ -21,7 +21,7 @@ use Rattle.creation.specs.Creating.{created, LowestEmpty, newFile, entry
 use Rattle.creation.specs.OpenoRows.{openoRows}
 use Rattle.creation.specs.Openo.{openo, emptyOutput}
 use Rattle.creation.proofs.CreatingStage.{Creatable, creatable}
-use Rattle.creation.proofs.CreatingEffect.{entered, entry-entered, entered-untouched, entered-consistent, entered-others}
+use Rattle.creation.proofs.CreatingEffect.{entered, entry-entered, entered-untouched, entered-consistent, entered-others, entered-held}
 
 -- the new file has no block
 no-blocks : (img : List ℕ) (g : Geometry) (key : Key) (protect : ℕ) → blocksOf img g (newFile key protect emptyOutput) ≡ []
@@ -63,6 +63,12 @@ module _ (img : List ℕ) (key : Key) (caller protect : ℕ) where
   -- every block is whose it was
   pub openo-owner : (b : ℕ) → ownerOf (openo img key caller protect .image) b ≡ ownerOf img b
   openo-owner b = image-is (λ img′. ownerOf img′ b ≡ ownerOf img b) refl (λ ready. entered-others ready emptyOutput (entry-entered ready emptyOutput) b (none-counted ready b))
+
+  -- and is held as often as before
+  pub openo-held : Consistent img → (b : ℕ) → held (openo img key caller protect .image) b ≡ held img b
+  openo-held right b =
+      image-is (λ img′. held img′ b ≡ held img b) refl
+      (λ ready. omega (arith, entered-held ready emptyOutput (entry-entered ready emptyOutput) b, none-counted ready b))
 
   -- "OPENO: a new linked file of length 0, writer 2, readers 0. Lowest empty entry."
   pub openo-entry : openo img key caller protect .code ≡ 0

@@ -11,5 +11,6 @@ pub mod AllocRows
 pub mod Rounding
 pub mod Alloc
 pub mod AllocStage
+pub mod AllocMap
 pub mod OpenoRows
 pub mod Openo

@@ -1,18 +1,17 @@
 // ALLOC: a new contiguous file, all zero, in the free run with the highest start.
 ghost use mathlib.Core.Path.{_≡_};
-ghost use mathlib.Core.Bool.{true};
 ghost use mathlib.Core.List.{[], _∷_};
 ghost use Prim.Native.Nat.{_<_};
-ghost use lib.ListN.{replicate};
-ghost use Rattle.pack.specs.GeometrySized.{mostBlocks};
-ghost use Rattle.consistency.specs.ConsistentTest.{consistent};
-ghost use Rattle.room.specs.RoomMap.{Says};
+ghost use Rattle.consistency.specs.ConsistentTest.{openedOf};
+ghost use Rattle.consistency.specs.Mapped.{Lent, MappedIf};
 ghost use Rattle.creation.specs.Rounding.{blocksFor};
 ghost use Rattle.creation.specs.Alloc.{alloc};
 ghost use Rattle.creation.specs.AllocStage.{allocatingOf};
+ghost use Rattle.creation.specs.AllocMap.{allocMap};
 use crate::creating::Creating;
 use crate::creating::Shape;
 use answers::Answer;
+use consistency::Opened;
 use pack::BlockNo;
 use pack::Geometry;
 use pack::Key;
@@ -31,8 +30,50 @@ pub fn alloc(img: &mut [u8], key: Key, caller: usize, protect: usize, segments: 
     ensures { λ r. ⌜ (r .number ∷ []) ≡ alloc (now (img .entry)) key caller protect (segments .0) .numbers ⌝ }
     ensures { λ r. ⌜ now (img .exit) ≡ alloc (now (img .entry)) key caller protect (segments .0) .image ⌝ }
 {
+    if img.len() <= consistency::FEW_BYTES {
+        let mut map = [0u8; consistency::FEW_BLOCKS];
+        return alloc_lent(img, &mut map, key, caller, protect, segments);
+    }
     let mut map = [0u8; pack::MOST_BLOCKS];
-    match decide_alloc(img, &mut map, key, caller, protect, segments) {
+    alloc_lent(img, &mut map, key, caller, protect, segments)
+}
+
+// On a lent map.
+fn alloc_lent(
+    img: &mut [u8],
+    map: &mut [u8],
+    key: Key,
+    caller: usize,
+    protect: usize,
+    segments: Segments,
+) -> Answer
+    requires { ⌜ Lent (now map) (now img) ⌝ }
+    ensures { λ r. ⌜ r .code ≡ alloc (now (img .entry)) key caller protect (segments .0) .code ⌝ }
+    ensures { λ r. ⌜ (r .number ∷ []) ≡ alloc (now (img .entry)) key caller protect (segments .0) .numbers ⌝ }
+    ensures { λ r. ⌜ now (img .exit) ≡ alloc (now (img .entry)) key caller protect (segments .0) .image ⌝ }
+{
+    let opened = consistency::open_mapped(img, map);
+    alloc_opened(img, map, opened, key, caller, protect, segments)
+}
+
+// In a pack that was opened: the map that its opening filled is kept up.
+pub fn alloc_opened(
+    img: &mut [u8],
+    map: &mut [u8],
+    opened: Opened,
+    key: Key,
+    caller: usize,
+    protect: usize,
+    segments: Segments,
+) -> Answer
+    requires { ⌜ opened ≡ openedOf (now img) ⌝ }
+    requires { ⌜ MappedIf (now map) (now img) ⌝ }
+    ensures { λ r. ⌜ r .code ≡ alloc (now (img .entry)) key caller protect (segments .0) .code ⌝ }
+    ensures { λ r. ⌜ (r .number ∷ []) ≡ alloc (now (img .entry)) key caller protect (segments .0) .numbers ⌝ }
+    ensures { λ r. ⌜ now (img .exit) ≡ alloc (now (img .entry)) key caller protect (segments .0) .image ⌝ }
+    ensures { λ r. ⌜ now (map .exit) ≡ allocMap (now (map .entry)) (now (img .entry)) key caller protect (segments .0) ⌝ }
+{
+    match decide_alloc(img, map, opened, key, caller, protect, segments) {
         Allocating::Refused(code) => Answer { code, number: 0 },
         Allocating::Extent(g, e, start, count) => {
             let last = BlockNo(start.0 + count.0 - 1);
@@ -44,7 +85,7 @@ pub fn alloc(img: &mut [u8], key: Key, caller: usize, protect: usize, segments: 
                 writer: 0,
             };
             crate::creating::enter(img, g, e, key, protect, shape);
-            room::take_run(img, &mut map, g, start, count);
+            room::take_run(img, map, g, start, count);
             Answer {
                 code: 0,
                 number: start.0,
@@ -53,20 +94,20 @@ pub fn alloc(img: &mut [u8], key: Key, caller: usize, protect: usize, segments: 
     }
 }
 
-// The map is lent all zero, and where the image is consistent it then says how often each block is held.
 fn decide_alloc(
     img: &[u8],
-    map: &mut [u8],
+    map: &[u8],
+    opened: Opened,
     key: Key,
     caller: usize,
     protect: usize,
     segments: Segments,
 ) -> Allocating
-    requires { ⌜ now map ≡ replicate mostBlocks 0 ⌝ }
+    requires { ⌜ opened ≡ openedOf (now img) ⌝ }
+    requires { ⌜ MappedIf (now map) (now img) ⌝ }
     ensures { λ r. ⌜ r ≡ allocatingOf (now (img .entry)) key caller protect (segments .0) ⌝ }
-    ensures { λ r. ⌜ (consistent (now (img .entry)) ≡ true → Says (now (map .exit)) (now (img .entry))) ⌝ }
 {
-    match crate::creating::decide_creating(img, map, key, caller, protect, segments.0 == 0) {
+    match crate::creating::decide_creating(img, opened, key, caller, protect, segments.0 == 0) {
         Creating::Refused(code) => Allocating::Refused(code),
         Creating::At(g, e) => {
             let count = blocks_for(segments, g);

@@ -1,14 +1,10 @@
 // What ALLOC and OPENO share: whether a file may be made and which entry it gets, and the words of its entry.
 ghost use mathlib.Core.Path.{_≡_};
-ghost use mathlib.Core.Bool.{true};
 ghost use Prim.Native.Nat.{ℕ, _<_};
-ghost use lib.ListN.{getD, replicate};
-ghost use Rattle.pack.specs.GeometrySized.{mostBlocks, Sized};
+ghost use Rattle.pack.specs.GeometrySized.{Sized};
 ghost use Rattle.pack.specs.Geometry.{slots};
 ghost use Rattle.pack.specs.Entry.{RightEntry};
-ghost use Rattle.pack.specs.Consistent.{held};
-ghost use Rattle.consistency.specs.declared.Opened.the-variants.{Good};
-ghost use Rattle.consistency.specs.ConsistentTest.{consistent, openedOf};
+ghost use Rattle.consistency.specs.ConsistentTest.{openedOf};
 ghost use Rattle.asking.specs.AskedStage.{foundIn};
 ghost use Rattle.pack.specs.EntryWords.{wordsOf, setEntryWords};
 ghost use Rattle.pack.specs.EntryFields.{WordFields};
@@ -37,37 +33,21 @@ pub struct Shape {
     pub writer: usize,
 }
 
-// The map is lent all zero, and where the image is consistent it then says how often each block is held.
+// In a pack that was opened: what else can refuse, in the order of the table, and the entry of the new file where nothing does.
 pub fn decide_creating(
     img: &[u8],
-    map: &mut [u8],
+    opened: Opened,
     key: Key,
     caller: usize,
     protect: usize,
     wrong: bool,
 ) -> Creating
-    requires { ⌜ now map ≡ replicate mostBlocks 0 ⌝ }
+    requires { ⌜ opened ≡ openedOf (now img) ⌝ }
     ensures { λ r. ⌜ r ≡ creatingOf (now (img .entry)) key caller protect wrong ⌝ }
-    ensures { λ r. ⌜ (consistent (now (img .entry)) ≡ true → (b : ℕ) → getD (now (map .exit)) b 0 ≡ held (now (img .entry)) b) ⌝ }
 {
-    let Opened::Good(g) = consistency::open_pack(img, map) else {
+    let Opened::Good(g) = opened else {
         return Creating::Refused(0o40);
     };
-    choose_entry(img, g, key, caller, protect, wrong)
-}
-
-// Of a consistent image: what else can refuse, in the order of the table, and the entry of the new file where nothing does.
-fn choose_entry(
-    img: &[u8],
-    g: Geometry,
-    key: Key,
-    caller: usize,
-    protect: usize,
-    wrong: bool,
-) -> Creating
-    requires { ⌜ openedOf (now img) ≡ Good g ⌝ }
-    ensures { λ r. ⌜ r ≡ creatingOf (now (img .entry)) key caller protect wrong ⌝ }
-{
     if !asking::is_legal(key) {
         return Creating::Refused(0o15);
     }
