@@ -1,5 +1,5 @@
 -- What a DELET leaves: a consistent image, all other files, no entry of the deleted one, and its blocks free.
-use Prim.Native.Nat.{ℕ, _*_, _≤_, _<_}
+use Prim.Native.Nat.{ℕ, _+_, _*_, _≤_, _<_}
 use mathlib.Core.Path.{_≡_, refl, sym, ap, subst, _∙_}
 use mathlib.Core.List.{List, []}
 use mathlib.Core.Option.{none}
@@ -26,7 +26,7 @@ use Rattle.frame.specs.Framed.{ChangesOnly, InEntry, Only, Never, Kept}
 use Rattle.frame.specs.Framed.Within.{entry}
 use Rattle.frame.specs.Framing.{Framed}
 use Rattle.frame.proofs.EntrySame.{right-bodies}
-use Rattle.frame.proofs.FramedStays.{geometry-framed, entries-at}
+use Rattle.frame.proofs.FramedStays.{stated-framed, entries-at}
 use Rattle.frame.proofs.FramedHeld.{framed-never, held-one}
 use Rattle.frame.proofs.Described.{consistent-emptied}
 use Rattle.frame.proofs.UntouchedFramed.{untouched-refl, untouched-one}
@@ -62,6 +62,13 @@ module _ {img : List ℕ} {key : Key} {g : Geometry} {e : ℕ} (c : Cleared img 
   no-blocks : (b : ℕ) → count b (blocksAt (clearEntry img g e) g e) ≡ 0
   no-blocks b = ap (count b) (empty-blocks (clearEntry img g e) g e empty) ∙ count-nil b
 
+  -- the blocks of the file are given up, and the measures stay
+  pub cleared-held : (b : ℕ) → held img b ≡ held (clearEntry img g e) b + count b (blocksAt img g e)
+  cleared-held b = omega (arith, no-blocks b, held-one (c .measures) (c .right) framed (c .inside) b)
+
+  pub cleared-measures : g ≡ geometryOf (clearEntry img g e)
+  cleared-measures = stated-framed (c .measures) (c .right) framed
+
   cleared-consistent : Consistent (clearEntry img g e)
   cleared-consistent = consistent-emptied (c .measures) (c .right) framed (c .inside) empty
 
@@ -74,9 +81,8 @@ module _ {img : List ℕ} {key : Key} {g : Geometry} {e : ℕ} (c : Cleared img 
   cleared-free : (b : ℕ) → 0 < count b (blocksAt img g e) → ownerOf (clearEntry img g e) b ≡ Free
   cleared-free b some =
       let body = right-bodies img g e b (entries-at img g (c .measures) (c .right) e (c .inside)) some in
-      let bodies = ap (λ (h : Geometry). h .bodies .0) (c .measures ∙ sym (geometry-framed (c .measures) (c .right) framed)) in
-      let unheld : held (clearEntry img g e) b ≡ 0 =
-      omega (arith, some, no-blocks b, c .right .once b, held-one (c .measures) (c .right) framed (c .inside) b) in
+      let bodies = ap (λ (h : Geometry). h .bodies .0) cleared-measures in
+      let unheld : held (clearEntry img g e) b ≡ 0 = omega (arith, some, c .right .once b, cleared-held b) in
       owner-free cleared-consistent b .1 (omega (arith, body .0, bodies), unheld)
 
   -- no entry has the key any more
@@ -84,7 +90,7 @@ module _ {img : List ℕ} {key : Key} {g : Geometry} {e : ℕ} (c : Cleared img 
   cleared-absent =
       absent-iff cleared-consistent key (c .legal) .1
       (subst (λ (h : Geometry). (i : ℕ) → i < slots h → SameKey (keyIn (entryOf (clearEntry img g e) h i)) key → ⊥)
-      (c .measures ∙ sym (geometry-framed (c .measures) (c .right) framed)) nowhere)
+      cleared-measures nowhere)
     where
       nowhere : (i : ℕ) → i < slots g → SameKey (keyIn (entryOf (clearEntry img g e) g i)) key → ⊥
       nowhere i within keyed = by (ℕ-discrete i e)

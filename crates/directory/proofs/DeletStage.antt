@@ -1,27 +1,36 @@
 -- DELET: its rows stand in the table's order, and what the code answers at each of its returns.
-use Prim.Native.Nat.{ℕ, _<_}
-use mathlib.Core.Path.{_≡_, refl, sym, _∙_}
+use Prim.Native.Nat.{ℕ, _≤_, _<_}
+use mathlib.Core.Path.{_≡_, refl, sym, ap, subst, _∙_}
 use mathlib.Core.Bool.{true, false}
 use mathlib.Core.List.{List}
-use native.Mathlib.Omega.{arith}
+use lib.ListN.{length}
 use Rattle.answers.specs.Refusals.{firstOf, tableOrder, inOrder}
+use Rattle.answers.specs.declared.Verdict.{Verdict}
+use Rattle.answers.specs.declared.Verdict.the-variants.{Clear, Refused as Stopped}
+use Rattle.answers.specs.Stage.{verdictOf}
+use Rattle.answers.proofs.Refusals.{success-is, refusal-is}
 use Rattle.pack.specs.declared.Geometry.{Geometry}
 use Rattle.pack.specs.declared.Entry.{Entry}
 use Rattle.pack.specs.declared.Key.{Key}
-use Rattle.pack.specs.Geometry.{slots}
+use Rattle.pack.specs.Geometry.{geometryOf, slots}
 use Rattle.pack.specs.GeometrySized.{Sized}
+use Rattle.pack.specs.File.{blocksOf, count}
+use Rattle.pack.specs.EntryWords.{clearEntry}
+use Rattle.consistency.specs.Mapped.{MappedIf}
+use Rattle.consistency.proofs.ConsistentTestIff.{consistent-iff}
 use Rattle.asking.specs.declared.Right.the-variants.{Delete}
 use Rattle.asking.specs.declared.Asked.{Asked}
 use Rattle.asking.specs.declared.Asked.the-variants.{File, Refused}
 use Rattle.asking.specs.AskedStage.{fileRows, askedOf, stageOf}
-use Rattle.asking.specs.RightsTest.{may}
-use Rattle.asking.specs.OpensTest.{isOpen}
-use Rattle.pack.specs.EntryWords.{clearEntry}
-use Rattle.asking.proofs.AskedStage.{stage-clear, stage-refused, stage-stopped, stage-passed, stage-is-file, writing-refused, writing-done}
+use Rattle.asking.specs.Asked.{fileOf}
+use Rattle.asking.proofs.AskedStage.{Given, stage-clear, stage-is-refused, stage-is-file, writing-refused, writing-done}
+use Rattle.asking.proofs.AskedCleared.{Cleared, FileCleared, asked-cleared, given-cleared}
+use Rattle.room.specs.RoomMap.{unmarked}
+use Rattle.directory.specs.PermitRows.{permitRows}
 use Rattle.directory.specs.DeletRows.{deletRows}
 use Rattle.directory.specs.Delet.{delet}
-use Rattle.asking.proofs.AskedCleared.{FileCleared, asked-cleared, given-cleared}
-use Rattle.directory.proofs.DeletLacking.{lacking, lacking-right, lacking-open, lacking-none}
+use Rattle.directory.specs.DeletMap.{deletMap}
+use Rattle.directory.proofs.PermitStage.{permitted-refused, permitted-stopped, permitted-passed}
 
 pub delet-ordered : (img : List ℕ) (key : Key) (caller : ℕ) → inOrder tableOrder 0 (deletRows img key caller) ≡ true
 unfolding deletRows fileRows
@@ -31,43 +40,68 @@ module _ (img : List ℕ) (key : Key) (caller : ℕ) where
   -- the file, where no row refuses
   pub delet-cleared : firstOf (deletRows img key caller) ≡ 0 → FileCleared img key
   unfolding deletRows
-  delet-cleared passed = asked-cleared (stage-clear img key false (lacking Delete caller) passed .file)
+  delet-cleared passed = asked-cleared (stage-clear img key false (permitRows Delete caller) passed .file)
 
   -- the decision
   module _ (asked : Asked) (is : asked ≡ askedOf img key false) where
     pub decide-refused : (code : ℕ) → asked ≡ Refused code → asked ≡ stageOf (deletRows img key caller) img key
-    unfolding deletRows
-    decide-refused code told = told ∙ stage-refused img key false (lacking Delete caller) asked is code told
+    unfolding deletRows fileRows
+    decide-refused = permitted-refused (fileRows img key false) refl img key Delete caller asked is
 
-    module _ (g : Geometry) (e : ℕ) (x : Entry) (told : asked ≡ File g e x) where
-      pub decide-denied : may Delete caller (x .uic) (x .protect) ≡ false → Refused 0o6 ≡ stageOf (deletRows img key caller) img key
-      unfolding deletRows
-      decide-denied denied =
-          stage-stopped img key false (lacking Delete caller) asked is g e x told (lacking-right Delete caller x denied) (λ is. omega (arith, is))
+    module _ (g : Geometry) (e : ℕ) (x : Entry) (told : asked ≡ File g e x) (verdict : Verdict) (judged : verdict ≡ verdictOf (permitRows Delete caller x)) where
+      pub decide-stopped : (code : ℕ) → verdict ≡ Stopped code → Refused code ≡ stageOf (deletRows img key caller) img key
+      unfolding deletRows fileRows
+      decide-stopped = permitted-stopped (fileRows img key false) refl img key Delete caller asked is g e x told verdict judged
 
-      module _ (granted : may Delete caller (x .uic) (x .protect) ≡ true) where
-        pub decide-open : isOpen x ≡ true → Refused 0o14 ≡ stageOf (deletRows img key caller) img key
-        unfolding deletRows
-        decide-open opened =
-            stage-stopped img key false (lacking Delete caller) asked is g e x told (lacking-open Delete caller x granted opened) (λ is. omega (arith, is))
-
-        pub decide-granted : isOpen x ≡ false → File g e x ≡ stageOf (deletRows img key caller) img key
-        unfolding deletRows
-        decide-granted closed = stage-passed img key false (lacking Delete caller) asked is g e x told (lacking-none Delete caller x granted closed) refl
+      pub decide-passed : verdict ≡ Clear → File g e x ≡ stageOf (deletRows img key caller) img key
+      unfolding deletRows fileRows
+      decide-passed = permitted-passed (fileRows img key false) refl img key Delete caller asked is g e x told verdict judged
 
   -- the answer behind it
   module _ (decision : Asked) (is : decision ≡ stageOf (deletRows img key caller) img key) where
-    pub deleting-refused : (code : ℕ) → decision ≡ Refused code → (code ≡ delet img key caller .code) × (img ≡ delet img key caller .image)
-    unfolding delet
-    deleting-refused = writing-refused (deletRows img key caller) img key (λ g e x. clearEntry img g e) decision is
+    pub deleting-refused : (code : ℕ) → decision ≡ Refused code → (map : List ℕ)
+        → (code ≡ delet img key caller .code) × ((img ≡ delet img key caller .image) × (map ≡ deletMap map img key caller))
+    unfolding delet deletMap
+    deleting-refused code told map =
+        let o = writing-refused (deletRows img key caller) img key (λ g e x. clearEntry img g e) decision is code told in
+        let r = stage-is-refused (deletRows img key caller) img key code (sym is ∙ told) in
+        (o .0, (o .1, sym (refusal-is _ map (λ zero. r .not-zero (sym (r .first) ∙ zero)))))
 
     module _ (g : Geometry) (e : ℕ) (x : Entry) (told : decision ≡ File g e x) where
-      pub deleting-room : Sized img g × (e < slots g)
-      deleting-room =
-          let given = stage-is-file (deletRows img key caller) img key g e x (sym is ∙ told) in
-          let c = given-cleared given (delet-cleared (given .clear)) in
-          (c .sized, c .inside)
+      given : Given (deletRows img key caller) img key g e x
+      given = stage-is-file (deletRows img key caller) img key g e x (sym is ∙ told)
 
-      pub deleting-done : (img′ : List ℕ) → img′ ≡ clearEntry img g e → (0 ≡ delet img key caller .code) × (img′ ≡ delet img key caller .image)
+      cleared : Cleared img key g e
+      cleared = given-cleared given (delet-cleared (given .clear))
+
+      pub deleting-room : Sized img g × (e < slots g)
+      deleting-room = (cleared .sized, cleared .inside)
+
+      -- what giving its blocks up asks
+      pub deleting-held : (map : List ℕ) → MappedIf map img
+          → Sized img g × ((g .blocks ≤ length map) × ((z : ℕ) → 0 < count z (blocksOf img g x) → z < g .blocks))
+      unfolding fileOf
+      deleting-held map mapped =
+          let file = delet-cleared (given .clear) in
+          let m = mapped (consistent-iff img .1 (file .right)) in (
+            cleared .sized,
+            (
+              subst (λ (h : Geometry). h .blocks ≤ length map) (given .measures) (m .enough),
+              λ z some. subst (λ (y : Entry). 0 < count z (blocksOf img g y) → z < g .blocks) (given .file)
+                  (subst (λ (h : Geometry). 0 < count z (blocksOf img h (fileOf img key)) → z < h .blocks) (given .measures) (λ more. file .used .bodies z more .1)) some,
+            ),
+          )
+
+      pub deleting-cleared : (img′ : List ℕ) → img′ ≡ clearEntry img g e → (0 ≡ delet img key caller .code) × (img′ ≡ delet img key caller .image)
       unfolding delet
-      deleting-done = writing-done (deletRows img key caller) img key (λ g e x. clearEntry img g e) decision is g e x told
+      deleting-cleared = writing-done (deletRows img key caller) img key (λ g e x. clearEntry img g e) decision is g e x told
+
+      pub deleting-done : (img′ : List ℕ) → img′ ≡ clearEntry img g e → (map map′ : List ℕ) → map′ ≡ unmarked map (blocksOf img g x)
+          → (0 ≡ delet img key caller .code) × ((img′ ≡ delet img key caller .image) × (map′ ≡ deletMap map img key caller))
+      unfolding deletMap fileOf
+      deleting-done img′ written map map′ gives =
+          let o = deleting-cleared img′ written in
+          let own : unmarked map (blocksOf img (geometryOf img) (fileOf img key)) ≡ unmarked map (blocksOf img g x) =
+          ap (λ (h : Geometry). unmarked map (blocksOf img h (fileOf img key))) (given .measures)
+          ∙ ap (λ (y : Entry). unmarked map (blocksOf img g y)) (given .file) in
+          (o .0, (o .1, gives ∙ (sym own ∙ sym (success-is _ map (given .clear)))))

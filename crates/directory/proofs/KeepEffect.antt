@@ -17,7 +17,7 @@ use Rattle.pack.specs.declared.Key.{Key}
 use Rattle.pack.specs.Geometry.{geometryOf, entryAt}
 use Rattle.pack.specs.Entry.{entryWord, entryOf}
 use Rattle.pack.specs.Key.{keyIn, SameKey}
-use Rattle.pack.specs.Consistent.{Consistent}
+use Rattle.pack.specs.Consistent.{held, Consistent}
 use Rattle.pack.specs.Owner.{ownerOf}
 use Rattle.pack.specs.Untouched.{Untouched}
 use Rattle.pack.proofs.GeometryRoom.{entry-room}
@@ -37,7 +37,7 @@ use Rattle.directory.specs.Keep.{keptCode, keep}
 use Rattle.asking.proofs.Outcome.{code-is, success-image, refusal-keeps, image-by}
 use Rattle.asking.specs.Outcome.{Unchanged}
 use Rattle.asking.proofs.AskedCleared.{Cleared, FileCleared}
-use Rattle.directory.proofs.RenamRelabelled.{labelled, Relabelled, relabelled-framed, relabelled-entry, relabelled-owner, relabelled-consistent, relabelled-found}
+use Rattle.directory.proofs.RenamRelabelled.{labelled, Relabelled, relabelled-framed, relabelled-entry, relabelled-owner, relabelled-held, relabelled-consistent, relabelled-found}
 use Rattle.directory.proofs.KeepStage.{owner-only, keep-cleared, kept-small, kept-again}
 
 -- a word set once more to the same
@@ -99,6 +99,13 @@ module _ (img : List ℕ) (key : Key) (caller : ℕ) where
     keep-owner b =
         image-by (keepRows img key caller) img [] _ (λ img′. ownerOf img′ b ≡ ownerOf img b) refl
         (λ passed. let c = keep-cleared img key caller passed in relabelled-owner c (relabelled c _) b)
+
+    -- and is held as often as it was
+    pub keep-held : (b : ℕ) → held (keep img key caller .image) b ≡ held img b
+    unfolding keep
+    keep-held b =
+        image-by (keepRows img key caller) img [] _ (λ img′. held img′ b ≡ held img b) refl
+        (λ passed. let c = keep-cleared img key caller passed in relabelled-held c (relabelled c _) b)
 
   -- KEEP once more
   module _ (passed : firstOf (keepRows img key caller) ≡ 0) where

@@ -12,7 +12,7 @@ use Rattle.pack.specs.declared.Key.{Key}
 use Rattle.pack.specs.Geometry.{geometryOf, slots}
 use Rattle.pack.specs.GeometrySized.{Sized}
 use Rattle.pack.specs.Entry.{entryWord, entryOf}
-use Rattle.pack.specs.Consistent.{Consistent}
+use Rattle.pack.specs.Consistent.{held, Consistent}
 use Rattle.pack.specs.Owner.{ownerOf}
 use Rattle.pack.specs.Key.{keyIn, SameKey}
 use Rattle.pack.specs.Untouched.{Untouched}
@@ -37,7 +37,7 @@ use Rattle.directory.specs.Renam.{renamed, renam}
 use Rattle.asking.proofs.Outcome.{code-is, success-image, refusal-keeps, image-by}
 use Rattle.asking.specs.Outcome.{Unchanged}
 use Rattle.asking.proofs.AskedCleared.{Cleared}
-use Rattle.directory.proofs.RenamRelabelled.{labelled, Relabelled, relabelled-framed, relabelled-entry, relabelled-owner, relabelled-consistent, relabelled-found}
+use Rattle.directory.proofs.RenamRelabelled.{labelled, Relabelled, relabelled-framed, relabelled-entry, relabelled-owner, relabelled-held, relabelled-consistent, relabelled-found}
 use Rattle.directory.proofs.RenamStage.{Passed, renam-passed, renam-cleared}
 
 -- the image with name and extension set, and then the protect code
@@ -163,6 +163,13 @@ module _ (img : List ℕ) (old new : Key) (protect caller : ℕ) where
     renam-owner b =
         image-by (renamRows img old new protect caller) img [] _ (λ img′. ownerOf img′ b ≡ ownerOf img b) refl
         (λ passed. let c = renam-cleared img old new protect caller passed in relabelled-owner c (relabelled c new protect) b)
+
+    -- and is held as often as it was
+    pub renam-held : (b : ℕ) → held (renam img old new protect caller .image) b ≡ held img b
+    unfolding renam
+    renam-held b =
+        image-by (renamRows img old new protect caller) img [] _ (λ img′. held img′ b ≡ held img b) refl
+        (λ passed. let c = renam-cleared img old new protect caller passed in relabelled-held c (relabelled c new protect) b)
 
     module _ (same : new .uic ≡ old .uic) where
       pub renam-consistent : Consistent (renam img old new protect caller .image)

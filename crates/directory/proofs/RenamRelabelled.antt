@@ -1,4 +1,4 @@
--- An entry that keeps its file and its UIC, and may have another name, extension and protect code: the image stays consistent and every block its owner.
+-- An entry that keeps its file and its UIC, and may have another name, extension and protect code: the image stays consistent, every block its owner, and as often held as it was.
 use Prim.Native.Nat.{ℕ, _≤_, _<_}
 use mathlib.Core.Path.{_≡_, sym, ap, subst}
 use mathlib.Core.Bool.{true}
@@ -12,7 +12,8 @@ use Rattle.pack.specs.declared.Entry.{Entry}
 use Rattle.pack.specs.declared.Key.{Key}
 use Rattle.pack.specs.Geometry.{geometryOf, slots}
 use Rattle.pack.specs.Entry.{entryWord, entryOf, blocksAt}
-use Rattle.pack.specs.Consistent.{Consistent}
+use Rattle.pack.specs.File.{count}
+use Rattle.pack.specs.Consistent.{held, Consistent}
 use Rattle.pack.specs.Owner.{placeFrom, ownerOf}
 use Rattle.pack.specs.Key.{keyIn, SameKey}
 use Rattle.asking.specs.KeysTest.{legalKey, found}
@@ -21,7 +22,7 @@ use Rattle.frame.specs.Framed.{Only, Never, Kept}
 use Rattle.frame.specs.Framing.{Framed, Distinct}
 use Rattle.frame.specs.Described.{Described, Description}
 use Rattle.frame.proofs.FramedStays.{stated-framed, listed-framed}
-use Rattle.frame.proofs.FramedHeld.{framed-never}
+use Rattle.frame.proofs.FramedHeld.{framed-never, held-one}
 use Rattle.frame.proofs.Described.{next-unwritten, used-description, described-blocks, consistent-described}
 use Rattle.frame.proofs.OwnerFramed.{owner-framed}
 use Rattle.asking.proofs.AskedCleared.{Cleared}
@@ -91,6 +92,9 @@ module _
   relabelled-owner b =
       owner-framed (c .measures) (c .right) relabelled-framed (λ i. ℕ-discrete i e) b
       (λ i within is. subst (λ (j : ℕ). placeFrom b 0 (blocksAt img′ g j) ≡ placeFrom b 0 (blocksAt img g j)) (sym is) (ap (placeFrom b 0) (described-blocks described)))
+
+  pub relabelled-held : (b : ℕ) → held img′ b ≡ held img b
+  relabelled-held b = omega (arith, held-one (c .measures) (c .right) relabelled-framed (c .inside) b, ap (count b) (described-blocks described))
 
   pub relabelled-consistent : LegalName name1 name2 → LegalExtension extension → protect ≤ 255 → Distinct img img′ g e → Consistent img′
   relabelled-consistent name short small distinct =

@@ -1,37 +1,73 @@
 // DELET.
 ghost use mathlib.Core.Path.{_≡_};
+ghost use Rattle.consistency.specs.ConsistentTest.{openedOf};
+ghost use Rattle.consistency.specs.Mapped.{Lent, MappedIf};
 ghost use Rattle.asking.specs.AskedStage.{stageOf};
 ghost use Rattle.directory.specs.DeletRows.{deletRows};
 ghost use Rattle.directory.specs.Delet.{delet};
+ghost use Rattle.directory.specs.DeletMap.{deletMap};
+use crate::permit;
+use answers::Verdict;
 use asking::Asked;
-use asking::Grant;
 use asking::Right;
+use consistency::Opened;
 use pack::Key;
 
-fn decide_delete(img: &[u8], key: Key, caller: usize) -> Asked
+fn decide_delet(img: &[u8], opened: Opened, key: Key, caller: usize) -> Asked
+    requires { ⌜ opened ≡ openedOf (now img) ⌝ }
     ensures { λ r. ⌜ r ≡ stageOf (deletRows (now (img .entry)) key caller) (now (img .entry)) key ⌝ }
 {
-    let mut map = [0u8; pack::MOST_BLOCKS];
-    let asked = asking::ask_file(img, &mut map, key, false);
+    let asked = asking::ask_file(img, opened, key, false);
     let Asked::File(_, _, x) = asked else {
         return asked;
     };
-    let Grant::Granted = asking::ask_right(Right::Delete, caller, x) else {
-        return Asked::Refused(0o6);
-    };
-    if asking::is_open(x) {
-        return Asked::Refused(0o14);
+    if let Verdict::Refused(code) = permit::judge_permit(Right::Delete, caller, x) {
+        return Asked::Refused(code);
     }
     asked
 }
 
-pub fn delete(img: &mut [u8], key: Key, caller: usize) -> usize
+// A small pack does not pay for the clearing of a large map.
+pub fn delet(img: &mut [u8], key: Key, caller: usize) -> usize
     ensures { λ r. ⌜ r ≡ delet (now (img .entry)) key caller .code ⌝ }
     ensures { λ r. ⌜ now (img .exit) ≡ delet (now (img .entry)) key caller .image ⌝ }
 {
-    match decide_delete(img, key, caller) {
+    if img.len() <= consistency::FEW_BYTES {
+        let mut map = [0u8; consistency::FEW_BLOCKS];
+        return delet_lent(img, &mut map, key, caller);
+    }
+    let mut map = [0u8; pack::MOST_BLOCKS];
+    delet_lent(img, &mut map, key, caller)
+}
+
+// On a lent map.
+fn delet_lent(img: &mut [u8], map: &mut [u8], key: Key, caller: usize) -> usize
+    requires { ⌜ Lent (now map) (now img) ⌝ }
+    ensures { λ r. ⌜ r ≡ delet (now (img .entry)) key caller .code ⌝ }
+    ensures { λ r. ⌜ now (img .exit) ≡ delet (now (img .entry)) key caller .image ⌝ }
+{
+    let opened = consistency::open_mapped(img, map);
+    delet_opened(img, map, opened, key, caller)
+}
+
+// In a pack that was opened, the blocks of the file are given up on its map.
+pub fn delet_opened(
+    img: &mut [u8],
+    map: &mut [u8],
+    opened: Opened,
+    key: Key,
+    caller: usize,
+) -> usize
+    requires { ⌜ opened ≡ openedOf (now img) ⌝ }
+    requires { ⌜ MappedIf (now map) (now img) ⌝ }
+    ensures { λ r. ⌜ r ≡ delet (now (img .entry)) key caller .code ⌝ }
+    ensures { λ r. ⌜ now (img .exit) ≡ delet (now (img .entry)) key caller .image ⌝ }
+    ensures { λ r. ⌜ now (map .exit) ≡ deletMap (now (map .entry)) (now (img .entry)) key caller ⌝ }
+{
+    match decide_delet(img, opened, key, caller) {
         Asked::Refused(code) => code,
-        Asked::File(g, e, _) => {
+        Asked::File(g, e, x) => {
+            room::give_up(img, map, g, x);
             pack::clear_entry(img, g, e);
             0
         }

@@ -1,7 +1,9 @@
 // LOOK.
 ghost use mathlib.Core.Path.{_≡_};
+ghost use Rattle.consistency.specs.ConsistentTest.{openedOf};
 ghost use Rattle.directory.specs.Look.{look, lookOutcome};
 use asking::Asked;
+use consistency::Opened;
 use pack::Key;
 
 // Code first; the other numbers are 0 on a refusal.
@@ -19,8 +21,15 @@ pub struct LookAnswer {
 pub fn look(img: &[u8], key: Key) -> LookAnswer
     ensures { λ r. ⌜ lookOutcome (now (img .entry)) r ≡ look (now (img .entry)) key ⌝ }
 {
-    let mut map = [0u8; pack::MOST_BLOCKS];
-    match asking::ask_file(img, &mut map, key, false) {
+    look_opened(img, consistency::open_pack(img), key)
+}
+
+// In a pack that was opened.
+pub fn look_opened(img: &[u8], opened: Opened, key: Key) -> LookAnswer
+    requires { ⌜ opened ≡ openedOf (now img) ⌝ }
+    ensures { λ r. ⌜ lookOutcome (now (img .entry)) r ≡ look (now (img .entry)) key ⌝ }
+{
+    match asking::ask_file(img, opened, key, false) {
         Asked::Refused(code) => LookAnswer {
             code,
             kind: 0,

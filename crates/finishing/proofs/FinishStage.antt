@@ -30,12 +30,12 @@ module _ (img : List ℕ) (caller : ℕ) (r : Opened) (is : r ≡ openedOf img) 
   finish-40 bad = let o = refused-answer (finishRows img) img [] _ (refused bad) (λ zero. omega (arith, zero)) in (o .0, (o .1, o .2))
 
   module _ (g : Geometry) (good : r ≡ Good g) where
-    pub finish-opened : Consistent img × (geometryOf img ≡ g)
-    finish-opened = let o = opened-good img g (sym is ∙ good) in (o .0, o .1)
+    pub finish-good : Consistent img × (geometryOf img ≡ g)
+    finish-good = let o = opened-good img g (sym is ∙ good) in (o .0, o .1)
 
     pub finish-done : (number : ℕ) (img′ : List ℕ) → number ≡ length (scratchKeys img caller) → img′ ≡ deletedAll img caller (scratchKeys img caller)
         → (0 ≡ finish img caller .code) × (((number ∷ []) ≡ finish img caller .numbers) × (img′ ≡ finish img caller .image))
     unfolding finish
     finish-done number img′ told written =
-        let o = done-answer (finishRows img) img [] _ (right-clear (finish-opened .0)) (number ∷ []) img′ (ap (λ (n : ℕ). n ∷ []) told) written in
+        let o = done-answer (finishRows img) img [] _ (right-clear (finish-good .0)) (number ∷ []) img′ (ap (λ (n : ℕ). n ∷ []) told) written in
         (o .0, (o .1, o .2))

@@ -16,14 +16,18 @@ use Rattle.pack.specs.EntryWords.{clearEntry}
 use Rattle.pack.specs.Consistent.{Consistent}
 use Rattle.pack.proofs.KeySame.{equal-same}
 use Rattle.consistency.proofs.ConsistentTestIff.{consistent-iff}
+use Rattle.answers.specs.declared.Verdict.the-variants.{Clear}
 use Rattle.asking.specs.declared.Asked.the-variants.{File}
+use Rattle.asking.specs.declared.Right.the-variants.{Delete}
+use Rattle.asking.specs.declared.Grant.the-variants.{Granted}
 use Rattle.asking.specs.KeysTest.{legalKey, found}
 use Rattle.asking.specs.AskedStage.{askedOf, stageOf}
 use Rattle.asking.proofs.Keys.{legal-iff, found-iff}
 use Rattle.asking.proofs.AskedStage.{asked-file, file-at}
 use Rattle.directory.specs.DeletRows.{deletRows}
 use Rattle.directory.specs.Delet.{delet}
-use Rattle.directory.proofs.DeletStage.{decide-granted, deleting-done}
+use Rattle.directory.proofs.PermitStage.{permit-clear}
+use Rattle.directory.proofs.DeletStage.{decide-passed, deleting-cleared}
 use Rattle.frame.proofs.FramedStays.{entries-at}
 use Rattle.finishing.specs.ScratchTest.{isScratch}
 use Rattle.finishing.proofs.ScratchTestPasses.{Passes, scratch-passes}
@@ -68,10 +72,12 @@ module _ {img : List ℕ} {g : Geometry} (stated : g ≡ geometryOf img) (right 
         (asked-file img key false (consistent-iff img .1 right) legal refl e (found-own legal))
 
     decided : File g e (entryOf img g e) ≡ stageOf (deletRows img key caller) img key
-    decided = decide-granted img key caller _ asked g e (entryOf img g e) refl (passes .granted) (passes .closed)
+    decided =
+        decide-passed img key caller _ asked g e (entryOf img g e) refl Clear
+        (permit-clear Delete caller (entryOf img g e) Granted (sym (passes .granted)) refl _ refl (passes .closed)) refl
 
     done : (0 ≡ delet img key caller .code) × (clearEntry img g e ≡ delet img key caller .image)
-    done = deleting-done img key caller _ decided g e (entryOf img g e) refl (clearEntry img g e) refl
+    done = deleting-cleared img key caller _ decided g e (entryOf img g e) refl (clearEntry img g e) refl
 
     pub scratch-code : delet img (keyIn (entryOf img g e)) caller .code ≡ 0
     scratch-code = sym (done .0)

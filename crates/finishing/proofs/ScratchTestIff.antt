@@ -21,9 +21,9 @@ use Rattle.asking.specs.Opens.{opens}
 use Rattle.asking.specs.Asked.{fileOf}
 use Rattle.asking.proofs.AskedStage.{stage-clear, file-found}
 use Rattle.asking.proofs.Outcome.{code-is}
+use Rattle.directory.specs.PermitRows.{permitRows}
 use Rattle.directory.specs.DeletRows.{deletRows}
 use Rattle.directory.specs.Delet.{delet}
-use Rattle.directory.proofs.DeletLacking.{lacking}
 use Rattle.finishing.specs.ScratchTest.{isScratch, keysFrom, scratchKeys}
 use Rattle.finishing.specs.Finish.{Scratch, ScratchFrom}
 use Rattle.finishing.specs.Finish.ScratchFrom.{end, here, other}
@@ -44,7 +44,7 @@ delet-granted : (img : List ℕ) (key : Key) (caller : ℕ) → delet img key ca
 unfolding delet deletRows
 delet-granted img key caller success =
     let passed = sym (code-is (deletRows img key caller) img [] _) ∙ success in
-    let behind = stage-clear img key false (lacking Delete caller) passed .behind in
+    let behind = stage-clear img key false (permitRows Delete caller) passed .behind in
     not-false _ (none-given (not (may Delete caller (fileOf img key .uic) (fileOf img key .protect))) 0o6 _ (λ is. omega (arith, is)) behind .0)
 
 module _ {img : List ℕ} (right : Consistent img) (caller : ℕ) where

@@ -10,6 +10,7 @@ ghost use Rattle.pack.specs.File.{one};
 ghost use Rattle.pack.specs.Entry.{entryOf};
 ghost use Rattle.pack.specs.EntryWords.{clearEntry};
 ghost use Rattle.pack.specs.Consistent.{Consistent};
+ghost use Rattle.consistency.specs.ConsistentTest.{openedOf};
 ghost use Rattle.finishing.specs.ScratchTest.{isScratch, scratchKeys};
 ghost use Rattle.finishing.specs.Finish.{deletedAll, finish};
 use answers::Answer;
@@ -72,8 +73,18 @@ pub fn finish(img: &mut [u8], caller: usize) -> Answer
     ensures { λ r. ⌜ (r .number ∷ []) ≡ finish (now (img .entry)) caller .numbers ⌝ }
     ensures { λ r. ⌜ now (img .exit) ≡ finish (now (img .entry)) caller .image ⌝ }
 {
-    let mut map = [0u8; pack::MOST_BLOCKS];
-    let Opened::Good(g) = consistency::open_pack(img, &mut map) else {
+    let opened = consistency::open_pack(img);
+    finish_opened(img, opened, caller)
+}
+
+// In a pack that was opened.
+pub fn finish_opened(img: &mut [u8], opened: Opened, caller: usize) -> Answer
+    requires { ⌜ opened ≡ openedOf (now img) ⌝ }
+    ensures { λ r. ⌜ r .code ≡ finish (now (img .entry)) caller .code ⌝ }
+    ensures { λ r. ⌜ (r .number ∷ []) ≡ finish (now (img .entry)) caller .numbers ⌝ }
+    ensures { λ r. ⌜ now (img .exit) ≡ finish (now (img .entry)) caller .image ⌝ }
+{
+    let Opened::Good(g) = opened else {
         return Answer {
             code: 0o40,
             number: 0,

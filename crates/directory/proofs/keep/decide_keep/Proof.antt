@@ -4,9 +4,6 @@ use Rattle.directory.proofs.KeepStage.{decide-refused, decide-denied, d
 use Rattle.directory.proofs.keep.decide_keep.Statement.{statement}
 use Rattle.directory.proofs.keep.decide_keep.Tie as tie
 
-slice-aggregate-ask-file : tie.Need-slice-aggregate-ask-file
-slice-aggregate-ask-file c = search needs
-
 ask-file-requires : tie.Need-ask-file-requires
 ask-file-requires c κs = search needs
 
@@ -17,19 +14,18 @@ enum-told : tie.Need-enum-told
 enum-told c = search needs
 
 returns : tie.Need-returns
-returns c = decide-refused _ _ _ _ (c .before .before .before .ask-file .ensures .0) _ (c .enum-told .given .1)
+returns c = decide-refused _ _ _ _ (c .before .before .ask-file .ensures) _ (c .enum-told .given .1)
 
 returns-2 : tie.Need-returns-2
-returns-2 c = decide-denied _ _ _ _ (c .before .before .before .before .before .before .ask-file .ensures .0) _ _ _ (c .before .before .before .asked .given .1) (c .if1 .taken)
+returns-2 c = decide-denied _ _ _ _ (c .before .before .before .before .before .ask-file .ensures) _ _ _ (c .before .before .before .asked .given .1) (c .if1 .taken)
 
 returns-3 : tie.Need-returns-3
-returns-3 c = decide-granted _ _ _ _ (c .before .before .before .before .before .before .ask-file .ensures .0) _ _ _ (c .before .before .before .asked .given .1) (c .if1 .left)
+returns-3 c = decide-granted _ _ _ _ (c .before .before .before .before .before .ask-file .ensures) _ _ _ (c .before .before .before .asked .given .1) (c .if1 .left)
 
 pub decide-keep-spec : {M : Type 1} → statement M
 decide-keep-spec =
     tie.close
     (tie.spec
-    slice-aggregate-ask-file
     ask-file-requires
     enum-known-asked
     enum-told

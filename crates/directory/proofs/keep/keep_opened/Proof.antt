@@ -1,8 +1,8 @@
 -- Rests on `KeepStage`: the decision's code and image are the request's, and the protect code of a file that it found can be set.
 use borrow.Author.Needs.{needs}
 use Rattle.directory.proofs.KeepStage.{keeping-refused, keeping-small, keeping-room, keeping-done}
-use Rattle.directory.proofs.keep.keep.Statement.{statement}
-use Rattle.directory.proofs.keep.keep.Tie as tie
+use Rattle.directory.proofs.keep.keep_opened.Statement.{statement}
+use Rattle.directory.proofs.keep.keep_opened.Tie as tie
 
 decide-keep-requires : tie.Need-decide-keep-requires
 decide-keep-requires c κs = search needs
@@ -35,8 +35,8 @@ returns-2 c =
     let kept-code = c .before .before .before .kept-code in
     keeping-done _ _ _ _ (decide-keep .ensures) _ _ _ (g .given .1) _ (kept-code .ensures) _ (c .before .before .set-entry-word .ensures)
 
-pub keep-spec : {M : Type 1} → statement M
-keep-spec =
+pub keep-opened-spec : {M : Type 1} → statement M
+keep-opened-spec =
     tie.close
     (tie.spec
     decide-keep-requires
