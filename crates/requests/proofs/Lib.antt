@@ -6,6 +6,8 @@ pub mod Taken
 pub mod RequestConsistent
 pub mod RequestRefused
 pub mod RequestUntouched
+pub mod RequestOpened
+pub mod RequestMapped
 pub mod ChangesWritten
 pub mod ChangesEntries
 pub mod ChangesBodies

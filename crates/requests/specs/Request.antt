@@ -114,3 +114,7 @@ bufferLent (LINE-WRITE key caller mode text gather filled) = gather
 bufferLent (LINE-END key caller gather filled) = gather
 bufferLent (FINISH caller) = []
 bufferLent (OWNER block) = []
+
+-- any request but Format, which alone makes another pack of an image
+abbrev pub NotFormat : Request → Type 0
+NotFormat r = (form blocks contents : ℕ) (uics : List ℕ) → r ≡ FORMAT form blocks contents uics → ⊥

@@ -23,7 +23,7 @@ pub extern "C" fn abz_block_in(
     ensures { λ r. ⌜ now (buffer .exit) ≡ blockIn (now (image .entry)) (keyOf caller name1 name2 extension uic) caller place (now (buffer .entry)) .buffer ⌝ }
 {
     let key = asking::key_of(caller, name1, name2, extension, uic);
-    transfer::block::block_input(image, key, caller, Place(place), buffer)
+    transfer::block::block_in(image, key, caller, Place(place), buffer)
 }
 
 #[no_mangle]
@@ -41,7 +41,7 @@ pub extern "C" fn abz_block_out(
     ensures { λ r. ⌜ now (image .exit) ≡ blockOut (now (image .entry)) (keyOf caller name1 name2 extension uic) caller place (now (buffer .entry)) .image ⌝ }
 {
     let key = asking::key_of(caller, name1, name2, extension, uic);
-    transfer::block::block_output(image, key, caller, Place(place), buffer)
+    transfer::block::block_out(image, key, caller, Place(place), buffer)
 }
 
 #[no_mangle]

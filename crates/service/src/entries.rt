@@ -49,7 +49,7 @@ pub extern "C" fn abz_delet(
     ensures { λ r. ⌜ r ≡ delet (now (image .entry)) (keyOf caller name1 name2 extension uic) caller .code ⌝ }
     ensures { λ r. ⌜ now (image .exit) ≡ delet (now (image .entry)) (keyOf caller name1 name2 extension uic) caller .image ⌝ }
 {
-    directory::delet::delete(
+    directory::delet::delet(
         image,
         asking::key_of(caller, name1, name2, extension, uic),
         caller,
@@ -81,7 +81,7 @@ pub extern "C" fn abz_renam(
         extension: new_extension,
         uic: old.uic,
     };
-    directory::renam::rename(image, old, new, protect, caller)
+    directory::renam::renam(image, old, new, protect, caller)
 }
 
 #[no_mangle]
@@ -129,7 +129,7 @@ pub extern "C" fn abz_appnd(
         second_extension,
         second_uic,
     );
-    appending::appnd::append(image, first, second, caller)
+    appending::appnd::appnd(image, first, second, caller)
 }
 
 #[no_mangle]

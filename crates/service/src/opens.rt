@@ -20,7 +20,7 @@ pub extern "C" fn abz_openo(
     ensures { λ r. ⌜ r ≡ openo (now (image .entry)) (keyOf caller name1 name2 extension uic) caller protect .code ⌝ }
     ensures { λ r. ⌜ now (image .exit) ≡ openo (now (image .entry)) (keyOf caller name1 name2 extension uic) caller protect .image ⌝ }
 {
-    creation::openo::open_output(
+    creation::openo::openo(
         image,
         asking::key_of(caller, name1, name2, extension, uic),
         caller,
