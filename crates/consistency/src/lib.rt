@@ -3,7 +3,7 @@ mod differing;
 
 ghost use mathlib.Core.Path.{_≡_};
 ghost use mathlib.Core.Bool.{true, _&&_};
-ghost use Prim.Native.Nat.{ℕ, _+_, _<_, _≤_};
+ghost use Prim.Native.Nat.{_+_, _<_, _≤_};
 ghost use lib.ListN.{length};
 ghost use Rattle.radix.specs.NamesTest.{legalName};
 ghost use Rattle.pack.specs.GeometrySized.{Sized};

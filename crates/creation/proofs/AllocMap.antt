@@ -13,7 +13,7 @@ use Rattle.room.specs.RoomMap.{markedFrom}
 use Rattle.creation.specs.Rounding.{lengthFor}
 use Rattle.creation.specs.Alloc.{startFor, alloc}
 use Rattle.creation.specs.AllocMap.{allocMap}
-use Rattle.creation.proofs.MarkedRun.{marked-long, map-marked}
+use Rattle.room.proofs.RoomMapMarked.{marked-long, map-marked}
 use Rattle.creation.proofs.AllocStage.{Allocatable}
 use Rattle.creation.proofs.AllocEffect.{alloc-refused, alloc-allocatable, code-rows, HeldRun, alloc-held}
 

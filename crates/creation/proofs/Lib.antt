@@ -13,5 +13,4 @@ pub mod AllocStage
 pub mod CreatingEffect
 pub mod OpenoEffect
 pub mod AllocEffect
-pub mod MarkedRun
 pub mod AllocMap

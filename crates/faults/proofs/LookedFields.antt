@@ -3,12 +3,11 @@ use Prim.Native.Nat.{ℕ, _+_, _≤_, _<_}
 use mathlib.Core.Path.{_≡_, refl, sym, ap, _∙_}
 use mathlib.Core.Bool.{Bool, true, false, cond, not, _&&_}
 use mathlib.Core.List.{List}
-use mathlib.Core.Logic.{_⊎_, inl, inr, _↔_}
+use mathlib.Core.Logic.{_⊎_, inl, inr}
 use native.Mathlib.Omega.{arith}
-use native.Mathlib.Decide.{ℕ-discrete}
-use lib.Dec.{eqb, leb, ltb}
-use borrow.Author.Tests.{eqb-true, eqb-false, leb-true, le-leb}
-use Rattle.answers.proofs.RefusalsTests.{and-left, and-right, and-both, either-fails, true-not-false}
+use lib.Dec.{eqb, ltb}
+use borrow.Author.Tests.{eqb-true, leb-true, le-leb}
+use Rattle.answers.proofs.RefusalsTests.{and-left, and-right, and-both, true-not-false}
 use Rattle.radix.specs.Characters.{characterOf, table}
 use Rattle.radix.specs.Packing.{firstCode, thirdCode, charactersOf}
 use Rattle.radix.specs.Names.{LegalName, LegalExtension}

@@ -1,6 +1,6 @@
 -- The map of a pack's blocks is kept up by each request that a list may hold: it says how often each block is held before and after.
 use Prim.Native.Nat.{ℕ}
-use mathlib.Core.Path.{_≡_, refl, sym, ap, _∙_}
+use mathlib.Core.Path.{_≡_, sym, ap, _∙_}
 use mathlib.Core.Bool.{true}
 use mathlib.Core.List.{List}
 use native.Mathlib.Omega.{arith}
@@ -9,7 +9,7 @@ use Rattle.pack.specs.Geometry.{geometryOf}
 use Rattle.pack.specs.Consistent.{Consistent, held}
 use Rattle.consistency.specs.declared.Opened.the-variants.{Good}
 use Rattle.consistency.specs.ConsistentTest.{consistent, openedOf}
-use Rattle.consistency.specs.Mapped.{Mapped, MappedIf}
+use Rattle.consistency.specs.Mapped.{MappedIf}
 use Rattle.consistency.proofs.ConsistentTestIff.{consistent-iff, opened-good}
 use Rattle.creation.proofs.AllocMap.{alloc-mapped}
 use Rattle.creation.proofs.OpenoEffect.{openo-held}
@@ -20,7 +20,7 @@ use Rattle.directory.proofs.DeletMapped.{delet-mapped}
 use Rattle.directory.proofs.KeepEffect.{keep-held}
 use Rattle.directory.proofs.RenamEffect.{renam-held}
 use Rattle.appending.proofs.AppndEffect.{appnd-held}
-use Rattle.requests.specs.Request.{Request, outcome, NotFormat, FORMAT, ALLOC, OPENO, OPEN, CLOSE, DELET, RENAM, APPND, KEEP}
+use Rattle.requests.specs.Request.{Request, outcome, OPENO, OPEN, CLOSE, RENAM, APPND, KEEP}
 use Rattle.requests.specs.RequestMap.{Listable, alloc, delet, renam, appnd, keep, openo, opens, close, mapAfter}
 use Rattle.requests.proofs.RequestOpened.{opened-stays}
 

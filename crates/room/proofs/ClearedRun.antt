@@ -1,16 +1,16 @@
 -- A run of free blocks taken one after another: so far they are cleared and marked, and the next is still free.
-use Prim.Native.Nat.{ℕ, suc, zero, _+_, _-_, _≤_, _<_}
+use Prim.Native.Nat.{ℕ, _+_, _-_, _≤_, _<_}
 use mathlib.Core.Path.{_≡_, refl, sym, ap, subst, _∙_}
 use mathlib.Core.List.{List}
 use native.Mathlib.Omega.{arith}
 use native.Mathlib.Numerals.{add-one}
-use lib.ListN.{length, getD, set, length-set}
-use lib.Seq.{getD-set-other}
+use lib.ListN.{length, getD, set}
 use Rattle.pack.specs.declared.Geometry.{Geometry}
 use Rattle.pack.specs.GeometrySized.{Sized}
 use Rattle.pack.proofs.GeometryRoom.{sized-same}
 use Rattle.room.specs.Room.{InRun}
 use Rattle.room.specs.RoomMap.{FreeOn, markedFrom}
+use Rattle.room.proofs.RoomMapMarked.{marked-long, marked-else}
 use Rattle.room.specs.Cleared.{cleared, ClearedBlocks}
 use Rattle.room.proofs.Cleared.{blocks-room, cleared-blocks, cleared-none, cleared-single, cleared-then, taken-cleared}
 
@@ -21,17 +21,6 @@ marked-none map b = refl
 marked-one : (map : List ℕ) (b k : ℕ) → markedFrom map b (k + 1) ≡ set (markedFrom map b k) (b + k) 1
 unfolding markedFrom
 marked-one map b k = ap (markedFrom map b) (add-one k)
-
-marked-long : (map : List ℕ) (b k : ℕ) → length (markedFrom map b k) ≡ length map
-unfolding markedFrom
-marked-long map b zero = refl
-marked-long map b (suc k) = length-set (markedFrom map b k) (b + k) 1 ∙ marked-long map b k
-
--- a block behind the marked ones
-marked-other : (map : List ℕ) (b k z : ℕ) → b + k ≤ z → getD (markedFrom map b k) z 0 ≡ getD map z 0
-unfolding markedFrom
-marked-other map b zero z behind = refl
-marked-other map b (suc k) z behind = getD-set-other (markedFrom map b k) (b + k) z 1 0 (λ is. omega (arith, is, behind)) ∙ marked-other map b k z (omega (arith, behind))
 
 -- all blocks of a run are taken but so many
 pub record Taking (img₀ map₀ : List ℕ) (g : Geometry) (start count : ℕ) (img map : List ℕ) (left : ℕ) : Type 0 where
@@ -88,7 +77,7 @@ module _ {img₀ : List ℕ} {g : Geometry} (start count : ℕ) (sized : Sized i
               record {
                 body = f .body;
                 below = f .below;
-                nobody = ap (λ (m : List ℕ). getD m at 0) (t .marks) ∙ (marked-other map₀ start (count - left) at (omega (arith, next-is)) ∙ f .nobody);
+                nobody = ap (λ (m : List ℕ). getD m at 0) (t .marks) ∙ (marked-else map₀ start (count - left) at (λ run. omega (arith, run .1, next-is)) ∙ f .nobody);
               },
             ),
           )

@@ -3,6 +3,7 @@ pub mod RoomHighest
 pub mod RoomMapRun
 pub mod RoomMapCount
 pub mod RoomMapTaken
+pub mod RoomMapMarked
 pub mod RoomMapGiven
 pub mod RoomNeeds
 pub mod Cleared

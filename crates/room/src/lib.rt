@@ -187,11 +187,11 @@ pub fn give_up(img: &[u8], map: &mut [u8], g: Geometry, x: Entry)
     ensures { λ r. ⌜ now (map .exit) ≡ unmarked (now (map .entry)) (blocksOf (now (img .entry)) g x) ⌝ }
 {
     let kind = x.kind;
-    let mut left = x.length;
+    let mut more = x.length;
     let mut b = x.first;
-    while 0 < left {
+    while 0 < more {
         give_up_block(map, b);
         b = pack::next_block(img, g, kind, b);
-        left -= 1;
+        more -= 1;
     }
 }

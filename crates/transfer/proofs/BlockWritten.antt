@@ -1,5 +1,5 @@
 -- What BLOCK output leaves: the bytes of its block and no others change, and with them no file but its own, and no owner; no block is taken or given up.
-use Prim.Native.Nat.{ℕ, _+_, _*_, _≤_, _<_}
+use Prim.Native.Nat.{ℕ, _+_, _≤_, _<_}
 use mathlib.Core.Path.{_≡_, refl, sym, ap, subst, _∙_}
 use mathlib.Core.Bool.{Bool, not}
 use mathlib.Core.List.{List, [], _∷_}
@@ -30,7 +30,7 @@ use Rattle.frame.proofs.FramedHeld.{framed-one, held-one}
 use Rattle.frame.proofs.Described.{next-extent, used-description, described-blocks, consistent-described}
 use Rattle.frame.proofs.UntouchedFramed.{untouched-refl, untouched-framed}
 use Rattle.frame.proofs.OwnerFramed.{owner-framed}
-use Rattle.frame.proofs.ChangesWritten.{Outside, replaced-length, replaced-other, replaced-inside, changes-part}
+use Rattle.frame.proofs.ChangesWritten.{Outside, replaced-other, replaced-inside, changes-part}
 use Rattle.asking.specs.declared.Right.the-variants.{Write}
 use Rattle.asking.specs.Outcome.{Outcome, settled}
 use Rattle.asking.specs.Asked.{entryNo, fileOf}

@@ -2,7 +2,7 @@
 use mathlib.Core.Path.{sym, _∙_}
 use native.Mathlib.Omega.{arith}
 use borrow.Author.Needs.{needs}
-use Rattle.consistency.proofs.ConsistentTestIff.{opened-good, consistent-iff}
+use Rattle.consistency.proofs.ConsistentTestIff.{opened-good}
 use Rattle.printing.proofs.Put.{put-then}
 use Rattle.printing.proofs.Listing.{not-consistent, few-entries, map-enough, listed, put-text}
 use Rattle.printing.proofs.print_lent.Statement.{statement}

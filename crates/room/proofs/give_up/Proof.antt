@@ -10,11 +10,11 @@ use Rattle.room.proofs.give_up.Statement.{statement}
 use Rattle.room.proofs.give_up.Tie as tie
 
 abbrev Inv-loop : tie.InvT-loop
-Inv-loop img map₀ g kind left₀ b₀ map left b =
-    (length map ≡ length map₀) × Giving img g kind (unmarked map₀ (chain (nextOf img g kind) left₀ (b₀ .0))) map left (b .0)
+Inv-loop img map₀ g kind more₀ b₀ map more b =
+    (length map ≡ length map₀) × Giving img g kind (unmarked map₀ (chain (nextOf img g kind) more₀ (b₀ .0))) map more (b .0)
 
 abbrev μ-loop : tie.MeasureT-loop
-μ-loop img map₀ g kind left₀ b₀ map left b = left
+μ-loop img map₀ g kind more₀ b₀ map more b = more
 
 loop-holds : tie.Need-loop-holds Inv-loop μ-loop
 loop-holds c = let start = c .before .before .before in (refl, giving-start (start .args .x) (start .pre .1 .1) (start .pre .1 .0))
@@ -27,8 +27,8 @@ give-up-block-requires c κs =
 next-block-requires : tie.Need-next-block-requires Inv-loop μ-loop
 next-block-requires c κs = (c .before .before .before .before .before .before .before .before .before .pre .0, giving-block (c .before .before .before .before .before .loop .inv .1) (c .before .before .before .before .loop-test .taken))
 
-sub-left : tie.Need-sub-left Inv-loop μ-loop
-sub-left c = search needs
+sub-more : tie.Need-sub-more Inv-loop μ-loop
+sub-more c = search needs
 
 loop-less : tie.Need-loop-less Inv-loop μ-loop
 loop-less c = search needs
@@ -55,7 +55,7 @@ give-up-spec =
     loop-holds
     give-up-block-requires
     next-block-requires
-    sub-left
+    sub-more
     loop-less
     loop-again
     same-length

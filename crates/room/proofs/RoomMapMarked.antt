@@ -16,7 +16,7 @@ module _ (map : List ℕ) (b : ℕ) where
   marked-long zero = refl
   marked-long (suc k) = length-set (markedFrom map b k) (b + k) 1 ∙ marked-long k
 
-  marked-else : (k z : ℕ) → (InRun b k z → ⊥) → getD (markedFrom map b k) z 0 ≡ getD map z 0
+  pub marked-else : (k z : ℕ) → (InRun b k z → ⊥) → getD (markedFrom map b k) z 0 ≡ getD map z 0
   unfolding markedFrom
   marked-else zero z outside = refl
   marked-else (suc k) z outside =
