@@ -1,5 +1,6 @@
 -- The laws of linked add.
 pub mod LinkedAddStage
+pub mod LinkedAddAsked
 pub mod LinkedAddWrites
 pub mod LinkedAddEnlarged
 pub mod LinkedAddMap

@@ -1,7 +1,7 @@
 -- How often each block is held when one was added: the added block once, any other as before. So the map that the block was marked on stays right,
 -- and where it was the highest that is free, none from it on is.
 use Prim.Native.Nat.{ℕ, _+_, _≤_, _<_}
-use mathlib.Core.Path.{_≡_, sym, ap, subst}
+use mathlib.Core.Path.{_≡_, sym, ap, subst, _∙_}
 use mathlib.Core.List.{List, [], _∷_}
 use native.Mathlib.Omega.{arith}
 use native.Mathlib.Decide.{ℕ-discrete}
@@ -17,7 +17,9 @@ use Rattle.pack.specs.Consistent.{held, Consistent}
 use Rattle.pack.specs.Owner.{FreeBlock}
 use Rattle.pack.proofs.FileCount.{count-append}
 use Rattle.pack.proofs.HeaderRules.{header-sized}
+use Rattle.consistency.specs.Mapped.{Mapped}
 use Rattle.frame.proofs.FramedHeld.{held-one}
+use Rattle.frame.proofs.FramedStays.{geometry-framed}
 use Rattle.frame.proofs.GrowthConsistent.{grown-framed, grown-blocks}
 use Rattle.room.specs.RoomMap.{Says, NoneFrom}
 use Rattle.room.proofs.RoomMapTaken.{map-added}
@@ -49,8 +51,20 @@ pub map-enlarged : {img map : List ℕ} {g : Geometry} {e : ℕ} {payload : List
 map-enlarged {img} {map} {g} {e} {payload} ready b free =
     let sized : Sized img g = subst (Sized img) (ready .measures) (header-sized img (ready .right .header)) in
     map-added img (added img g e (entryOf img g e) b payload) map b (ready .says)
-    (omega (arith, ready .long, free .below, ap (λ (h : Geometry). h .blocks) (ready .measures), sized .most))
+    (omega (arith, ready .long, free .below, ap (λ (h : Geometry). h .blocks) (ready .measures)))
     (held-enlarged img g e b payload (sym (ready .measures)) (ready .right) sized (ready .entry) (ready .linked) free (ready .whole)) (free .nobody)
+
+-- the measures stay, so the map still has a place for each block
+pub mapped-enlarged : {img map : List ℕ} {g : Geometry} {e : ℕ} {payload : List ℕ} → Ready img map g e payload
+    → {img′ map′ : List ℕ} → img′ ≡ added img g e (entryOf img g e) (addedBlock img) payload → length map′ ≡ length map → Says map′ img′ → Mapped map′ img′
+mapped-enlarged {img} {map} {g} {e} {payload} ready {img′} {map′} image long says =
+    let sized : Sized img g = subst (Sized img) (ready .measures) (header-sized img (ready .right .header)) in
+    let free : FreeBlock img (addedBlock img) = block-free (ready .right) (ready .free) in
+    let stated : g ≡ geometryOf img = sym (ready .measures) in
+    let grown = enlarged img g e (addedBlock img) payload stated (ready .right) sized (ready .entry) (ready .linked) free (ready .whole) .grown in
+    let measures : geometryOf img′ ≡ g =
+    ap geometryOf image ∙ geometry-framed stated (ready .right) (grown-framed stated (ready .right) (ready .entry) (ready .linked) free grown) ∙ ready .measures in
+    record { enough = omega (arith, ap (λ (h : Geometry). h .blocks) measures, long, ready .long); says = says }
 
 -- the block was the highest that is free: from there on none is now
 pub none-enlarged : {img map : List ℕ} {g : Geometry} {e : ℕ} {payload : List ℕ} → Ready img map g e payload

@@ -1,38 +1,30 @@
--- Linked add: its place in the table, what each answer of its stage comes to, and what is known where nothing speaks against it.
-use Prim.Native.Nat.{ℕ, _-_, _≤_, _<_}
+-- Linked add: its place in the table, the highest free block, and what is known where nothing speaks against the request.
+use Prim.Native.Nat.{ℕ, _≤_, _<_}
 use mathlib.Core.Path.{_≡_, refl, sym, ap, subst, _∙_}
-use mathlib.Core.Bool.{Bool, true, false, not}
+use mathlib.Core.Bool.{Bool, true, not}
 use mathlib.Core.List.{List, [], _∷_, _++_}
 use mathlib.Core.Option.{Option, none, some}
 use native.Mathlib.Omega.{arith}
-use lib.Dec.{eqb, leb, ltb}
-use lib.ListN.{length, replicate, length-replicate}
-use borrow.Author.Tests.{eq-eqb, ne-eqb, lt-ltb, le-ltb, ltb-false, leb-true, leb-false}
-use Rattle.answers.specs.Refusals.{Row, firstOf, row, tableOrder, inOrder}
+use lib.Dec.{eqb, ltb}
+use borrow.Author.Tests.{eq-eqb, ne-eqb, le-ltb, ltb-false}
+use Rattle.answers.specs.Refusals.{firstOf, row, tableOrder, inOrder}
 use Rattle.answers.specs.Missing.{orElse}
-use Rattle.answers.proofs.Refusals.{refuse, pass, clear, none-given, behind-refused, behind-clear}
+use Rattle.answers.proofs.Refusals.{pass, clear, none-given}
 use Rattle.pack.specs.declared.Geometry.{Geometry}
 use Rattle.pack.specs.declared.Entry.{Entry}
 use Rattle.pack.specs.declared.Key.{Key}
-use Rattle.pack.specs.GeometrySized.{mostBlocks, Sized}
 use Rattle.pack.specs.Geometry.{geometryOf}
 use Rattle.pack.specs.Entry.{entryOf}
 use Rattle.pack.specs.Consistent.{Consistent}
 use Rattle.pack.specs.Owner.{freeCount, FreeBlock}
-use Rattle.owners.proofs.OwnerSearch.{measured-sized}
 use Rattle.asking.specs.declared.Right.the-variants.{Write}
-use Rattle.asking.specs.declared.Asked.{Asked}
-use Rattle.asking.specs.declared.Asked.the-variants.{File, Refused}
-use Rattle.asking.specs.AskedStage.{fileRows, askedOf, stageOf}
+use Rattle.asking.specs.AskedStage.{fileRows}
 use Rattle.asking.specs.Asked.{entryNo, fileOf}
 use Rattle.asking.specs.Access.{accessRows}
 use Rattle.asking.proofs.Keys.{not-empty}
-use Rattle.asking.proofs.AskedStage.{FileAsked, asked-is-file, stage-refused, stage-stopped, stage-passed}
-use Rattle.asking.proofs.AccessRows.{access-coded}
+use Rattle.asking.proofs.AskedStage.{FileAsked}
 use Rattle.asking.proofs.AccessStage.{Reached, reached-rows, reached-clear}
-use Rattle.room.specs.RoomMap.{Says, freeOn}
 use Rattle.room.proofs.RoomHighest.{run-highest}
-use Rattle.room.proofs.RoomMapCount.{free-at}
 use Rattle.room.proofs.RoomNeeds.{needs-one}
 use Rattle.bodies.proofs.EntryChainLinked.{linked-kind}
 use Rattle.adding.specs.LinkedAddRows.{openForAdding, linkedAddRows}
@@ -49,67 +41,6 @@ open-output x is = rw (eq-eqb (x .writer) 2 is)
 
 pub open-extension : (x : Entry) → (x .writer ≡ 2 → ⊥) → eqb (x .writer) 3 ≡ openForAdding x
 open-extension x other = rw (ne-eqb (x .writer) 2 other)
-
--- a map that was lent all zero has a byte for each block that a pack can have
-pub map-long : {map : List ℕ} (map′ : List ℕ) → map ≡ replicate mostBlocks 0 → length map′ ≡ length map → length map′ ≡ mostBlocks
-map-long map′ blank same = same ∙ ap length blank ∙ length-replicate {A = ℕ} mostBlocks 0
-
--- each answer of the stage
-module _ (img : List ℕ) (key : Key) (caller : ℕ) (wrong : Bool) (needed : ℕ) where
-  abbrev last : List Row
-  last = row (ltb (freeCount img) needed) 0o42 ∷ []
-
-  abbrev rest : Entry → List Row
-  rest x = accessRows x caller Write 1 (not (openForAdding x)) ++ last
-
-  module _ (asked : Asked) (is : asked ≡ askedOf img key wrong) where
-    pub adding-unasked : (code : ℕ) → asked ≡ Refused code → asked ≡ stageOf (linkedAddRows img key caller wrong needed) img key
-    unfolding linkedAddRows
-    adding-unasked code told = told ∙ stage-refused img key wrong rest asked is code told
-
-    module _ (g : Geometry) (e : ℕ) (x : Entry) (told : asked ≡ File g e x) where
-      pub adding-file : FileAsked img key wrong g e x
-      adding-file = asked-is-file img key wrong g e x (sym is ∙ told)
-
-      -- the map is as long as it was lent
-      pub adding-mapped : {map : List ℕ} (map′ : List ℕ) → map ≡ replicate mostBlocks 0 → length map′ ≡ length map → g .blocks ≤ length map′
-      adding-mapped map′ blank same =
-          let sized : Sized img g = measured-sized (adding-file .right) (adding-file .measures) in
-          omega (arith, sized .most, map-long map′ blank same)
-
-      module _ (shut : Bool) (says : shut ≡ not (openForAdding x)) (code : ℕ) (judged : code ≡ firstOf (accessRows x caller Write 1 shut)) where
-        judged-own : firstOf (accessRows x caller Write 1 (not (openForAdding x))) ≡ code
-        judged-own = sym (judged ∙ ap (λ (t : Bool). firstOf (accessRows x caller Write 1 t)) says)
-
-        pub adding-forbidden : (code ≡ 0 → ⊥) → Refused code ≡ stageOf (linkedAddRows img key caller wrong needed) img key
-        unfolding linkedAddRows
-        adding-forbidden never =
-            stage-stopped img key wrong rest asked is g e x told
-            (behind-refused last (accessRows x caller Write 1 (not (openForAdding x))) judged-own never) never
-
-        -- what the code counted on a map that says how often each block is held
-        module _ (passed : code ≡ 0) (map : List ℕ) (held : Says map img) (enough : Bool)
-            (counted : enough ≡ leb needed (freeOn map (g .bodies .0) (g .blocks - g .bodies .0))) where
-          own-decides : firstOf (rest x) ≡ firstOf last
-          own-decides =
-              behind-clear last (accessRows x caller Write 1 (not (openForAdding x))) (access-coded x caller Write 1 (not (openForAdding x)))
-              (judged-own ∙ passed)
-
-          counted-free : enough ≡ leb needed (freeCount img)
-          counted-free = counted ∙ ap (leb needed) (free-at (adding-file .right) map held g (adding-file .measures))
-
-          pub adding-crowded : enough ≡ false → Refused 0o42 ≡ stageOf (linkedAddRows img key caller wrong needed) img key
-          unfolding linkedAddRows
-          adding-crowded few =
-              stage-stopped img key wrong rest asked is g e x told
-              (own-decides ∙ refuse [] (lt-ltb (freeCount img) needed (leb-false needed (freeCount img) (sym counted-free ∙ few))))
-              (λ zero. omega (arith, zero))
-
-          pub adding-given : enough ≡ true → File g e x ≡ stageOf (linkedAddRows img key caller wrong needed) img key
-          unfolding linkedAddRows
-          adding-given many =
-              stage-passed img key wrong rest asked is g e x told
-              (own-decides ∙ (pass 0o42 [] (le-ltb (freeCount img) needed (leb-true needed (freeCount img) (sym counted-free ∙ many))) ∙ clear)) refl
 
 -- the highest free block of an image that has one
 pub free-block : {img : List ℕ} → Consistent img → 0 < freeCount img → highestFree img ≡ some (addedBlock img)

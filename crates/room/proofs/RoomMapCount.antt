@@ -2,12 +2,17 @@
 use Prim.Native.Nat.{ℕ, suc, zero, _+_, _-_, _≤_, _<_}
 use mathlib.Core.Path.{_≡_, refl, sym, ap, subst, _∙_}
 use mathlib.Core.Bool.{Bool, true, false}
-use mathlib.Core.List.{List}
+use mathlib.Core.List.{List, [], _∷_}
 use native.Mathlib.Omega.{arith}
 use native.Mathlib.Decide.{ℕ-discrete, decLe}
-use lib.Dec.{eqb, leb}
+use lib.Dec.{eqb, leb, ltb}
 use lib.ListN.{getD}
-use borrow.Author.Tests.{eq-eqb, ne-eqb, le-leb, lt-leb}
+use borrow.Author.Tests.{eq-eqb, ne-eqb, le-leb, lt-leb, lt-ltb, le-ltb, leb-true, leb-false}
+use Rattle.answers.specs.declared.Verdict.the-variants.{Clear, Refused}
+use Rattle.answers.specs.Refusals.{row}
+use Rattle.answers.specs.Stage.{verdictOf}
+use Rattle.answers.proofs.Refusals.{refuse, pass, clear}
+use Rattle.answers.proofs.Stage.{makes-clear, makes-refused}
 use Rattle.pack.specs.File.{one}
 use Rattle.pack.specs.declared.Geometry.{Geometry}
 use Rattle.pack.specs.declared.Owner.{Owner}
@@ -85,12 +90,16 @@ module _ (map : List ℕ) (left b n : ℕ) where
     enough-pass other next same =
         ap (leb left) (free-pass-to map b n before other) ∙ ap (λ (m : ℕ). leb m (freeOn map (b + 1) (n - (b + 1)))) (sym same)
 
-  pub enough-end : n ≤ b → eqb left 0 ≡ leb left (freeOn map b (n - b))
-  enough-end over = by (ℕ-discrete left 0) (free-end-at map b n over)
-    where
-      by : Dec (left ≡ 0) → freeOn map b (n - b) ≡ 0 → eqb left 0 ≡ leb left (freeOn map b (n - b))
-      by (yes is) none = eq-eqb left 0 is ∙ enough-seen is
-      by (no other) none = ne-eqb left 0 other ∙ sym (lt-leb left (freeOn map b (n - b)) (omega (arith, other)))
+  pub enough-never : n ≤ b → (left ≡ 0 → ⊥) → false ≡ leb left (freeOn map b (n - b))
+  enough-never over some = sym (lt-leb left (freeOn map b (n - b)) (omega (arith, free-end-at map b n over, some)))
+
+-- what is judged of a count of free blocks
+module _ (needed free : ℕ) where
+  pub judged-enough : leb needed free ≡ true → Clear ≡ verdictOf (row (ltb free needed) 0o42 ∷ [])
+  judged-enough many = makes-clear _ (sym (pass 0o42 [] (le-ltb free needed (leb-true needed free many)) ∙ clear))
+
+  pub judged-short : leb needed free ≡ false → Refused 0o42 ≡ verdictOf (row (ltb free needed) 0o42 ∷ [])
+  judged-short few = makes-refused _ (sym (refuse [] (lt-ltb free needed (leb-false needed free few)))) (λ zero. omega (arith, zero))
 
 module _ {img : List ℕ} (right : Consistent img) where
   -- a map of how often each block is held has the free blocks at 0

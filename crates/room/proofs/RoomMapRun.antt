@@ -13,7 +13,7 @@ use Rattle.pack.specs.declared.Geometry.{Geometry}
 use Rattle.pack.specs.Geometry.{geometryOf}
 use Rattle.answers.proofs.RefusalsTests.{and-both}
 use Rattle.room.specs.RoomTest.{isFreeBlock, areFree, runBelow, highestRun}
-use Rattle.room.specs.RoomMap.{Says, isFreeOn, isFreeBody, HeldFrom, NoneFrom, areFreeOn, runOn, freeAfter, freeFrom}
+use Rattle.room.specs.RoomMap.{Says, isFreeOn, isFreeBody, SomeBelow, HeldFrom, NoneFrom, areFreeOn, runOn, freeAfter, freeFrom}
 
 -- the count behind one block more
 pub after-free : (times free : ℕ) → times ≡ 0 → free + 1 ≡ freeAfter (eqb times 0) free
@@ -54,6 +54,17 @@ held-front {map} {from} {middle} front is back = record {
     | no not ↦ back .never x (omega (arith, not)) high
   ];
 }
+
+-- downwards: one block more, and a free block is not among them
+pub held-down : {map : List ℕ} {b end next : ℕ} → HeldFrom map (b + 1) end → (getD map b 0 ≡ 0 → ⊥) → next ≡ b → HeldFrom map next end
+held-down {map} {b} {end} {next} held here is = held-front {middle = next + 1} (held-more (held-none refl) (subst (λ (x : ℕ). getD map x 0 ≡ 0 → ⊥) (sym is) here) refl) (omega (arith, is)) held
+
+free-below : {map : List ℕ} {from end z : ℕ} → HeldFrom map from end → getD map z 0 ≡ 0 → z < end → z < from
+free-below {map} {from} {end} {z} held nobody below = by (decLt z from)
+  where
+    by : Dec (z < from) → z < from
+    by (yes is) = is
+    by (no not) = absurd (held .never z (omega (arith, not)) below nobody)
 
 module _ (map : List ℕ) where
   pub from-most : (b k : ℕ) → freeFrom map b k ≤ k
@@ -177,14 +188,31 @@ module _ (map : List ℕ) where
               first-not (b + suc k - 1) (held-here (b + suc k - 1) (held .never (b + suc k - 1) (omega arith) (omega arith))) positive in
               run-step (b + suc k) (omega arith) ∙ rw not (ap (runOn map low end length) down) ∙ by k (omega arith)
 
-    -- a run of one block: it starts here, or where the search below finds it
-    pub one-here : (b : ℕ) → low < b → b ≤ end → getD map (b - 1) 0 ≡ 0 → runOn map low end 1 b ≡ some (b - 1)
+    -- a run of one block
+    one-here : (b : ℕ) → low < b → b ≤ end → getD map (b - 1) 0 ≡ 0 → runOn map low end 1 b ≡ some (b - 1)
     unfolding areFreeOn
     one-here b above below is = run-step 1 b (omega arith) ∙ rw (free-here (b - 1) (omega arith) (omega arith) is)
 
-    pub one-next : (b : ℕ) → low < b → (getD map (b - 1) 0 ≡ 0 → ⊥) → runOn map low end 1 b ≡ runOn map low end 1 (b - 1)
-    unfolding areFreeOn
-    one-next b above never = run-step 1 b (omega arith) ∙ rw (held-here (b - 1) never)
+-- a block is known to be free: the search for the highest passes held ones, and those that it skipped first, and ends at a free one
+module _ {map : List ℕ} {g : Geometry} {from skipped : ℕ} (known : SomeBelow map g from) (first : HeldFrom map skipped from) where
+  pub search-starts : 0 < skipped
+  search-starts = omega (arith, free-below first (known .free .nobody) (known .less))
+
+  module _ (b : ℕ) (passed : HeldFrom map (b + 1) (skipped - 1 + 1)) where
+    all-passed : HeldFrom map (b + 1) from
+    all-passed = held-front passed (omega (arith, search-starts)) first
+
+    pub search-on : (getD map b 0 ≡ 0 → ⊥) → 0 < b
+    search-on here = omega (arith, free-below (held-down all-passed here refl) (known .free .nobody) (known .less))
+
+    pub search-ends : from ≤ g .blocks → getD map b 0 ≡ 0 → some b ≡ runOn map (g .bodies .0) (g .blocks) 1 from
+    search-ends below nobody =
+        let here : b + 1 - 1 ≡ b = omega arith in
+        let above : known .block < b + 1 = free-below all-passed (known .free .nobody) (known .less) in
+        sym (run-held map (g .bodies .0) (g .blocks) 1 all-passed (omega arith)
+        ∙ one-here map (g .bodies .0) (g .blocks) (b + 1) (omega (arith, above, known .free .body)) (omega (arith, all-passed .within, below))
+        (ap (λ (x : ℕ). getD map x 0) here ∙ nobody)
+        ∙ ap some here)
 
 -- where none is free from a block on, the search may begin there; none is behind the last block
 pub none-above : {map : List ℕ} {g : Geometry} → NoneFrom map g (g .blocks)

@@ -34,6 +34,12 @@ pub record FreeOn (map : List ℕ) (g : Geometry) (b : ℕ) : Type 0 where
   pub below : b < g .blocks
   pub nobody : getD map b 0 ≡ 0
 
+-- there is one below a block
+pub record SomeBelow (map : List ℕ) (g : Geometry) (from : ℕ) : Type 0 where
+  pub block : ℕ
+  pub less : block < from
+  pub free : FreeOn map g block
+
 -- the blocks from one on and below another are held
 pub record HeldFrom (map : List ℕ) (from end : ℕ) : Type 0 where
   pub within : from ≤ end

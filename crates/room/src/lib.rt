@@ -2,14 +2,19 @@
 // taking and the giving up of blocks.
 ghost use mathlib.Core.Path.{_≡_};
 ghost use mathlib.Core.Bool.{true};
+ghost use mathlib.Core.List.{[], _∷_};
+ghost use mathlib.Core.Option.{some};
 ghost use Prim.Native.Nat.{ℕ, _+_, _-_, _≤_, _<_};
-ghost use lib.Dec.{eqb, leb};
+ghost use lib.Dec.{eqb, ltb};
 ghost use lib.ListN.{length, set};
+ghost use Rattle.answers.specs.Refusals.{row};
+ghost use Rattle.answers.specs.Stage.{verdictOf};
 ghost use Rattle.pack.specs.GeometrySized.{mostBlocks, Sized};
 ghost use Rattle.room.specs.Room.{InRun};
 ghost use Rattle.pack.specs.File.{blocksOf, count};
-ghost use Rattle.room.specs.RoomMap.{runOn, freeAfter, startIn, freeOn, FreeOn, HeldFrom, markedFrom, unmarked};
+ghost use Rattle.room.specs.RoomMap.{runOn, freeAfter, startIn, freeOn, FreeOn, SomeBelow, HeldFrom, markedFrom, unmarked};
 ghost use Rattle.room.specs.Cleared.{cleared};
+use answers::Verdict;
 use pack::BlockNo;
 use pack::Entry;
 use pack::Geometry;
@@ -74,21 +79,17 @@ pub fn highest_run(map: &[u8], g: Geometry, count: Blocks) -> Run
     Run::Nowhere
 }
 
-// One block, sought downwards from a block from which on none is free: who takes several in a row passes no block twice.
-pub fn highest_below(map: &[u8], g: Geometry, from: BlockNo) -> Run
+// One block, sought downwards from a block from which on none is free: who takes several in a row passes no block twice. That one is free is known.
+pub fn highest_below(map: &[u8], g: Geometry, from: BlockNo) -> BlockNo
     requires { ⌜ (g .blocks ≤ length (now map)) × (from .0 ≤ g .blocks) ⌝ }
-    ensures { λ r. ⌜ startIn r ≡ runOn (now (map .entry)) (g .bodies .0) (g .blocks) 1 (from .0) ⌝ }
+    requires { ⌜ SomeBelow (now map) g (from .0) ⌝ }
+    ensures { λ r. ⌜ some (r .0) ≡ runOn (now (map .entry)) (g .bodies .0) (g .blocks) 1 (from .0) ⌝ }
 {
-    let low = g.bodies.0;
-    let mut b = skip_held(map, from.0);
-    while low < b {
+    let mut b = skip_held(map, from.0) - 1;
+    while map[b] != 0 {
         b -= 1;
-        if map[b] == 0 {
-            let highest = BlockNo(b);
-            return Run::Start(highest);
-        }
     }
-    Run::Nowhere
+    BlockNo(b)
 }
 
 fn free_after(times: u8, free: usize) -> usize
@@ -118,24 +119,27 @@ pub fn free_count(map: &[u8], g: Geometry) -> usize
     free
 }
 
-// Upwards, and no further than where enough were seen: it is cheap where few are needed.
-pub fn has_room(map: &[u8], g: Geometry, needed: Blocks) -> bool
+// "42: no free block": fewer are free than are needed. Upwards, and no further than where enough were seen: it is cheap where few are needed.
+pub fn judge_room(map: &[u8], g: Geometry, needed: Blocks) -> Verdict
     requires { ⌜ g .blocks ≤ length (now map) ⌝ }
-    ensures { λ r. ⌜ r ≡ leb (needed .0) (freeOn (now (map .entry)) (g .bodies .0) (g .blocks - g .bodies .0)) ⌝ }
+    ensures { λ r. ⌜ r ≡ verdictOf (row (ltb (freeOn (now (map .entry)) (g .bodies .0) (g .blocks - g .bodies .0)) (needed .0)) 0o42 ∷ []) ⌝ }
 {
     let end = g.blocks;
     let mut b = g.bodies.0;
     let mut left = needed.0;
     while b < end {
         if left == 0 {
-            return true;
+            return Verdict::Clear;
         }
         if map[b] == 0 {
             left -= 1;
         }
         b += 1;
     }
-    left == 0
+    if left == 0 {
+        return Verdict::Clear;
+    }
+    Verdict::Refused(0o42)
 }
 
 // A block taken for any use is cleared first, whatever was in it: document 02 §2. Who takes a block takes it here.

@@ -6,9 +6,9 @@ use lib.Dec.{leb}
 use native.Mathlib.Omega.{arith}
 use borrow.Author.Needs.{needs}
 use Rattle.room.specs.RoomMap.{freeOn}
-use Rattle.room.proofs.RoomMapCount.{enough-seen, enough-step, enough-pass, enough-end}
-use Rattle.room.proofs.has_room.Statement.{statement}
-use Rattle.room.proofs.has_room.Tie as tie
+use Rattle.room.proofs.RoomMapCount.{enough-seen, enough-step, enough-pass, enough-never, judged-enough, judged-short}
+use Rattle.room.proofs.judge_room.Statement.{statement}
+use Rattle.room.proofs.judge_room.Tie as tie
 
 abbrev Inv-loop : tie.InvT-loop
 Inv-loop map end b₀ left₀ b left = leb left₀ (freeOn map b₀ (end - b₀)) ≡ leb left (freeOn map b (end - b))
@@ -20,7 +20,7 @@ loop-holds : tie.Need-loop-holds Inv-loop μ-loop
 loop-holds c = refl
 
 returns : tie.Need-returns Inv-loop μ-loop
-returns c = enough-seen _ _ _ _ (c .if1 .taken) ∙ sym (c .before .before .loop .inv)
+returns c = judged-enough (c .before .before .before .args .needed .0) _ (c .before .before .loop .inv ∙ sym (enough-seen _ _ _ _ (c .if1 .taken)))
 
 shared-slice-read-if2 : tie.Need-shared-slice-read-if2 Inv-loop μ-loop
 shared-slice-read-if2 c = search needs
@@ -42,10 +42,13 @@ loop-again c =
     (λ w. enough-pass _ _ _ _ before (w .0 .left) _ (w .1)) (c .if2 .came)
 
 returns-2 : tie.Need-returns-2 Inv-loop μ-loop
-returns-2 c = enough-end _ _ _ _ (c .loop-test .left) ∙ sym (c .before .loop .inv)
+returns-2 c = judged-enough (c .before .before .before .args .needed .0) _ (c .before .before .loop .inv ∙ sym (enough-seen _ _ _ _ (c .if3 .taken)))
 
-pub has-room-spec : {M : Type 1} → statement M
-has-room-spec =
+returns-3 : tie.Need-returns-3 Inv-loop μ-loop
+returns-3 c = judged-short (c .before .before .before .args .needed .0) _ (c .before .before .loop .inv ∙ sym (enough-never _ _ _ _ (c .before .loop-test .left) (c .if3 .left)))
+
+pub judge-room-spec : {M : Type 1} → statement M
+judge-room-spec =
     tie.close
     (tie.spec
     Inv-loop
@@ -57,4 +60,5 @@ has-room-spec =
     add-b
     loop-less
     loop-again
-    returns-2)
+    returns-2
+    returns-3)
