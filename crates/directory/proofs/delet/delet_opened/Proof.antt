@@ -19,7 +19,9 @@ give-up-requires c κs =
     deleting-held _ _ _ _ (at-g .before .before .decide-delet .ensures) _ _ _ (at-g .g .given .1) _ (at-g .before .before .before .before .before .before .pre .1)
 
 clear-entry-requires : tie.Need-clear-entry-requires
-clear-entry-requires c κs = let at-g = c .before .before .before .before .before .before .before in deleting-room _ _ _ _ (at-g .before .before .decide-delet .ensures) _ _ _ (at-g .g .given .1)
+clear-entry-requires c κs =
+    let at-g = c .before .before .before .before .before .before .before in
+    deleting-room _ _ _ _ (at-g .before .before .decide-delet .ensures) _ _ _ (at-g .g .given .1)
 
 same-length : tie.Need-same-length
 same-length c = search needs
@@ -34,7 +36,8 @@ same-length-3 : tie.Need-same-length-3
 same-length-3 c = search needs
 
 returns-2 : tie.Need-returns-2
-returns-2 c = let at-give-up = c .before .before .before .before .before .before in
+returns-2 c =
+    let at-give-up = c .before .before .before .before .before .before in
     let at-g = at-give-up .before .before .before .before in
     deleting-done _ _ _ _ (at-g .before .before .decide-delet .ensures) _ _ _ (at-g .g .given .1) _ (c .before .before .clear-entry .ensures) _ _ (at-give-up .give-up .ensures)
 
