@@ -21,7 +21,7 @@ use Rattle.stream.proofs.Gather.{gathered-count}
 use Rattle.lines.specs.LineReadingRows.{lineReadRows}
 use Rattle.lines.specs.LineReading.{modeOf, lineRead}
 use Rattle.lines.specs.LineWrite.{putAll, takenOf}
-use Rattle.lines.specs.BytesWriting.{wrongGather, gatheredIn, bytesWritten}
+use Rattle.stream.specs.BytesWriting.{wrongGather, gatheredIn, bytesWritten}
 use Rattle.lines.specs.LineWriting.{nulsFor, lineWrite, lineEnd}
 use Rattle.requests.specs.Request.{LINE-READ, LINE-WRITE, LINE-END}
 use Rattle.promises.specs.GivenWhen.{GivesCode}

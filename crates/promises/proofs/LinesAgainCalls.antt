@@ -22,10 +22,10 @@ use Rattle.stream.proofs.Gather.{gathered-filled}
 use Rattle.lines.specs.declared.LineMode.{LineMode}
 use Rattle.lines.specs.LineWrite.{putAll, takenOf, writtenStatus}
 use Rattle.lines.specs.LineReading.{modeOf}
-use Rattle.lines.specs.BytesWriting.{gatheredIn, bytesWritten}
+use Rattle.stream.specs.BytesWriting.{gatheredIn, bytesWritten}
 use Rattle.lines.specs.LineWriting.{lineWrite, nulsFor, lineEnd}
-use Rattle.lines.proofs.BytesWritingAnswers.{write-fitting}
-use Rattle.lines.proofs.BytesWritingEffect.{write-code}
+use Rattle.stream.proofs.BytesWritingAnswers.{write-fitting}
+use Rattle.stream.proofs.BytesWritingEffect.{write-code}
 use Rattle.lines.proofs.LineWrite.{put-append, taken-front}
 use Rattle.promises.specs.LinesAgain.{WrittenBy, nothing, call}
 use Rattle.promises.proofs.LinesAgainLaid.{Clear, BytesAdded, clear-each, laid-nothing, laid-compose, laid-measures}

@@ -7,15 +7,11 @@ use Rattle.opening.specs.declared.Opening.the-variants.{Input, Update, Extensio
 use Rattle.faults.specs.declared.ReportAnswer.{ReportAnswer}
 use Rattle.faults.specs.Report.{Report}
 use Rattle.faults.proofs.ReportConsistent.{fault-inconsistent}
-use Rattle.requests.specs.Request.{Request, outcome, FORMAT, ALLOC, OPENO, OPEN, CLOSE, DELET, RENAM, APPND, LOOK, KEEP, BLOCK-INPUT, BLOCK-OUTPUT, LINKED-READ, LINKED-ADD}
+use Rattle.requests.specs.Request.{Request, outcome, NotFormat, FORMAT, ALLOC, OPENO, OPEN, CLOSE, DELET, RENAM, APPND, LOOK, KEEP, BLOCK-INPUT, BLOCK-OUTPUT, LINKED-READ, LINKED-ADD}
 use Rattle.requests.specs.Request.{LINE-READ, LINE-WRITE, LINE-END, FINISH, OWNER}
 use Rattle.promises.specs.GivenWhen.{GivesCode, here}
 use Rattle.promises.specs.Codes.{casesOf}
 use Rattle.promises.proofs.Codes.{code-iff}
-
--- any request but Format
-abbrev pub NotFormat : Request → Type 0
-NotFormat r = (form blocks contents : ℕ) (uics : List ℕ) → r ≡ FORMAT form blocks contents uics → ⊥
 
 -- its first row is 40
 first-row : (r : Request) (img : List ℕ) → NotFormat r → (Consistent img → ⊥) → GivesCode (casesOf r img) 0o40

@@ -20,7 +20,7 @@ use Rattle.adding.proofs.LinkedAddAgain.{again-measures, again-number}
 use Rattle.stream.specs.AddedAll.{addedAll, takenBlocks}
 use Rattle.lines.specs.LineReading.{modeOf}
 use Rattle.lines.specs.LineWrite.{putAll, takenOf}
-use Rattle.lines.specs.BytesWriting.{gatheredIn, writingRows, bytesWritten}
+use Rattle.stream.specs.BytesWriting.{gatheredIn, writingRows, bytesWritten}
 use Rattle.lines.specs.LineWriting.{nulsFor, lineWrite, lineEnd}
 use Rattle.requests.specs.Request.{LINKED-ADD, LINE-WRITE, LINE-END}
 use Rattle.requests.specs.Changes.{IsLastLink, MayAdd, MayChange}

@@ -9,9 +9,10 @@ use Rattle.pack.specs.Entry.{blocksAt}
 use Rattle.asking.specs.Asked.{entryNo}
 use Rattle.bodies.specs.Payloads.{payloadsOf}
 use Rattle.lines.specs.LineRead.{lineFound}
-use Rattle.lines.specs.LineReading.{modeOf, bytesBehind, foundOutcome, lineRead}
+use Rattle.stream.specs.BytesReading.{bytesBehind}
+use Rattle.lines.specs.LineReading.{modeOf, foundOutcome, lineRead}
 use Rattle.lines.specs.LineWrite.{putAll, takenOf}
-use Rattle.lines.specs.BytesWriting.{gatheredIn}
+use Rattle.stream.specs.BytesWriting.{gatheredIn}
 use Rattle.lines.specs.LineWriting.{lineWrite}
 use Rattle.lines.proofs.LineReadingStage.{line-read-given, line-read-clear}
 use Rattle.lines.proofs.LineWritingEffect.{line-write-payloads, line-write-gathered, line-write-filled}

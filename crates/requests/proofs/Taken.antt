@@ -24,9 +24,9 @@ use Rattle.stream.specs.AddedAll.EachAdded.{none, also}
 use Rattle.stream.proofs.AddedAll.{added-blocks}
 use Rattle.lines.specs.LineReading.{modeOf}
 use Rattle.lines.specs.LineWrite.{putAll, takenOf}
-use Rattle.lines.specs.BytesWriting.{gatheredIn, bytesWritten}
+use Rattle.stream.specs.BytesWriting.{gatheredIn, bytesWritten}
 use Rattle.lines.specs.LineWriting.{nulsFor, lineWrite, lineEnd}
-use Rattle.lines.proofs.BytesWritingEffect.{write-image, write-added}
+use Rattle.stream.proofs.BytesWritingEffect.{write-image, write-added}
 use Rattle.requests.specs.Taken.{Taken}
 
 -- a block is free in one image that is free in the other, where the pack's measures and the block's owner are the same

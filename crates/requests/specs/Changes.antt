@@ -18,7 +18,7 @@ use Rattle.stream.specs.AddedAll.{takenBlocks}
 use Rattle.finishing.specs.Finish.{Scratch}
 use Rattle.lines.specs.LineReading.{modeOf}
 use Rattle.lines.specs.LineWrite.{putAll, takenOf}
-use Rattle.lines.specs.BytesWriting.{gatheredIn}
+use Rattle.stream.specs.BytesWriting.{gatheredIn}
 use Rattle.lines.specs.LineWriting.{nulsFor}
 use Rattle.requests.specs.Request.{Request, FORMAT, ALLOC, OPENO, OPEN, CLOSE, DELET, RENAM, APPND, LOOK, KEEP, BLOCK-INPUT, BLOCK-OUTPUT, LINKED-READ, LINKED-ADD}
 use Rattle.requests.specs.Request.{LINE-READ, LINE-WRITE, LINE-END, FINISH, OWNER}
