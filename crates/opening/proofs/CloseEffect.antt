@@ -1,4 +1,4 @@
--- CLOSE: what it changes of the entry; a refusal changes nothing; the image stays consistent, other files untouched, each block its owner's.
+-- CLOSE: what it changes of the entry; a refusal changes nothing; the image stays consistent, other files untouched, each block its owner's, and none is taken or given up.
 use Prim.Native.Nat.{ℕ, _+_, _-_}
 use mathlib.Core.Path.{_≡_, refl, sym, subst, _∙_}
 use mathlib.Core.List.{List, []}
@@ -14,7 +14,7 @@ use Rattle.pack.specs.declared.Key.{Key}
 use Rattle.pack.specs.Geometry.{geometryOf}
 use Rattle.pack.specs.Entry.{entryOf}
 use Rattle.pack.specs.EntryWords.{setEntryWord}
-use Rattle.pack.specs.Consistent.{Consistent}
+use Rattle.pack.specs.Consistent.{held, Consistent}
 use Rattle.pack.specs.Owner.{ownerOf}
 use Rattle.pack.specs.Untouched.{Untouched}
 use Rattle.asking.specs.Asked.{entryNo, fileOf}
@@ -27,7 +27,7 @@ use Rattle.opening.specs.CloseRows.{isOpenAs, closeRows, closeWord, clos
 use Rattle.opening.specs.Close.{Closed, close}
 use Rattle.opening.specs.Close.Closed.{a-reader, the-writer}
 use Rattle.opening.proofs.CloseStage.{as-writer, some-reader, close-cleared}
-use Rattle.opening.proofs.OpenWords.{Rules, OpensSet, RightOpens, writer-set, readers-set, request-file, request-consistent, request-untouched, request-owner}
+use Rattle.opening.proofs.OpenWords.{Rules, OpensSet, RightOpens, writer-set, readers-set, request-file, request-consistent, request-untouched, request-owner, request-held}
 
 -- the word that is written gives a reader less, or no writer
 closed-set : (taken : Bool) {img : List ℕ} {key : Key} {g : Geometry} {e : ℕ} → Cleared img key g e
@@ -77,6 +77,10 @@ module _ (img : List ℕ) (key : Key) (mode : ℕ) where
   pub close-owner : (b : ℕ) → ownerOf (close img key mode .image) b ≡ ownerOf img b
   unfolding close
   close-owner = request-owner (closeRows img key mode) sets
+
+  pub close-held : Consistent img → (b : ℕ) → held (close img key mode .image) b ≡ held img b
+  unfolding close
+  close-held right = request-held (closeRows img key mode) sets
 
 -- "takes that open away", and nothing else of the entry changes
 module _ (img : List ℕ) (key : Key) where

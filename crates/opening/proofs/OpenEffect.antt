@@ -1,4 +1,4 @@
--- OPENI, OPENU and OPENE: what each changes of the entry; a refusal changes nothing; the image stays consistent, other files untouched, each block its owner's.
+-- OPENI, OPENU and OPENE: what each changes of the entry; a refusal changes nothing; the image stays consistent, other files untouched, each block its owner's, and none is taken or given up.
 use Prim.Native.Nat.{ℕ, _+_}
 use mathlib.Core.Path.{_≡_, refl, _∙_}
 use mathlib.Core.List.{List, []}
@@ -12,7 +12,7 @@ use Rattle.pack.specs.declared.Key.{Key}
 use Rattle.pack.specs.Geometry.{geometryOf, entryAt}
 use Rattle.pack.specs.Entry.{entryOf}
 use Rattle.pack.specs.EntryWords.{setEntryWord}
-use Rattle.pack.specs.Consistent.{Consistent}
+use Rattle.pack.specs.Consistent.{held, Consistent}
 use Rattle.pack.specs.Owner.{ownerOf}
 use Rattle.pack.specs.Untouched.{Untouched}
 use Rattle.asking.specs.Asked.{entryNo, fileOf}
@@ -28,7 +28,7 @@ use Rattle.opening.specs.OpenRows.{openRows, openWord, openValue}
 use Rattle.opening.specs.Open.{withOpens, openedEntry, opened}
 use Rattle.opening.proofs.OpenRows.{Openable}
 use Rattle.opening.proofs.OpenStage.{open-cleared}
-use Rattle.opening.proofs.OpenWords.{Rules, OpensSet, RightOpens, writer-set, readers-set, request-file, request-consistent, request-untouched, request-owner}
+use Rattle.opening.proofs.OpenWords.{Rules, OpensSet, RightOpens, writer-set, readers-set, request-file, request-consistent, request-untouched, request-owner, request-held}
 
 -- the word that is written gives the writer and the readers of `openedEntry`
 opened-set : (mode : Opening) {img : List ℕ} {key : Key} {g : Geometry} {e : ℕ} → Cleared img key g e
@@ -84,6 +84,10 @@ module _ (mode : Opening) (img : List ℕ) (key : Key) (caller : ℕ) where
   pub open-owner : (b : ℕ) → ownerOf (opened mode img key caller .image) b ≡ ownerOf img b
   unfolding opened
   open-owner = request-owner (openRows mode img key caller) sets
+
+  pub open-held : Consistent img → (b : ℕ) → held (opened mode img key caller .image) b ≡ held img b
+  unfolding opened
+  open-held right = request-held (openRows mode img key caller) sets
 
   -- no other word changes
   pub open-changes : ChangesOnly (Only (entryAt (geometryOf img) (entryNo img key) + openWord mode)) img (opened mode img key caller .image)

@@ -1,11 +1,14 @@
--- The rows of an open behind those of the file: the code that each return gives, and what is known of a file that passes them all.
+-- The rows of an open behind those of the file: the verdict that each return gives, and what is known of a file that passes them all.
 use Prim.Native.Nat.{ℕ, _+_, _<_}
 use mathlib.Core.Path.{_≡_, sym}
 use mathlib.Core.Bool.{Bool, true, false, _&&_}
 use native.Mathlib.Omega.{arith}
 use lib.Dec.{eqb, ltb}
 use borrow.Author.Tests.{eq-eqb, ne-eqb, leb-false}
-use Rattle.answers.specs.Refusals.{firstOf}
+use Rattle.answers.specs.declared.Verdict.{Verdict}
+use Rattle.answers.specs.declared.Verdict.the-variants.{Clear, Refused}
+use Rattle.answers.specs.Refusals.{firstOf, onSuccess}
+use Rattle.answers.specs.Stage.{verdictOf}
 use Rattle.answers.proofs.Refusals.{none-given}
 use Rattle.pack.specs.declared.Entry.{Entry}
 use Rattle.asking.specs.declared.Right.{Right}
@@ -21,44 +24,44 @@ use Rattle.opening.specs.OpenRows.{rightFor, isUpdate, isExtension, isWr
 
 -- can the file be open in this mode too? The tests are as the code made them, of what it was told of the mode.
 module _ (mode : Opening) (x : Entry) (extends : Bool) (is-extends : extends ≡ isExtension mode) where
-  pub mode-5 : (extends && eqb (x .kind) 1) ≡ true → 0o5 ≡ firstOf (modeRows mode x)
-  unfolding firstOf
+  pub mode-5 : (extends && eqb (x .kind) 1) ≡ true → Refused 0o5 ≡ verdictOf (modeRows mode x)
+  unfolding verdictOf onSuccess firstOf
   mode-5 is = rw (sym is-extends, is)
 
   module _ (first : (extends && eqb (x .kind) 1) ≡ false) (updates : Bool) (is-updates : updates ≡ isUpdate mode) where
-    pub mode-43 : (updates && eqb (x .kind) 2) ≡ true → 0o43 ≡ firstOf (modeRows mode x)
-    unfolding firstOf
+    pub mode-43 : (updates && eqb (x .kind) 2) ≡ true → Refused 0o43 ≡ verdictOf (modeRows mode x)
+    unfolding verdictOf onSuccess firstOf
     mode-43 is = rw (sym is-extends, first, sym is-updates, is)
 
     module _ (second : (updates && eqb (x .kind) 2) ≡ false) (writes : Bool) (is-writes : writes ≡ isWriting mode) where
-      pub mode-4 : (writes && ltb 0 (x .writer)) ≡ true → 0o4 ≡ firstOf (modeRows mode x)
-      unfolding firstOf
+      pub mode-4 : (writes && ltb 0 (x .writer)) ≡ true → Refused 0o4 ≡ verdictOf (modeRows mode x)
+      unfolding verdictOf onSuccess firstOf
       mode-4 is = rw (sym is-extends, first, sym is-updates, second, sym is-writes, is)
 
       module _ (third : (writes && ltb 0 (x .writer)) ≡ false) (full : Bool) (is-full : full ≡ isFull x) where
-        pub mode-3 : full ≡ true → 0o3 ≡ firstOf (modeRows mode x)
-        unfolding firstOf
+        pub mode-3 : full ≡ true → Refused 0o3 ≡ verdictOf (modeRows mode x)
+        unfolding verdictOf onSuccess firstOf
         mode-3 is = rw (sym is-extends, first, sym is-updates, second, sym is-writes, third, sym is-full, is)
 
-        pub mode-0 : full ≡ false → 0 ≡ firstOf (modeRows mode x)
-        unfolding firstOf
-        mode-0 is = rw (sym is-extends, first, sym is-updates, second, sym is-writes, third, sym is-full, is)
+        pub mode-clear : full ≡ false → Clear ≡ verdictOf (modeRows mode x)
+        unfolding verdictOf onSuccess firstOf
+        mode-clear is = rw (sym is-extends, first, sym is-updates, second, sym is-writes, third, sym is-full, is)
 
 -- and before that: is it whole, and may the caller?
 module _ (mode : Opening) (caller : ℕ) (x : Entry) where
-  pub opening-2 : x .writer ≡ 2 → 0o2 ≡ firstOf (openingRows mode caller x)
-  unfolding firstOf
+  pub opening-2 : x .writer ≡ 2 → Refused 0o2 ≡ verdictOf (openingRows mode caller x)
+  unfolding verdictOf onSuccess firstOf
   opening-2 is = rw (eq-eqb (x .writer) 2 is)
 
   module _ (whole : x .writer ≡ 2 → ⊥) (right : Right) (needed : right ≡ rightFor mode) (grant : Grant)
       (says : granted grant ≡ may right caller (x .uic) (x .protect)) where
-    pub opening-6 : grant ≡ Denied → 0o6 ≡ firstOf (openingRows mode caller x)
-    unfolding firstOf
+    pub opening-6 : grant ≡ Denied → Refused 0o6 ≡ verdictOf (openingRows mode caller x)
+    unfolding verdictOf onSuccess firstOf
     opening-6 is = rw (ne-eqb (x .writer) 2 whole, sym needed, sym says, is)
 
-    pub opening-mode : grant ≡ Granted → (code : ℕ) → code ≡ firstOf (modeRows mode x) → code ≡ firstOf (openingRows mode caller x)
-    unfolding firstOf
-    opening-mode is code judged = rw (ne-eqb (x .writer) 2 whole, sym needed, sym says, is) judged
+    pub opening-mode : grant ≡ Granted → (verdict : Verdict) → verdict ≡ verdictOf (modeRows mode x) → verdict ≡ verdictOf (openingRows mode caller x)
+    unfolding verdictOf onSuccess firstOf
+    opening-mode is verdict judged = rw (ne-eqb (x .writer) 2 whole, sym needed, sym says, is) judged
 
 -- where no row is given
 pub record Openable (mode : Opening) (x : Entry) : Type 0 where

@@ -4,7 +4,11 @@ use mathlib.Core.Path.{_≡_, refl, sym, ap, subst, _∙_}
 use mathlib.Core.Bool.{true, false}
 use mathlib.Core.List.{List}
 use native.Mathlib.Omega.{arith}
+use Rattle.answers.specs.declared.Verdict.{Verdict}
+use Rattle.answers.specs.declared.Verdict.the-variants.{Clear, Refused as Stopped}
 use Rattle.answers.specs.Refusals.{firstOf, tableOrder, inOrder}
+use Rattle.answers.specs.Stage.{verdictOf}
+use Rattle.answers.proofs.Stage.{told-clear, told-refused}
 use Rattle.pack.specs.declared.Geometry.{Geometry}
 use Rattle.pack.specs.declared.Entry.{Entry}
 use Rattle.pack.specs.declared.Key.{Key}
@@ -53,14 +57,17 @@ module _ (mode : Opening) (img : List ℕ) (key : Key) (caller : ℕ) where
     unfolding openRows
     decide-refused code told = told ∙ stage-refused img key false (openingRows mode caller) asked is code told
 
-    module _ (g : Geometry) (e : ℕ) (x : Entry) (told : asked ≡ File g e x) (code : ℕ) (judged : code ≡ firstOf (openingRows mode caller x)) where
-      pub decide-stopped : (code ≡ 0 → ⊥) → Refused code ≡ stageOf (openRows mode img key caller) img key
+    module _ (g : Geometry) (e : ℕ) (x : Entry) (told : asked ≡ File g e x) (verdict : Verdict) (judged : verdict ≡ verdictOf (openingRows mode caller x)) where
+      pub decide-stopped : (code : ℕ) → verdict ≡ Stopped code → Refused code ≡ stageOf (openRows mode img key caller) img key
       unfolding openRows
-      decide-stopped = stage-stopped img key false (openingRows mode caller) asked is g e x told (sym judged)
+      decide-stopped code told-so =
+          let r = told-refused (openingRows mode caller x) verdict judged code told-so in
+          stage-stopped img key false (openingRows mode caller) asked is g e x told (r .first) (r .never)
 
-      pub decide-passed : code ≡ 0 → File g e x ≡ stageOf (openRows mode img key caller) img key
+      pub decide-passed : verdict ≡ Clear → File g e x ≡ stageOf (openRows mode img key caller) img key
       unfolding openRows
-      decide-passed = stage-passed img key false (openingRows mode caller) asked is g e x told (sym judged)
+      decide-passed told-so =
+          stage-passed img key false (openingRows mode caller) asked is g e x told (told-clear (openingRows mode caller x) verdict judged told-so) refl
 
   -- the answer behind it
   abbrev write : Geometry → ℕ → Entry → List ℕ

@@ -1,4 +1,4 @@
--- The writer and the readers of a file's entry set: nothing else of the entry changes, no other file, and no owner; the image stays consistent.
+-- The writer and the readers of a file's entry set: nothing else of the entry changes, no other file, and no owner; no block is taken or given up; the image stays consistent.
 use Prim.Native.Nat.{ℕ, _+_, _≤_, _<_}
 use mathlib.Core.Path.{_≡_, refl, sym, ap, subst, _∙_}
 use mathlib.Core.List.{List, []}
@@ -10,11 +10,11 @@ use Rattle.answers.specs.Refusals.{Row, firstOf}
 use Rattle.pack.specs.declared.Geometry.{Geometry}
 use Rattle.pack.specs.declared.Key.{Key}
 use Rattle.pack.specs.Geometry.{geometryOf, slots, entryAt}
-use Rattle.pack.specs.File.{one}
+use Rattle.pack.specs.File.{one, count}
 use Rattle.pack.specs.Entry.{entryWord, entryOf, blocksAt}
 use Rattle.pack.specs.EntryWords.{setEntryWord}
 use Rattle.pack.specs.Key.{keyIn, SameKey}
-use Rattle.pack.specs.Consistent.{Consistent}
+use Rattle.pack.specs.Consistent.{held, Consistent}
 use Rattle.pack.specs.Owner.{placeFrom, ownerOf}
 use Rattle.pack.specs.Untouched.{Untouched}
 use Rattle.pack.proofs.GeometryRoom.{entry-room}
@@ -32,7 +32,7 @@ use Rattle.frame.specs.Framing.{Framed}
 use Rattle.frame.specs.Framing.Distinct.{known}
 use Rattle.frame.specs.Described.{Described, Description}
 use Rattle.frame.proofs.ChangesWritten.{word-kept, changes-wider, changes-word}
-use Rattle.frame.proofs.FramedHeld.{framed-never}
+use Rattle.frame.proofs.FramedHeld.{framed-never, held-one}
 use Rattle.frame.proofs.FramedStays.{stated-framed, listed-framed}
 use Rattle.frame.proofs.Described.{next-unwritten, described-blocks, consistent-described}
 use Rattle.frame.proofs.UntouchedFramed.{untouched-refl, untouched-one}
@@ -122,6 +122,9 @@ module _ {img img′ : List ℕ} {key : Key} {g : Geometry} {e writer readers : 
       owner-framed (c .measures) (c .right) opens-framed (λ i. ℕ-discrete i e) b
       (λ i within is. ap (placeFrom b 0) (subst (λ (j : ℕ). blocksAt img′ g j ≡ blocksAt img g j) (sym is) (described-blocks opens-described)))
 
+  opens-held : (b : ℕ) → held img′ b ≡ held img b
+  opens-held b = omega (arith, held-one (c .measures) (c .right) opens-framed (c .inside) b, ap (count b) (described-blocks opens-described))
+
   opens-consistent : Rules (entryOf img g e .kind) writer readers → Consistent img′
   opens-consistent rules =
       let says : Description img′ (withOpens (entryOf img g e) writer readers) =
@@ -180,3 +183,7 @@ module _ (rows : List Row) {img img′ : List ℕ} {key : Key} {writer readers :
   pub request-owner : (b : ℕ) → ownerOf (outcome .image) b ≡ ownerOf img b
   request-owner b =
       image-by rows img [] _ (λ (left : List ℕ). ownerOf left b ≡ ownerOf img b) refl (λ none. opens-owner (sets none .file) (sets none .set) b)
+
+  pub request-held : (b : ℕ) → held (outcome .image) b ≡ held img b
+  request-held b =
+      image-by rows img [] _ (λ (left : List ℕ). held left b ≡ held img b) refl (λ none. opens-held (sets none .file) (sets none .set) b)

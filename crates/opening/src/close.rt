@@ -1,9 +1,11 @@
 // CLOSE.
 ghost use mathlib.Core.Path.{_≡_};
+ghost use Rattle.consistency.specs.ConsistentTest.{openedOf};
 ghost use Rattle.asking.specs.AskedStage.{stageOf};
 ghost use Rattle.opening.specs.CloseRows.{isOpenAs, closeRows};
 ghost use Rattle.opening.specs.Close.{close};
 use asking::Asked;
+use consistency::Opened;
 use pack::Entry;
 use pack::Key;
 
@@ -11,7 +13,17 @@ pub fn close(img: &mut [u8], key: Key, mode: usize) -> usize
     ensures { λ r. ⌜ r ≡ close (now (img .entry)) key mode .code ⌝ }
     ensures { λ r. ⌜ now (img .exit) ≡ close (now (img .entry)) key mode .image ⌝ }
 {
-    match decide_close(img, key, mode) {
+    let opened = consistency::open_pack(img);
+    close_opened(img, opened, key, mode)
+}
+
+// In a pack that was opened.
+pub fn close_opened(img: &mut [u8], opened: Opened, key: Key, mode: usize) -> usize
+    requires { ⌜ opened ≡ openedOf (now img) ⌝ }
+    ensures { λ r. ⌜ r ≡ close (now (img .entry)) key mode .code ⌝ }
+    ensures { λ r. ⌜ now (img .exit) ≡ close (now (img .entry)) key mode .image ⌝ }
+{
+    match decide_close(img, opened, key, mode) {
         Asked::Refused(code) => code,
         Asked::File(g, e, x) => {
             if mode == 4 {
@@ -24,12 +36,12 @@ pub fn close(img: &mut [u8], key: Key, mode: usize) -> usize
     }
 }
 
-fn decide_close(img: &[u8], key: Key, mode: usize) -> Asked
+fn decide_close(img: &[u8], opened: Opened, key: Key, mode: usize) -> Asked
+    requires { ⌜ opened ≡ openedOf (now img) ⌝ }
     ensures { λ r. ⌜ r ≡ stageOf (closeRows (now (img .entry)) key mode) (now (img .entry)) key ⌝ }
 {
-    let mut map = [0u8; pack::MOST_BLOCKS];
     let wrong = (mode == 0) | (4 < mode);
-    let asked = asking::ask_file(img, &mut map, key, wrong);
+    let asked = asking::ask_file(img, opened, key, wrong);
     let Asked::File(_, _, x) = asked else {
         return asked;
     };

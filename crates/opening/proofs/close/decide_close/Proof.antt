@@ -6,9 +6,6 @@ use Rattle.opening.proofs.CloseStage.{decide-refused, decide-other, dec
 use Rattle.opening.proofs.close.decide_close.Statement.{statement}
 use Rattle.opening.proofs.close.decide_close.Tie as tie
 
-slice-aggregate-ask-file : tie.Need-slice-aggregate-ask-file
-slice-aggregate-ask-file c = search needs
-
 ask-file-requires : tie.Need-ask-file-requires
 ask-file-requires c κs = search needs
 
@@ -19,28 +16,27 @@ enum-told : tie.Need-enum-told
 enum-told c = search needs
 
 returns : tie.Need-returns
-returns c = decide-refused _ _ _ _ (c .before .before .before .ask-file .ensures .0) _ (c .enum-told .given .1)
+returns c = decide-refused _ _ _ _ (c .before .before .ask-file .ensures) _ (c .enum-told .given .1)
 
 is-open-as-requires : tie.Need-is-open-as-requires
 is-open-as-requires c κs = search needs
 
 returns-2 : tie.Need-returns-2
 returns-2 c =
-    let ask-file = c .before .before .before .before .before .before .ask-file in
+    let ask-file = c .before .before .before .before .before .ask-file in
     let asked = c .before .before .before .asked in
-    decide-other _ _ _ _ (ask-file .ensures .0) _ _ _ (asked .given .1) (sym (c .before .is-open-as .ensures) ∙ not-true _ (c .if1 .taken))
+    decide-other _ _ _ _ (ask-file .ensures) _ _ _ (asked .given .1) (sym (c .before .is-open-as .ensures) ∙ not-true _ (c .if1 .taken))
 
 returns-3 : tie.Need-returns-3
 returns-3 c =
-    let ask-file = c .before .before .before .before .before .before .ask-file in
+    let ask-file = c .before .before .before .before .before .ask-file in
     let asked = c .before .before .before .asked in
-    decide-passed _ _ _ _ (ask-file .ensures .0) _ _ _ (asked .given .1) (sym (c .before .is-open-as .ensures) ∙ not-false _ (c .if1 .left))
+    decide-passed _ _ _ _ (ask-file .ensures) _ _ _ (asked .given .1) (sym (c .before .is-open-as .ensures) ∙ not-false _ (c .if1 .left))
 
 pub decide-close-spec : {M : Type 1} → statement M
 decide-close-spec =
     tie.close
     (tie.spec
-    slice-aggregate-ask-file
     ask-file-requires
     enum-known-asked
     enum-told

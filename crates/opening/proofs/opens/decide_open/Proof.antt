@@ -4,9 +4,6 @@ use Rattle.opening.proofs.OpenStage.{decide-refused, decide-stopped, de
 use Rattle.opening.proofs.opens.decide_open.Statement.{statement}
 use Rattle.opening.proofs.opens.decide_open.Tie as tie
 
-slice-aggregate-ask-file : tie.Need-slice-aggregate-ask-file
-slice-aggregate-ask-file c = search needs
-
 ask-file-requires : tie.Need-ask-file-requires
 ask-file-requires c κs = search needs
 
@@ -17,32 +14,40 @@ enum-told : tie.Need-enum-told
 enum-told c = search needs
 
 returns : tie.Need-returns
-returns c = decide-refused _ _ _ _ _ (c .before .before .before .ask-file .ensures .0) _ (c .enum-told .given .1)
+returns c = decide-refused _ _ _ _ _ (c .before .before .ask-file .ensures) _ (c .enum-told .given .1)
 
 judge-opening-requires : tie.Need-judge-opening-requires
 judge-opening-requires c κs = search needs
 
+enum-known-code : tie.Need-enum-known-code
+enum-known-code c = search needs
+
 returns-2 : tie.Need-returns-2
 returns-2 c =
-    let ask-file = c .before .before .before .before .before .before .ask-file in
-    let asked = c .before .before .before .asked in
-    decide-stopped _ _ _ _ _ (ask-file .ensures .0) _ _ _ (asked .given .1) _ (c .before .judge-opening .ensures) (c .if1 .taken)
+    let judge-opening = c .before .before .before .judge-opening in
+    let asked = c .before .before .before .before .before .asked in
+    let ask-file = c .before .before .before .before .before .before .before .ask-file in
+    decide-stopped _ _ _ _ _ (ask-file .ensures) _ _ _ (asked .given .1) _ (judge-opening .ensures) _ (c .before .code .given .1)
+
+enum-told-2 : tie.Need-enum-told-2
+enum-told-2 c = search needs
 
 returns-3 : tie.Need-returns-3
 returns-3 c =
+    let asked = c .before .before .before .before .asked in
     let ask-file = c .before .before .before .before .before .before .ask-file in
-    let asked = c .before .before .before .asked in
-    decide-passed _ _ _ _ _ (ask-file .ensures .0) _ _ _ (asked .given .1) _ (c .before .judge-opening .ensures) (c .if1 .left)
+    decide-passed _ _ _ _ _ (ask-file .ensures) _ _ _ (asked .given .1) _ (c .before .before .judge-opening .ensures) (c .enum-told2 .given .1)
 
 pub decide-open-spec : {M : Type 1} → statement M
 decide-open-spec =
     tie.close
     (tie.spec
-    slice-aggregate-ask-file
     ask-file-requires
     enum-known-asked
     enum-told
     returns
     judge-opening-requires
+    enum-known-code
     returns-2
+    enum-told-2
     returns-3)

@@ -1,6 +1,6 @@
--- Rests on `OpenRows`: each return gives the code of the first row that holds, the rows before it being passed.
+-- Rests on `OpenRows`: each return gives the verdict of the first row that holds, the rows before it being passed.
 use borrow.Author.Needs.{needs}
-use Rattle.opening.proofs.OpenRows.{mode-5, mode-43, mode-4, mode-3, mode-0}
+use Rattle.opening.proofs.OpenRows.{mode-5, mode-43, mode-4, mode-3, mode-clear}
 use Rattle.opening.proofs.opens.judge_mode.Statement.{statement}
 use Rattle.opening.proofs.opens.judge_mode.Tie as tie
 
@@ -59,7 +59,7 @@ returns-5 c =
     let if2 = c .before .before .before .before .before .if2 in
     let is-writing = c .before .before .before .before .is-writing in
     let if3 = c .before .before .if3 in
-    mode-0 (args .mode) (args .x) _ (is-extension .ensures) (if1 .left) _ (is-update .ensures) (if2 .left) _ (is-writing .ensures) (if3 .left) _
+    mode-clear (args .mode) (args .x) _ (is-extension .ensures) (if1 .left) _ (is-update .ensures) (if2 .left) _ (is-writing .ensures) (if3 .left) _
     (c .before .is-full .ensures) (c .if4 .left)
 
 pub judge-mode-spec : {M : Type 1} → statement M

@@ -7,9 +7,6 @@ use mathlib.Core.Bool.{not}
 use lib.Dec.{eqb}
 use Rattle.asking.proofs.AccessStage.{access-refused, access-stopped, access-passed}
 
-slice-aggregate-ask-file : tie.Need-slice-aggregate-ask-file
-slice-aggregate-ask-file c = search needs
-
 ask-file-requires : tie.Need-ask-file-requires
 ask-file-requires c κs = search needs
 
@@ -20,34 +17,43 @@ enum-told : tie.Need-enum-told
 enum-told c = search needs
 
 returns : tie.Need-returns
-returns c = access-refused _ _ _ _ _ _ (λ x. not (eqb (x .writer) 1)) _ (c .before .before .before .ask-file .ensures .0) _ (c .enum-told .given .1)
+returns c = access-refused _ _ _ _ _ _ (λ x. not (eqb (x .writer) 1)) _ (c .before .before .ask-file .ensures) _ (c .enum-told .given .1)
 
 judge-access-requires : tie.Need-judge-access-requires
 judge-access-requires c κs = search needs
 
+enum-known-verdict : tie.Need-enum-known-verdict
+enum-known-verdict c = search needs
+
 returns-2 : tie.Need-returns-2
 returns-2 c =
-    let ask-file = c .before .before .before .before .before .before .before .ask-file in
-    let asked = c .before .before .before .before .asked in
-    access-stopped _ _ _ _ _ _ (λ x. not (eqb (x .writer) 1)) _ (ask-file .ensures .0) _ _ _ (asked .given .1) _ refl _
-    (c .before .judge-access .ensures) (c .if1 .taken)
+    let ask-file = c .before .before .before .before .before .before .before .before .ask-file in
+    let asked = c .before .before .before .before .before .before .asked in
+    let judge-access = c .before .before .before .judge-access in
+    access-stopped _ _ _ _ _ _ (λ x. not (eqb (x .writer) 1)) _ (ask-file .ensures) _ _ _ (asked .given .1) _ refl _
+    (judge-access .ensures) _ (c .before .verdict .given .1)
+
+enum-told-2 : tie.Need-enum-told-2
+enum-told-2 c = search needs
 
 returns-3 : tie.Need-returns-3
 returns-3 c =
     let ask-file = c .before .before .before .before .before .before .before .ask-file in
-    let asked = c .before .before .before .before .asked in
-    access-passed _ _ _ _ _ _ (λ x. not (eqb (x .writer) 1)) _ (ask-file .ensures .0) _ _ _ (asked .given .1) _ refl _
-    (c .before .judge-access .ensures) (c .if1 .left)
+    let asked = c .before .before .before .before .before .asked in
+    let judge-access = c .before .before .judge-access in
+    access-passed _ _ _ _ _ _ (λ x. not (eqb (x .writer) 1)) _ (ask-file .ensures) _ _ _ (asked .given .1) _ refl _
+    (judge-access .ensures) (c .enum-told2 .given .1)
 
 pub ask-output-spec : {M : Type 1} → statement M
 ask-output-spec =
     tie.close
     (tie.spec
-    slice-aggregate-ask-file
     ask-file-requires
     enum-known-asked
     enum-told
     returns
     judge-access-requires
+    enum-known-verdict
     returns-2
+    enum-told-2
     returns-3)

@@ -1,7 +1,7 @@
 -- Rests on `LinkedReadStage`: each answer of the stage gives one of the request; `block_at` finds a block of the file, which is one of the pack.
 use borrow.Author.Needs.{needs}
-use Rattle.transfer.proofs.linked_read.linked_read.Statement.{statement}
-use Rattle.transfer.proofs.linked_read.linked_read.Tie as tie
+use Rattle.transfer.proofs.linked_read.linked_read_opened.Statement.{statement}
+use Rattle.transfer.proofs.linked_read.linked_read_opened.Tie as tie
 use Rattle.transfer.proofs.LinkedReadStage.{read-refused, read-beyond, read-done, read-walk, read-ready}
 
 payload-bytes-of-requires : tie.Need-payload-bytes-of-requires
@@ -61,8 +61,8 @@ returns-3 c =
     read-done _ _ _ _ _ _ (payload-bytes-of .ensures) _ (ask-linked-read .ensures) _ _ _ (g .given .1) (if1 .left) _ (block-at .ensures) _
     (read-part .ensures)
 
-pub linked-read-spec : {M : Type 1} → statement M
-linked-read-spec =
+pub linked-read-opened-spec : {M : Type 1} → statement M
+linked-read-opened-spec =
     tie.close
     (tie.spec
     payload-bytes-of-requires

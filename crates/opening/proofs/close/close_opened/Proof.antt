@@ -1,8 +1,8 @@
 -- Rests on `CloseStage`: the decision's code and image are the request's, and of a file that it found a reader or the writer can be taken away.
 use borrow.Author.Needs.{needs}
 use Rattle.opening.proofs.CloseStage.{closing-refused, closing-reader, reader-room, reader-done, writer-room, writer-done}
-use Rattle.opening.proofs.close.close.Statement.{statement}
-use Rattle.opening.proofs.close.close.Tie as tie
+use Rattle.opening.proofs.close.close_opened.Statement.{statement}
+use Rattle.opening.proofs.close.close_opened.Tie as tie
 
 decide-close-requires : tie.Need-decide-close-requires
 decide-close-requires c κs = search needs
@@ -57,8 +57,8 @@ returns-3 c =
     let if1 = c .before .before .before .before .if1 in
     writer-done _ _ _ _ (decide-close .ensures) _ _ _ (g .given .1) (if1 .left) _ (c .before .before .set-entry-word2 .ensures)
 
-pub close-spec : {M : Type 1} → statement M
-close-spec =
+pub close-opened-spec : {M : Type 1} → statement M
+close-opened-spec =
     tie.close
     (tie.spec
     decide-close-requires

@@ -1,8 +1,8 @@
 -- Rests on `OpenStage`: the decision's code and image are the request's, and the writer or the readers of a file that it found can be set.
 use borrow.Author.Needs.{needs}
 use Rattle.opening.proofs.OpenStage.{opening-refused, opening-few, opening-room, opening-done}
-use Rattle.opening.proofs.opens.open.Statement.{statement}
-use Rattle.opening.proofs.opens.open.Tie as tie
+use Rattle.opening.proofs.opens.open_opened.Statement.{statement}
+use Rattle.opening.proofs.opens.open_opened.Tie as tie
 
 decide-open-requires : tie.Need-decide-open-requires
 decide-open-requires c κs = search needs
@@ -45,8 +45,8 @@ returns-2 c =
     let open-value = c .before .before .before .open-value in
     opening-done _ _ _ _ _ (decide-open .ensures) _ _ _ (g .given .1) _ _ (open-word .ensures) (open-value .ensures) _ (c .before .before .set-entry-word .ensures)
 
-pub open-spec : {M : Type 1} → statement M
-open-spec =
+pub open-opened-spec : {M : Type 1} → statement M
+open-opened-spec =
     tie.close
     (tie.spec
     decide-open-requires

@@ -1,7 +1,7 @@
 -- Rests on `BlockOutput`: each answer of the stage gives one of the request; the block at a place of the file is a block of the pack.
 use borrow.Author.Needs.{needs}
-use Rattle.transfer.proofs.block.block_output.Statement.{statement}
-use Rattle.transfer.proofs.block.block_output.Tie as tie
+use Rattle.transfer.proofs.block.block_out_opened.Statement.{statement}
+use Rattle.transfer.proofs.block.block_out_opened.Tie as tie
 use native.Mathlib.Omega.{arith}
 use Rattle.transfer.proofs.BlockOutput.{output-refused, output-beyond, output-file, output-done, output-ready}
 
@@ -36,8 +36,8 @@ returns-2 c =
     let g = c .before .before .before .before .g in
     output-beyond _ _ _ _ _ _ (block-bytes-of .ensures) _ (ask-output .ensures) _ _ _ (g .given .1) (c .if1 .taken)
 
-add-t19 : tie.Need-add-t19
-add-t19 c =
+add-t20 : tie.Need-add-t20
+add-t20 c =
     let s = c .before .before .before .before .before .before .before .before .before .before .before .before .before .before in
     let block-bytes-of = c .before .before .before .before .before .before .before .before .before .before .block-bytes-of in
     let ask-output = c .before .before .before .before .before .before .before .before .ask-output in
@@ -67,8 +67,8 @@ returns-3 c =
     let write-part = c .before .before .write-part in
     output-done _ _ _ _ _ _ (block-bytes-of .ensures) _ (ask-output .ensures) _ _ _ (g .given .1) (if1 .left) _ (write-part .ensures)
 
-pub block-output-spec : {M : Type 1} → statement M
-block-output-spec =
+pub block-out-opened-spec : {M : Type 1} → statement M
+block-out-opened-spec =
     tie.close
     (tie.spec
     block-bytes-of-requires
@@ -79,7 +79,7 @@ block-output-spec =
     enum-known-g
     same-length-2
     returns-2
-    add-t19
+    add-t20
     write-part-requires
     same-length-3
     returns-3)

@@ -1,7 +1,7 @@
 -- Rests on `BlockInput`: each answer of the stage gives one of the request; the block at a place of the file is a block of the pack.
 use borrow.Author.Needs.{needs}
-use Rattle.transfer.proofs.block.block_input.Statement.{statement}
-use Rattle.transfer.proofs.block.block_input.Tie as tie
+use Rattle.transfer.proofs.block.block_in_opened.Statement.{statement}
+use Rattle.transfer.proofs.block.block_in_opened.Tie as tie
 use native.Mathlib.Omega.{arith}
 use Rattle.transfer.proofs.BlockInput.{input-refused, input-beyond, input-file, input-done, input-ready}
 
@@ -30,8 +30,8 @@ returns-2 c =
     let g = c .before .before .before .before .g in
     input-beyond _ _ _ _ _ _ (block-bytes-of .ensures) _ (ask-input .ensures) _ _ _ (g .given .1) (c .if1 .taken)
 
-add-t15 : tie.Need-add-t15
-add-t15 c =
+add-t16 : tie.Need-add-t16
+add-t16 c =
     let s = c .before .before .before .before .before .before .before .before .before .before .before .before in
     let block-bytes-of = c .before .before .before .before .before .before .before .before .before .block-bytes-of in
     let ask-input = c .before .before .before .before .before .before .before .before .ask-input in
@@ -61,8 +61,8 @@ returns-3 c =
     let read-part = c .before .before .read-part in
     input-done _ _ _ _ _ _ (block-bytes-of .ensures) _ (ask-input .ensures) _ _ _ (g .given .1) (if1 .left) _ (read-part .ensures)
 
-pub block-input-spec : {M : Type 1} → statement M
-block-input-spec =
+pub block-in-opened-spec : {M : Type 1} → statement M
+block-in-opened-spec =
     tie.close
     (tie.spec
     block-bytes-of-requires
@@ -71,7 +71,7 @@ block-input-spec =
     returns
     enum-known-g
     returns-2
-    add-t15
+    add-t16
     read-part-requires
     same-length
     returns-3)
