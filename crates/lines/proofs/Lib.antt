@@ -20,9 +20,6 @@ pub mod LineReadingProgress
 pub mod LineWrite
 pub mod LineWriteLaid
 pub mod LineWriteCounted
-pub mod BytesWritingStage
-pub mod BytesWritingAnswers
-pub mod BytesWritingEffect
 pub mod LineWritingAnswers
 pub mod LineWritingEffect
 pub mod LineWritingEnding

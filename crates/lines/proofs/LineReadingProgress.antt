@@ -9,10 +9,12 @@ use Rattle.pack.specs.declared.Key.{Key}
 use Rattle.pack.specs.Geometry.{geometryOf, payloadBytes}
 use Rattle.asking.specs.Asked.{fileOf}
 use Rattle.asking.specs.Outcome.{Outcome}
+use Rattle.stream.specs.BytesReading.{bytesBehind}
+use Rattle.stream.proofs.BytesReadingStage.{bytes-left}
 use Rattle.lines.specs.LineRead.{lineFound}
-use Rattle.lines.specs.LineReading.{modeOf, bytesBehind, lineRead}
+use Rattle.lines.specs.LineReading.{modeOf, lineRead}
 use Rattle.lines.proofs.LineReadProgress.{passed-most, passed-some}
-use Rattle.lines.proofs.LineReadingStage.{some-room, bytes-left, line-read-given, line-read-clear, line-read-refused}
+use Rattle.lines.proofs.LineReadingStage.{some-room, line-read-given, line-read-clear, line-read-refused}
 
 -- "returns the next position": the third of its numbers
 abbrev pub nextPosition : Outcome → ℕ
@@ -33,7 +35,7 @@ module _ (img : List ℕ) (key : Key) (caller mode position : ℕ) (buffer : Lis
           → nextPosition (lineRead img key caller mode position buffer) ≤ fileOf img key .length * payloadBytes (geometryOf img)
       by (yes none) =
           let c = line-read-clear img key caller mode position buffer none in
-          omega (arith, next-is none, passed-most (modeOf mode) (length buffer) (bytesBehind img key position), bytes-left (c .0), c .1)
+          omega (arith, next-is none, passed-most (modeOf mode) (length buffer) (bytesBehind img key position), bytes-left (c .0 .reached) position, c .1)
       by (no never) =
           let zero = ap (λ (numbers : List ℕ). getD numbers 2 0) (line-read-refused img key caller mode position buffer never .same-numbers) in
           omega (arith, zero)
@@ -43,5 +45,5 @@ module _ (img : List ℕ) (key : Key) (caller mode position : ℕ) (buffer : Lis
   line-read-grows none before =
       let c = line-read-clear img key caller mode position buffer none in
       let some = some-room mode buffer (c .0 .reached .file .argument) in
-      let left : 0 < length (bytesBehind img key position) = omega (arith, bytes-left (c .0), before) in
+      let left : 0 < length (bytesBehind img key position) = omega (arith, bytes-left (c .0 .reached) position, before) in
       omega (arith, next-is none, passed-some (modeOf mode) (length buffer) (bytesBehind img key position) some left)

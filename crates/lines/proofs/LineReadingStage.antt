@@ -1,51 +1,47 @@
 -- Reading a line: its place in the table, its answer in each case, and what it leaves.
-use Prim.Native.Nat.{ℕ, _+_, _*_, _-_, _≤_, _<_}
+use Prim.Native.Nat.{ℕ, _+_, _*_, _≤_, _<_}
 use mathlib.Core.Path.{_≡_, refl, sym, ap, _∙_}
 use mathlib.Core.Bool.{Bool, true, false, _||_, false≢true}
 use mathlib.Core.List.{List, [], _∷_}
-use native.Mathlib.Nat.{mul-le-mul}
 use native.Mathlib.Omega.{arith}
 use lib.Dec.{eqb, ltb}
-use lib.ListN.{length, drop, length-drop}
-use borrow.Author.Tests.{eqb-false, lt-ltb, le-ltb, ltb-false}
-use Rattle.answers.specs.Refusals.{row, firstOf, tableOrder, inOrder}
-use Rattle.answers.proofs.Refusals.{refuse, pass, clear, none-given}
+use lib.ListN.{length, drop}
+use borrow.Author.Tests.{eqb-false}
+use Rattle.answers.specs.Refusals.{tableOrder, inOrder}
 use Rattle.pack.specs.declared.Geometry.{Geometry}
 use Rattle.pack.specs.declared.Entry.{Entry}
 use Rattle.pack.specs.declared.Key.{Key}
-use Rattle.pack.specs.Geometry.{geometryOf, segmentBytes, payloadBytes}
+use Rattle.pack.specs.Geometry.{geometryOf, payloadBytes}
 use Rattle.pack.specs.GeometrySized.{mostSegments, Sized}
 use Rattle.pack.specs.File.{blocksOf, count}
 use Rattle.asking.specs.declared.Right.the-variants.{Read}
 use Rattle.asking.specs.declared.Asked.{Asked}
 use Rattle.asking.specs.declared.Asked.the-variants.{File, Refused}
 use Rattle.asking.specs.Outcome.{Outcome, Unchanged}
-use Rattle.asking.specs.AskedStage.{fileRows}
 use Rattle.asking.specs.Asked.{entryNo, fileOf}
-use Rattle.asking.specs.Access.{accessRows}
 use Rattle.asking.specs.AccessStage.{accessedOf}
-use Rattle.asking.proofs.AccessStage.{Reached, reached-file, reached-clear, outcome-unreached, outcome-stopped, outcome-passed}
+use Rattle.asking.proofs.AccessStage.{Reached, reached-file}
 use Rattle.asking.proofs.Outcome.{code-is, refusal-keeps, image-by}
 use Rattle.bodies.specs.Payloads.{payloadsOf}
 use Rattle.stream.specs.declared.Spot.{Spot}
-use Rattle.stream.specs.Spot.{bytesFrom}
-use Rattle.stream.proofs.SpotSteps.{linked-length}
-use Rattle.stream.proofs.SpotAsked.{asked-counted, asked-locate}
+use Rattle.stream.specs.Spot.{mostBytes, bytesFrom}
+use Rattle.stream.specs.BytesReading.{bytesBehind}
+use Rattle.stream.proofs.BytesReadingStage.{reading-ordered, reading-clear, reading-unasked, reading-counted, few-bytes, bytes-left, reading-beyond, reading-given, reading-located, bytes-here, bytes-few}
 use Rattle.lines.specs.declared.LineMode.{LineMode}
 use Rattle.lines.specs.declared.line_read.Reader.{Reader}
 use Rattle.lines.specs.LineRead.{lineFound}
 use Rattle.lines.specs.LineSteps.{LineState, readFrom, atEnd, stateLeft}
 use Rattle.lines.specs.LineReadingRows.{wrongReading, lineReadRows}
-use Rattle.lines.specs.LineReading.{modeOf, bytesBehind, foundOutcome, lineRead}
-use Rattle.lines.specs.Reader.{mostBytes, stateOf}
+use Rattle.lines.specs.LineReading.{modeOf, foundOutcome, lineRead}
+use Rattle.lines.specs.Reader.{stateOf}
 use Rattle.lines.proofs.LineReadProgress.{passed-most}
 use Rattle.lines.proofs.LineStepsFound.{steps-found}
 
 -- 40, 15, 41, 2, 6, 43, 45 and 44 stand in the order of the table
 pub line-read-ordered : (img : List ℕ) (key : Key) (caller mode position : ℕ) (buffer : List ℕ)
     → inOrder tableOrder 0 (lineReadRows img key caller mode position buffer) ≡ true
-unfolding lineReadRows fileRows accessRows
-line-read-ordered img key caller mode position buffer = refl
+unfolding lineReadRows
+line-read-ordered img key caller mode position buffer = reading-ordered img key caller (wrongReading mode buffer) position
 
 -- "41 also for a maximum count of 0"
 pub some-room : (mode : ℕ) (buffer : List ℕ) → wrongReading mode buffer ≡ false → 0 < length buffer
@@ -54,20 +50,6 @@ some-room mode buffer right = by (eqb (length buffer) 0) refl right
     by : (none : Bool) → eqb (length buffer) 0 ≡ none → (none || ltb 1 mode) ≡ false → 0 < length buffer
     by true is right = absurd (false≢true (sym right))
     by false is right = omega (arith, eqb-false (length buffer) 0 is)
-
--- "44 for a position beyond the payloads", of a file that was found
-module _ {g h : Geometry} (measures : h ≡ g) {x y : Entry} (own : x ≡ y) where
-  same-size : y .length * payloadBytes h ≡ x .length * payloadBytes g
-  same-size = rw (own, measures)
-
-  pub position-beyond : (position : ℕ) → x .length * payloadBytes g < position → firstOf (row (ltb (y .length * payloadBytes h) position) 0o44 ∷ []) ≡ 0o44
-  position-beyond position over = refuse [] (lt-ltb (y .length * payloadBytes h) position (omega (arith, same-size)))
-
-  pub position-within : (position : ℕ) → position ≤ x .length * payloadBytes g → firstOf (row (ltb (y .length * payloadBytes h) position) 0o44 ∷ []) ≡ 0
-  position-within position inside = pass 0o44 [] (le-ltb (y .length * payloadBytes h) position (omega (arith, same-size))) ∙ clear
-
-pub within-position : (size position : ℕ) → firstOf (row (ltb size position) 0o44 ∷ []) ≡ 0 → position ≤ size
-within-position size position none = ltb-false size position (none-given (ltb size position) 0o44 [] (λ is. omega (arith, is)) none .0)
 
 -- what the request answers with, and leaves in the buffer
 abbrev Answers : List ℕ → Key → ℕ → ℕ → ℕ → List ℕ → ℕ → List ℕ → List ℕ → Type 0
@@ -86,8 +68,7 @@ module _ (img : List ℕ) (key : Key) (caller mode position : ℕ) (buffer : Lis
   module _ (asked : Asked) (is : asked ≡ accessedOf img key (wrongReading mode buffer) caller Read 1 (λ x. eqb (x .readers) 0)) where
     pub line-unasked : (code : ℕ) → asked ≡ Refused code → Answers img key caller mode position buffer code (0 ∷ (0 ∷ (0 ∷ []))) buffer
     unfolding lineRead lineReadRows
-    line-unasked code told =
-        answers-of (outcome-unreached img key (wrongReading mode buffer) caller Read 1 (λ x. eqb (x .readers) 0) _ buffer _ (sym is ∙ told))
+    line-unasked code told = answers-of (reading-unasked img key caller (wrongReading mode buffer) position buffer _ (sym is ∙ told))
 
     pub line-read-asked : (g : Geometry) (e : ℕ) (x : Entry) → asked ≡ File g e x → LineAsked img key caller mode position buffer g e x
     line-read-asked g e x told =
@@ -95,44 +76,20 @@ module _ (img : List ℕ) (key : Key) (caller mode position : ℕ) (buffer : Lis
 
 module _ {img : List ℕ} {key : Key} {caller mode position : ℕ} {buffer : List ℕ} {g : Geometry} {e : ℕ} {x : Entry}
     (file : LineAsked img key caller mode position buffer g e x) where
-  -- what `bytes_in` asks: no file has more bytes than can be counted
+  -- what `bytes_in` asks
   pub line-counted : (0 < g .segments .0) × (g .segments .0 ≤ mostSegments) × (x .length < 65536)
-  line-counted = asked-counted (file .reached .file)
-
-  few-bytes : x .length * payloadBytes g ≤ mostBytes
-  few-bytes =
-      let few : x .length ≤ 65536 = omega (arith, line-counted) in
-      let small : payloadBytes g ≤ segmentBytes mostSegments = omega (arith, line-counted) in
-      mul-le-mul few small
-
-  -- the bytes behind the position, by the measures and the entry that the code has
-  bytes-read : drop position (payloadsOf img g (blocksOf img g x)) ≡ bytesBehind img key position
-  bytes-read =
-      ap (λ (h : Geometry). drop position (payloadsOf img h (blocksOf img h x))) (sym (file .reached .file .measures))
-      ∙ ap (λ (y : Entry). drop position (payloadsOf img (geometryOf img) (blocksOf img (geometryOf img) y))) (file .reached .entry)
-
-  pub bytes-left : length (bytesBehind img key position) ≡ x .length * payloadBytes g - position
-  bytes-left =
-      let located = asked-locate (file .reached .file) (file .reached .access .kind) 0 (omega arith) in
-      ap length (sym bytes-read)
-      ∙ length-drop position (payloadsOf img g (blocksOf img g x))
-      ∙ ap (λ (n : ℕ). n - position) (linked-length x (located .0) (located .1 .0))
+  line-counted = reading-counted (file .reached)
 
   -- a reading whose conditions hold
   pub line-read-given : position ≤ x .length * payloadBytes g
       → lineRead img key caller mode position buffer ≡ foundOutcome img position buffer (lineFound (modeOf mode) (length buffer) (bytesBehind img key position))
   unfolding lineRead lineReadRows
-  line-read-given inside =
-      outcome-passed img key (wrongReading mode buffer) caller Read 1 (λ y. eqb (y .readers) 0) _ buffer _ (file .reached)
-      (position-within (file .reached .file .measures) (file .reached .entry) position inside)
+  line-read-given inside = reading-given (file .reached) position inside buffer _
 
   module _ {size : ℕ} (counted : size ≡ x .length * payloadBytes g) where
     pub line-beyond : size < position → Answers img key caller mode position buffer 0o44 (0 ∷ (0 ∷ (0 ∷ []))) buffer
     unfolding lineRead lineReadRows
-    line-beyond over =
-        let beyond = position-beyond (file .reached .file .measures) (file .reached .entry) position (omega (arith, counted, over)) in
-        answers-of img key caller mode position buffer
-        (outcome-stopped img key (wrongReading mode buffer) caller Read 1 (λ y. eqb (y .readers) 0) _ buffer _ (file .reached) beyond (λ zero. omega (arith, zero)))
+    line-beyond over = answers-of img key caller mode position buffer (reading-beyond (file .reached) position (omega (arith, counted, over)) buffer _)
 
     module _ (within : position ≤ size) where
       inside : position ≤ x .length * payloadBytes g
@@ -142,15 +99,12 @@ module _ {img : List ℕ} {key : Key} {caller mode position : ℕ} {buffer : Lis
       pub line-located : Sized img g
           × (((z : ℕ) → 0 < count z (blocksOf img g x) → z < g .blocks)
           × ((x .kind ≡ 2) × (position ≤ x .length * payloadBytes g)))
-      line-located = asked-locate (file .reached .file) (file .reached .access .kind) position inside
+      line-located = reading-located (file .reached) position inside
 
       -- what `read_payloads` asks, and what is answered when it has read
       module _ (spot : Spot) (stands : bytesFrom img g spot ≡ drop position (payloadsOf img g (blocksOf img g x))) where
-        here : bytesFrom img g spot ≡ bytesBehind img key position
-        here = stands ∙ bytes-read
-
         pub line-ready : (0 < length buffer) × (length (bytesFrom img g spot) ≤ mostBytes)
-        line-ready = (some-room mode buffer (file .reached .file .argument), omega (arith, ap (λ (s : List ℕ). length s) here, bytes-left, few-bytes))
+        line-ready = (some-room mode buffer (file .reached .file .argument), bytes-few (file .reached) position spot stands)
 
         module _ (after : List ℕ) (r : Reader) {kind : LineMode} (means : kind ≡ modeOf mode)
             (read : stateOf after r ≡ atEnd (length buffer) (readFrom kind (length buffer) buffer 0 0 (bytesFrom img g spot))) where
@@ -158,13 +112,13 @@ module _ {img : List ℕ} {key : Key} {caller mode position : ℕ} {buffer : Lis
           found =
               read
               ∙ ap (λ (m : LineMode). atEnd (length buffer) (readFrom m (length buffer) buffer 0 0 (bytesFrom img g spot))) means
-              ∙ ap (λ (s : List ℕ). atEnd (length buffer) (readFrom (modeOf mode) (length buffer) buffer 0 0 s)) here
+              ∙ ap (λ (s : List ℕ). atEnd (length buffer) (readFrom (modeOf mode) (length buffer) buffer 0 0 s)) (bytes-here (file .reached) position spot stands)
               ∙ steps-found (modeOf mode) (length buffer) buffer (bytesBehind img key position) refl (line-ready .0)
 
           pub line-fits : position + r .passed ≤ mostBytes
           line-fits =
               let passed = passed-most (modeOf mode) (length buffer) (bytesBehind img key position) in
-              omega (arith, ap (λ (s : LineState). s .passed) found, passed, bytes-left, few-bytes, inside)
+              omega (arith, ap (λ (s : LineState). s .passed) found, passed, bytes-left (file .reached) position, few-bytes (file .reached), inside)
 
           pub line-done : Answers img key caller mode position buffer 0 (r .count ∷ (r .status ∷ ((position + r .passed) ∷ []))) after
           line-done =
@@ -183,9 +137,8 @@ module _ (img : List ℕ) (key : Key) (caller mode position : ℕ) (buffer : Lis
       × (position ≤ fileOf img key .length * payloadBytes (geometryOf img))
   unfolding lineRead lineReadRows
   line-read-clear none =
-      let clear = sym (code-is _ img buffer _) ∙ none in
-      let r = reached-clear img key (wrongReading mode buffer) caller Read 1 (λ y. eqb (y .readers) 0) _ clear in
-      (record { reached = r .0 }, within-position _ position (r .1))
+      let c = reading-clear img key caller (wrongReading mode buffer) position (sym (code-is _ img buffer _) ∙ none) in
+      (record { reached = c .0 }, c .1)
 
   -- "and nothing in the image or a lent buffer changes"
   pub line-read-refused : (lineRead img key caller mode position buffer .code ≡ 0 → ⊥)

@@ -1,13 +1,12 @@
--- Characters and NULs laid in a gather buffer: what is put for a character one byte after another, a text character by character, as the loops do it.
+-- Characters laid in a gather buffer: what is put for a character one byte after another, a text character by character, as the loops do it.
 use Prim.Native.Nat.{ℕ, _+_, _-_, _≤_, _<_}
 use mathlib.Core.Path.{_≡_, refl, ap, subst}
 use mathlib.Core.Bool.{Bool, true, false, cond}
 use mathlib.Core.List.{List, [], _∷_, _++_}
 use native.Mathlib.Omega.{arith}
 use lib.Dec.{eqb}
-use lib.ListN.{length, take, drop, getD, set, replicate, drop-of-length-le}
+use lib.ListN.{length, take, drop, getD, set, drop-of-length-le}
 use borrow.Author.Tests.{eqb-true}
-use Rattle.answers.proofs.RefusalsTests.{down}
 use Rattle.pack.specs.declared.Geometry.{Geometry}
 use Rattle.stream.specs.declared.Filling.{Filling}
 use Rattle.stream.specs.Filling.{Layable, LaidByte, Writable, Laying, LaidWithin}
@@ -90,22 +89,3 @@ module _ (text : List ℕ) {g : Geometry} {e : ℕ} {img₀ map₀ gather₀ : L
   pub text-end : length text ≤ i → Laying g e img₀ map₀ gather₀ start (putAll text) img map gather at []
   unfolding putAll
   text-end over = subst (λ (s : List ℕ). Laying g e img₀ map₀ gather₀ start (putAll text) img map gather at (putAll s)) (drop-of-length-le text over) laying
-
--- so many NULs
-module _ {g : Geometry} {e : ℕ} {img₀ map₀ gather₀ : List ℕ} {start : Filling} {bytes img map gather : List ℕ} {at : Filling} (left : ℕ)
-    (laying : Laying g e img₀ map₀ gather₀ start bytes img map gather at (replicate left 0)) where
-  module _ (more : 0 < left) where
-    at-nul : Laying g e img₀ map₀ gather₀ start bytes img map gather at (0 ∷ replicate (left - 1) 0)
-    at-nul = subst (λ (n : ℕ). Laying g e img₀ map₀ gather₀ start bytes img map gather at (replicate n 0)) (down left more) laying
-
-    pub nul-layable : Writable img₀ map₀ g e gather₀ start bytes → Layable img map g e gather at 0
-    nul-layable w = laying-layable w at-nul
-
-    pub nul-next : {gather′ img′ map′ : List ℕ} {r : Filling} → gather′ ≡ set gather (at .filled) 0 → LaidByte img map g e at gather′ img′ map′ r
-        → Laying g e img₀ map₀ gather₀ start bytes img′ map′ gather′ r (replicate (left - 1) 0)
-    nul-next laid one = laying-next at-nul laid one
-
-  pub nul-end : left ≤ 0 → Laying g e img₀ map₀ gather₀ start bytes img map gather at []
-  nul-end none =
-      let zero : left ≡ 0 = omega arith in
-      subst (λ (n : ℕ). Laying g e img₀ map₀ gather₀ start bytes img map gather at (replicate n 0)) zero laying

@@ -25,9 +25,9 @@ use Rattle.stream.specs.Gather.{Gathered, lastOr}
 use Rattle.stream.specs.AddedAll.{addedAll, takenBlocks}
 use Rattle.lines.specs.LineWrite.{putAll, takenOf, writtenStatus}
 use Rattle.lines.specs.LineReading.{modeOf}
-use Rattle.lines.specs.BytesWriting.{wrongGather, gatheredIn, writingRows}
+use Rattle.stream.specs.BytesWriting.{wrongGather, gatheredIn, writingRows}
 use Rattle.lines.specs.LineWriting.{lineWrite}
-use Rattle.lines.proofs.BytesWritingEffect as W
+use Rattle.stream.proofs.BytesWritingEffect as W
 
 module _ (img : List ℕ) (key : Key) (caller mode : ℕ) (text gather : List ℕ) (filled : ℕ) where
   abbrev line : List ℕ

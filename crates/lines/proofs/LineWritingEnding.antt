@@ -30,11 +30,11 @@ use Rattle.adding.specs.LinkedAdd.{linkedAdd}
 use Rattle.stream.specs.Gather.{Gathered, gatherAll, lastOr}
 use Rattle.stream.specs.AddedAll.{addedAll, takenBlocks}
 use Rattle.stream.proofs.Gather.{gathered-count, gathered-filled}
-use Rattle.lines.specs.BytesWriting.{wrongGather, gatheredIn, writingRows}
+use Rattle.stream.specs.BytesWriting.{wrongGather, gatheredIn, writingRows}
 use Rattle.lines.specs.LineWriting.{nulsFor, lineEnd}
-use Rattle.lines.proofs.BytesWritingStage.{Fitting, argument-fits}
-use Rattle.lines.proofs.BytesWritingAnswers.{write-fitting}
-use Rattle.lines.proofs.BytesWritingEffect as W
+use Rattle.stream.proofs.BytesWritingStage.{Fitting, argument-fits}
+use Rattle.stream.proofs.BytesWritingAnswers.{write-fitting}
+use Rattle.stream.proofs.BytesWritingEffect as W
 
 one-of : (payloads : List (List ℕ)) → length payloads ≡ 1 → payloads ≡ flatten payloads ∷ []
 unfolding flatten

@@ -10,13 +10,13 @@ use Rattle.pack.specs.declared.Geometry.{Geometry}
 use Rattle.pack.specs.File.{linkOf}
 use Rattle.bodies.specs.BlockBytes.{partOf}
 use Rattle.stream.specs.declared.Spot.{Spot}
-use Rattle.stream.specs.Spot.{payloadsFrom, bytesFrom, Standing}
+use Rattle.stream.specs.Spot.{payloadsFrom, mostBytes, bytesFrom, Standing}
 use Rattle.stream.proofs.SpotSteps.{spot-end}
 use Rattle.lines.specs.declared.LineMode.{LineMode}
 use Rattle.lines.specs.declared.line_read.Reader.{Reader}
 use Rattle.lines.specs.LineRead.{statusBit}
 use Rattle.lines.specs.LineSteps.{LineState, readFrom, readOnFrom, atEnd}
-use Rattle.lines.specs.Reader.{mostBytes, stateOf, Following}
+use Rattle.lines.specs.Reader.{stateOf, Following}
 use Rattle.lines.proofs.LineSteps.{read-parts, part-ended, part-unended, part-end, file-ended, file-unended}
 use Rattle.lines.proofs.SpotPayload.{payload-inside, payload-split}
 

@@ -5,7 +5,6 @@ pub mod LineSteps
 pub mod Reader
 pub mod ReadOn
 pub mod LineWrite
-pub mod BytesWriting
 pub mod LineRoundTrip
 pub mod LineReadingRows
 pub mod LineReading

@@ -5,11 +5,8 @@ use mathlib.Core.List.{List, [], _∷_, _++_}
 use lib.Dec.{eqb}
 use lib.ListN.{length, drop}
 use Rattle.pack.specs.declared.Key.{Key}
-use Rattle.pack.specs.Geometry.{geometryOf}
-use Rattle.pack.specs.File.{blocksOf}
 use Rattle.asking.specs.Outcome.{Outcome, settled}
-use Rattle.asking.specs.Asked.{fileOf}
-use Rattle.bodies.specs.Payloads.{payloadsOf}
+use Rattle.stream.specs.BytesReading.{bytesBehind}
 use Rattle.lines.specs.declared.LineMode.{LineMode}
 use Rattle.lines.specs.declared.LineMode.the-variants.{Normal, Special}
 use Rattle.lines.specs.LineRead.{LineFound, lineFound}
@@ -18,10 +15,6 @@ use Rattle.lines.specs.LineReadingRows.{lineReadRows}
 -- the mode that a number means: 0 normal, 1 special
 abbrev pub modeOf : ℕ → LineMode
 modeOf mode = cond (eqb mode 1) Special Normal
-
--- "Reading starts at a byte position in the file's payloads, joined": the bytes from there on
-abbrev pub bytesBehind : List ℕ → Key → ℕ → List ℕ
-bytesBehind img key position = drop position (payloadsOf img (geometryOf img) (blocksOf img (geometryOf img) (fileOf img key)))
 
 -- count, status and "the next position"; "Bytes of a lent buffer not laid over stay."
 abbrev pub foundOutcome : List ℕ → ℕ → List ℕ → LineFound → Outcome

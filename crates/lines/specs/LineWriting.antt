@@ -9,7 +9,7 @@ use Rattle.pack.specs.Geometry.{geometryOf, payloadBytes}
 use Rattle.asking.specs.Outcome.{Outcome}
 use Rattle.lines.specs.LineWrite.{putAll, takenOf, writtenStatus}
 use Rattle.lines.specs.LineReading.{modeOf}
-use Rattle.lines.specs.BytesWriting.{gatheredIn, bytesWritten}
+use Rattle.stream.specs.BytesWriting.{gatheredIn, bytesWritten}
 
 -- "both return the count taken", the status, and the filled count; a mode that is neither normal nor special is a wrong argument
 unfoldable pub lineWrite : List ℕ → Key → ℕ → ℕ → List ℕ → List ℕ → ℕ → Outcome

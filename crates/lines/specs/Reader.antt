@@ -1,14 +1,12 @@
 -- Means: how far the code is that reads a line, as a state of the reading.
-use Prim.Native.Nat.{ℕ, _+_, _*_, _≤_}
+use Prim.Native.Nat.{ℕ, _+_, _≤_}
 use mathlib.Core.Path.{_≡_}
 use mathlib.Core.Bool.{true, false}
 use mathlib.Core.List.{List}
 use lib.ListN.{length, drop}
-use Rattle.pack.specs.GeometrySized.{mostSegments}
-use Rattle.pack.specs.Geometry.{segmentBytes}
 use Rattle.pack.specs.declared.Geometry.{Geometry}
 use Rattle.stream.specs.declared.Spot.{Spot}
-use Rattle.stream.specs.Spot.{bytesFrom, Standing}
+use Rattle.stream.specs.Spot.{bytesFrom, Standing, mostBytes}
 use Rattle.lines.specs.declared.LineMode.{LineMode}
 use Rattle.lines.specs.declared.line_read.Reader.{Reader}
 use Rattle.lines.specs.declared.line_read.Role.{Role}
@@ -21,10 +19,6 @@ pub data IsRole (y : ℕ) : Role → Type 0 where
   discarded : isDiscarded y ≡ true → IsRole y Discarded
   terminator : isDiscarded y ≡ false → isTerminator y ≡ true → IsRole y Terminator
   plain : isDiscarded y ≡ false → isTerminator y ≡ false → IsRole y Plain
-
--- no file has more bytes: its length is a word
-abbrev pub mostBytes : ℕ
-mostBytes = 65536 * segmentBytes mostSegments
 
 -- the buffer is lent, and no part of it
 abbrev pub stateOf : List ℕ → Reader → LineState

@@ -1,4 +1,4 @@
-// What is counted before a byte is laid: the characters that a write takes, the bytes that it puts for them, and the blocks that become full.
+// What is counted before a byte is laid: the characters that a write takes, the bytes that it puts for them, and the blocks that they fill.
 ghost use mathlib.Core.Path.{_≡_};
 ghost use mathlib.Core.Bool.{cond};
 ghost use Prim.Native.Nat.{_+_, _/_, _≤_, _<_, min};
@@ -78,30 +78,14 @@ fn count_puts(text: &[u8]) -> usize
     puts
 }
 
-// How many blocks become full; none where the filled count leaves no room. The filled count and the bytes together may be more than a number holds:
-// the bytes that fill the first are taken off.
-pub fn full_blocks(size: usize, filled: usize, bytes: usize) -> Blocks
-    ensures { λ r. ⌜ (filled < size → r .0 ≡ (filled + bytes) / size) ⌝ }
-    ensures { λ r. ⌜ (size ≤ filled → r .0 ≡ 0) ⌝ }
-{
-    if size <= filled {
-        return Blocks(0);
-    }
-    let room = size - filled;
-    if bytes < room {
-        return Blocks(0);
-    }
-    Blocks((bytes - room) / size + 1)
-}
-
-// The same for a text. Two bytes are the most that are put for a character: where so many fill no block, none is counted.
+// How many blocks become full by a text. Two bytes are the most that are put for a character: where so many fill no block, none is counted.
 pub fn text_blocks(size: usize, filled: usize, text: &[u8]) -> Blocks
     ensures { λ r. ⌜ (filled < size → r .0 ≡ (filled + length (putAll (now (text .entry)))) / size) ⌝ }
     ensures { λ r. ⌜ (size ≤ filled → r .0 ≡ 0) ⌝ }
 {
-    let most = full_blocks(size, filled, 2 * text.len());
+    let most = stream::full_blocks(size, filled, 2 * text.len());
     if most.0 == 0 {
         return most;
     }
-    full_blocks(size, filled, count_puts(text))
+    stream::full_blocks(size, filled, count_puts(text))
 }

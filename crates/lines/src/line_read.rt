@@ -4,14 +4,16 @@ ghost use mathlib.Core.List.{[], _∷_};
 ghost use Prim.Native.Nat.{_+_, _-_, _≤_, _<_, min};
 ghost use lib.ListN.{length};
 ghost use Rattle.pack.specs.File.{linkOf};
-ghost use Rattle.stream.specs.Spot.{payloadsFrom, bytesFrom, Standing};
+ghost use Rattle.consistency.specs.ConsistentTest.{openedOf};
+ghost use Rattle.stream.specs.Spot.{payloadsFrom, mostBytes, bytesFrom, Standing};
 ghost use Rattle.lines.specs.LineRead.{statusBit};
 ghost use Rattle.lines.specs.LineSteps.{isSpecial, readFrom, atEnd};
 ghost use Rattle.lines.specs.LineReading.{modeOf, lineRead};
-ghost use Rattle.lines.specs.Reader.{mostBytes, IsRole, stateOf};
+ghost use Rattle.lines.specs.Reader.{IsRole, stateOf};
 use crate::LineMode;
 use crate::characters;
 use asking::Asked;
+use consistency::Opened;
 use pack::Geometry;
 use pack::Key;
 use stream::Spot;
@@ -211,8 +213,27 @@ pub fn line_read(
     ensures { λ r. ⌜ (r .count ∷ (r .status ∷ (r .position ∷ []))) ≡ lineRead (now (img .entry)) key caller mode position (now (buffer .entry)) .numbers ⌝ }
     ensures { λ r. ⌜ now (buffer .exit) ≡ lineRead (now (img .entry)) key caller mode position (now (buffer .entry)) .buffer ⌝ }
 {
+    let opened = consistency::open_pack(img);
+    line_read_opened(img, opened, key, caller, mode, position, buffer)
+}
+
+// In a pack that was opened.
+pub fn line_read_opened(
+    img: &[u8],
+    opened: Opened,
+    key: Key,
+    caller: usize,
+    mode: usize,
+    position: usize,
+    buffer: &mut [u8],
+) -> ReadAnswer
+    requires { ⌜ opened ≡ openedOf (now img) ⌝ }
+    ensures { λ r. ⌜ r .code ≡ lineRead (now (img .entry)) key caller mode position (now (buffer .entry)) .code ⌝ }
+    ensures { λ r. ⌜ (r .count ∷ (r .status ∷ (r .position ∷ []))) ≡ lineRead (now (img .entry)) key caller mode position (now (buffer .entry)) .numbers ⌝ }
+    ensures { λ r. ⌜ now (buffer .exit) ≡ lineRead (now (img .entry)) key caller mode position (now (buffer .entry)) .buffer ⌝ }
+{
     let wrong = (buffer.len() == 0) | (1 < mode);
-    match linked_read::ask_linked_read(img, key, caller, wrong) {
+    match linked_read::ask_linked_read(img, opened, key, caller, wrong) {
         Asked::Refused(code) => {
             return ReadAnswer {
                 code,

@@ -1,25 +1,23 @@
 // Writing a line, and the ending call. What is taken and put is counted first, so that a write without room is refused before a byte is laid.
 ghost use mathlib.Core.Path.{_≡_};
 ghost use mathlib.Core.Bool.{true};
-ghost use mathlib.Core.List.{List, [], _∷_};
-ghost use Prim.Native.Nat.{ℕ, _+_, _/_, _<_};
+ghost use mathlib.Core.List.{[], _∷_};
+ghost use Prim.Native.Nat.{_≤_, _<_};
 ghost use lib.ListN.{length, replicate};
-ghost use Rattle.pack.specs.GeometrySized.{mostBlocks};
-ghost use Rattle.consistency.specs.ConsistentTest.{consistent};
-ghost use Rattle.asking.specs.AskedStage.{stageOf};
-ghost use Rattle.room.specs.RoomMap.{Says};
+ghost use Rattle.pack.specs.GeometrySized.{mostSegments};
+ghost use Rattle.pack.specs.Geometry.{segmentBytes};
+ghost use Rattle.consistency.specs.ConsistentTest.{openedOf};
+ghost use Rattle.consistency.specs.Mapped.{Lent, MappedIf};
 ghost use Rattle.stream.specs.Filling.{Writable, Laying};
 ghost use Rattle.lines.specs.LineWrite.{putOf, putAll, writtenStatus};
-ghost use Rattle.lines.specs.BytesWriting.{wrongGather, writingRows};
 ghost use Rattle.lines.specs.LineWriting.{lineWrite, nulsFor, lineEnd};
 use crate::characters;
 use crate::counting;
-use adding::linked_add;
 use asking::Asked;
+use consistency::Opened;
 use pack::BlockNo;
 use pack::Geometry;
 use pack::Key;
-use room::Blocks;
 use stream::Filling;
 
 // What a write answers: "the count taken", the status, and the filled count.
@@ -160,57 +158,6 @@ fn lay_text(
     at
 }
 
-fn lay_nuls(
-    img: &mut [u8],
-    map: &mut [u8],
-    g: Geometry,
-    e: usize,
-    gather: &mut [u8],
-    start: Filling,
-    count: usize,
-) -> Filling
-    requires { ⌜ Writable (now img) (now map) g e (now gather) start (replicate count 0) ⌝ }
-    ensures { λ r. ⌜ Laying g e (now (img .entry)) (now (map .entry)) (now (gather .entry)) start (replicate count 0)
-        (now (img .exit)) (now (map .exit)) (now (gather .exit)) r [] ⌝ }
-{
-    let mut at = start;
-    let mut left = count;
-    while 0 < left {
-        at = stream::lay(img, map, g, e, gather, at, characters::NUL);
-        left -= 1;
-    }
-    at
-}
-
-// Is the gather buffer not of a payload's size, or does the filled count leave no room in it?
-fn is_gather_wrong(img: &[u8], gather: &[u8], filled: usize) -> bool
-    ensures { λ r. ⌜ r ≡ wrongGather (now (img .entry)) (now (gather .entry)) filled ⌝ }
-{
-    let size = bodies::payload_bytes_of(img);
-    (gather.len() != size) | (size <= filled)
-}
-
-// All that can refuse a request that fills so many blocks; nothing is written here. `wrong` says that an argument is wrong other than the gather
-// buffer and its filled count. The map is lent all zero, as for linked add.
-fn ask_write(
-    img: &[u8],
-    map: &mut [u8],
-    key: Key,
-    caller: usize,
-    wrong: bool,
-    gather: &[u8],
-    filled: usize,
-    needed: Blocks,
-) -> Asked
-    requires { ⌜ now map ≡ replicate mostBlocks 0 ⌝ }
-    ensures { λ r. ⌜ ((put : List ℕ) → (filled < length (now (gather .entry)) → needed .0 ≡ (filled + length put) / length (now (gather .entry)))
-        → r ≡ stageOf (writingRows (now (img .entry)) key caller wrong (now (gather .entry)) filled put) (now (img .entry)) key) ⌝ }
-    ensures { λ r. ⌜ (consistent (now (img .entry)) ≡ true → Says (now (map .exit)) (now (img .entry))) ⌝ }
-{
-    let unfit = is_gather_wrong(img, gather, filled);
-    linked_add::ask_add(img, map, key, caller, unfit | wrong, needed)
-}
-
 pub fn line_write(
     img: &mut [u8],
     key: Key,
@@ -226,11 +173,71 @@ pub fn line_write(
     ensures { λ r. ⌜ now (img .exit) ≡ lineWrite (now (img .entry)) key caller mode (now (text .entry)) (now (gather .entry)) filled .image ⌝ }
     ensures { λ r. ⌜ now (gather .exit) ≡ lineWrite (now (img .entry)) key caller mode (now (text .entry)) (now (gather .entry)) filled .buffer ⌝ }
 {
+    if img.len() <= consistency::FEW_BYTES {
+        let mut map = [0u8; consistency::FEW_BLOCKS];
+        return line_write_lent(img, &mut map, key, caller, mode, text, gather, filled);
+    }
+    let mut map = [0u8; pack::MOST_BLOCKS];
+    line_write_lent(img, &mut map, key, caller, mode, text, gather, filled)
+}
+
+// On a lent map.
+fn line_write_lent(
+    img: &mut [u8],
+    map: &mut [u8],
+    key: Key,
+    caller: usize,
+    mode: usize,
+    text: &[u8],
+    gather: &mut [u8],
+    filled: usize,
+) -> WriteAnswer
+    requires { ⌜ Lent (now map) (now img) ⌝ }
+    ensures { λ r. ⌜ r .code ≡ lineWrite (now (img .entry)) key caller mode (now (text .entry)) (now (gather .entry)) filled .code ⌝ }
+    ensures { λ r. ⌜ (r .count ∷ (r .status ∷ (r .filled ∷ [])))
+        ≡ lineWrite (now (img .entry)) key caller mode (now (text .entry)) (now (gather .entry)) filled .numbers ⌝ }
+    ensures { λ r. ⌜ now (img .exit) ≡ lineWrite (now (img .entry)) key caller mode (now (text .entry)) (now (gather .entry)) filled .image ⌝ }
+    ensures { λ r. ⌜ now (gather .exit) ≡ lineWrite (now (img .entry)) key caller mode (now (text .entry)) (now (gather .entry)) filled .buffer ⌝ }
+{
+    let opened = consistency::open_mapped(img, map);
+    line_write_opened(img, map, opened, key, caller, mode, text, gather, filled)
+}
+
+// In a pack that was opened.
+pub fn line_write_opened(
+    img: &mut [u8],
+    map: &mut [u8],
+    opened: Opened,
+    key: Key,
+    caller: usize,
+    mode: usize,
+    text: &[u8],
+    gather: &mut [u8],
+    filled: usize,
+) -> WriteAnswer
+    requires { ⌜ opened ≡ openedOf (now img) ⌝ }
+    requires { ⌜ MappedIf (now map) (now img) ⌝ }
+    ensures { λ r. ⌜ r .code ≡ lineWrite (now (img .entry)) key caller mode (now (text .entry)) (now (gather .entry)) filled .code ⌝ }
+    ensures { λ r. ⌜ (r .count ∷ (r .status ∷ (r .filled ∷ [])))
+        ≡ lineWrite (now (img .entry)) key caller mode (now (text .entry)) (now (gather .entry)) filled .numbers ⌝ }
+    ensures { λ r. ⌜ now (img .exit) ≡ lineWrite (now (img .entry)) key caller mode (now (text .entry)) (now (gather .entry)) filled .image ⌝ }
+    ensures { λ r. ⌜ now (gather .exit) ≡ lineWrite (now (img .entry)) key caller mode (now (text .entry)) (now (gather .entry)) filled .buffer ⌝ }
+    ensures { λ r. ⌜ MappedIf (now (map .exit)) (now (img .exit)) ⌝ }
+{
     let count = counting::count_taken(mode == 1, text);
     let taken = &text[..count];
     let needed = counting::text_blocks(gather.len(), filled, taken);
-    let mut map = [0u8; pack::MOST_BLOCKS];
-    match ask_write(img, &mut map, key, caller, 1 < mode, gather, filled, needed) {
+    match stream::ask_write(
+        img,
+        map,
+        opened,
+        key,
+        caller,
+        1 < mode,
+        gather,
+        filled,
+        needed,
+    ) {
         Asked::Refused(code) => WriteAnswer {
             code,
             count: 0,
@@ -242,7 +249,7 @@ pub fn line_write(
                 filled,
                 from: BlockNo(g.blocks),
             };
-            let at = lay_text(img, &mut map, g, e, gather, start, taken);
+            let at = lay_text(img, map, g, e, gather, start, taken);
             WriteAnswer {
                 code: 0,
                 count,
@@ -256,6 +263,7 @@ pub fn line_write(
 // "an ending call fills the last with NUL, or adds none at 0": how many that takes.
 fn nuls_for(img: &[u8], filled: usize) -> usize
     ensures { λ r. ⌜ nulsFor (now (img .entry)) filled ≡ replicate r 0 ⌝ }
+    ensures { λ r. ⌜ r ≤ segmentBytes mostSegments ⌝ }
 {
     let size = bodies::payload_bytes_of(img);
     if filled == 0 {
@@ -267,22 +275,68 @@ fn nuls_for(img: &[u8], filled: usize) -> usize
     size - filled
 }
 
+// No payload has more bytes.
+const MOST_NULS: usize = 128 * pack::MOST_SEGMENTS;
+
 pub fn line_end(img: &mut [u8], key: Key, caller: usize, gather: &mut [u8], filled: usize) -> usize
     ensures { λ r. ⌜ r ≡ lineEnd (now (img .entry)) key caller (now (gather .entry)) filled .code ⌝ }
     ensures { λ r. ⌜ now (img .exit) ≡ lineEnd (now (img .entry)) key caller (now (gather .entry)) filled .image ⌝ }
     ensures { λ r. ⌜ now (gather .exit) ≡ lineEnd (now (img .entry)) key caller (now (gather .entry)) filled .buffer ⌝ }
 {
-    let nuls = nuls_for(img, filled);
-    let needed = counting::full_blocks(gather.len(), filled, nuls);
+    if img.len() <= consistency::FEW_BYTES {
+        let mut map = [0u8; consistency::FEW_BLOCKS];
+        return line_end_lent(img, &mut map, key, caller, gather, filled);
+    }
     let mut map = [0u8; pack::MOST_BLOCKS];
-    match ask_write(img, &mut map, key, caller, false, gather, filled, needed) {
+    line_end_lent(img, &mut map, key, caller, gather, filled)
+}
+
+// On a lent map.
+fn line_end_lent(
+    img: &mut [u8],
+    map: &mut [u8],
+    key: Key,
+    caller: usize,
+    gather: &mut [u8],
+    filled: usize,
+) -> usize
+    requires { ⌜ Lent (now map) (now img) ⌝ }
+    ensures { λ r. ⌜ r ≡ lineEnd (now (img .entry)) key caller (now (gather .entry)) filled .code ⌝ }
+    ensures { λ r. ⌜ now (img .exit) ≡ lineEnd (now (img .entry)) key caller (now (gather .entry)) filled .image ⌝ }
+    ensures { λ r. ⌜ now (gather .exit) ≡ lineEnd (now (img .entry)) key caller (now (gather .entry)) filled .buffer ⌝ }
+{
+    let opened = consistency::open_mapped(img, map);
+    line_end_opened(img, map, opened, key, caller, gather, filled)
+}
+
+// In a pack that was opened.
+pub fn line_end_opened(
+    img: &mut [u8],
+    map: &mut [u8],
+    opened: Opened,
+    key: Key,
+    caller: usize,
+    gather: &mut [u8],
+    filled: usize,
+) -> usize
+    requires { ⌜ opened ≡ openedOf (now img) ⌝ }
+    requires { ⌜ MappedIf (now map) (now img) ⌝ }
+    ensures { λ r. ⌜ r ≡ lineEnd (now (img .entry)) key caller (now (gather .entry)) filled .code ⌝ }
+    ensures { λ r. ⌜ now (img .exit) ≡ lineEnd (now (img .entry)) key caller (now (gather .entry)) filled .image ⌝ }
+    ensures { λ r. ⌜ now (gather .exit) ≡ lineEnd (now (img .entry)) key caller (now (gather .entry)) filled .buffer ⌝ }
+    ensures { λ r. ⌜ MappedIf (now (map .exit)) (now (img .exit)) ⌝ }
+{
+    let count = nuls_for(img, filled);
+    let needed = stream::full_blocks(gather.len(), filled, count);
+    match stream::ask_write(img, map, opened, key, caller, false, gather, filled, needed) {
         Asked::Refused(code) => code,
         Asked::File(g, e, _) => {
             let start = Filling {
                 filled,
                 from: BlockNo(g.blocks),
             };
-            lay_nuls(img, &mut map, g, e, gather, start, nuls);
+            let nuls = [characters::NUL; MOST_NULS];
+            stream::lay_all(img, map, g, e, gather, start, &nuls[..count]);
             0
         }
     }

@@ -9,6 +9,7 @@ use lib.Seq.{drop-cons}
 use Rattle.pack.specs.declared.Geometry.{Geometry}
 use Rattle.pack.specs.declared.Key.{Key}
 use Rattle.pack.specs.Geometry.{payloadBytes}
+use Rattle.consistency.specs.Mapped.{Mapped}
 use Rattle.stream.specs.declared.Filling.{Filling}
 use Rattle.stream.specs.Filling.{Layable, LaidByte, Writing, Writable, Laying, LaidWithin, written}
 use Rattle.stream.specs.Filling.LaidByte.{within}
@@ -75,6 +76,14 @@ laying-done {key} {caller} {g} {e} {img} {map} {gather} {at} {bytes} {img′} {m
     ap (written key caller (payloadBytes g) img gather (at .filled)) (sym (append-nil bytes))
     ∙ laying .same key caller [] (writing-alone writing .writing)
     ∙ written-end key caller (payloadBytes g) img′ gather′ (at′ .filled)
+
+-- and the map says how often each block is held then
+pub laying-mapped : {key : Key} {caller : ℕ} {g : Geometry} {e : ℕ} {img map gather : List ℕ} {at : Filling} {bytes img′ map′ gather′ : List ℕ} {at′ : Filling}
+    → Writing key caller img map g e gather at bytes → Laying g e img map gather at bytes img′ map′ gather′ at′ [] → Mapped map′ img′
+unfolding writing-alone
+laying-mapped {key} {caller} {map′} writing laying =
+    let end = laying .still key caller [] (writing-alone writing .writing) in
+    record { enough = subst (λ (h : Geometry). h .blocks ≤ length map′) (sym (end .measures)) (end .long); says = end .says }
 
 -- the buffer has room for a byte
 pub writable-room : {img map : List ℕ} {g : Geometry} {e : ℕ} {gather : List ℕ} {at : Filling} {bytes : List ℕ} → Writable img map g e gather at bytes

@@ -1,7 +1,7 @@
 -- Bytes laid one after another: what a byte asks for is there, what is left comes to the same, and where nothing is left all is done.
 use Prim.Native.Nat.{ℕ, _+_, _≤_, _<_}
 use mathlib.Core.Path.{_≡_, refl, sym, ap, subst, _∙_}
-use mathlib.Core.Bool.{Bool, true, false}
+use mathlib.Core.Bool.{Bool, false}
 use mathlib.Core.List.{List, [], _∷_}
 use native.Mathlib.Omega.{arith}
 use lib.ListN.{length, set, length-set}
@@ -10,10 +10,9 @@ use Rattle.pack.specs.declared.Geometry.{Geometry}
 use Rattle.pack.specs.declared.BlockNo.{BlockNo}
 use Rattle.pack.specs.declared.Entry.{Entry}
 use Rattle.pack.specs.declared.Key.{Key}
-use Rattle.pack.specs.GeometrySized.{mostBlocks}
 use Rattle.pack.specs.Geometry.{payloadBytes}
 use Rattle.pack.specs.Entry.{entryOf}
-use Rattle.consistency.specs.ConsistentTest.{consistent}
+use Rattle.consistency.specs.Mapped.{Mapped, MappedIf}
 use Rattle.consistency.proofs.ConsistentTestIff.{consistent-iff}
 use Rattle.asking.specs.Asked.{fileOf}
 use Rattle.asking.proofs.AskedStage.{Given}
@@ -35,10 +34,11 @@ use Rattle.stream.proofs.GatherCompose.{behind, gathered-within, gather
 -- the stage of adding gave the file, with room for as many blocks as will be full
 pub writing-start : {img map gather : List ℕ} {key : Key} {caller : ℕ} {g : Geometry} {e : ℕ} {x : Entry} (wrong : Bool) (needed filled : ℕ) (bytes : List ℕ)
     → Given (linkedAddRows img key caller wrong needed) img key g e x → needed ≡ length (gathered (payloadBytes g) gather filled bytes .full)
-    → filled < payloadBytes g → length gather ≡ payloadBytes g → length map ≡ mostBlocks → (consistent img ≡ true → Says map img)
+    → filled < payloadBytes g → length gather ≡ payloadBytes g → MappedIf map img
     → Writing key caller img map g e gather (record { filled = filled; from = record { 0 = g .blocks } }) bytes
-writing-start {img} {map} {gather} {key} {caller} {g} wrong needed filled bytes given counted room whole long says =
+writing-start {img} {map} {gather} {key} {caller} {g} wrong needed filled bytes given counted room whole mapped =
     let r = add-clear img key caller wrong needed (given .clear) .0 in
+    let held-on : Mapped map img = mapped (consistent-iff img .1 (r .file .right)) in
     record {
       clear =
           ap (λ (n : ℕ). firstOf (linkedAddRows img key caller false n)) (sym counted)
@@ -47,8 +47,8 @@ writing-start {img} {map} {gather} {key} {caller} {g} wrong needed filled bytes 
       number = given .number;
       room = room;
       whole = whole;
-      long = long;
-      says = says (consistent-iff img .1 (r .file .right));
+      long = omega (arith, held-on .enough, ap (λ (h : Geometry). h .blocks) (given .measures));
+      says = held-on .says;
       above = none-above;
     }
 
@@ -153,7 +153,7 @@ module _ {key : Key} {caller : ℕ} {img map : List ℕ} {g : Geometry} {e : ℕ
       number = again-number img key caller (set gather (at .filled) byte) (success is) ∙ writing .number;
       room = omega (arith, writing .room);
       whole = long-laid;
-      long = long ∙ writing .long;
+      long = subst (λ (n : ℕ). g .blocks ≤ n) (sym long) (writing .long);
       says = says;
       above = above;
     },

@@ -5,4 +5,8 @@ pub mod SpotSteps
 pub mod AddedAll
 pub mod FillingSteps
 pub mod FillingLoop
+pub mod BytesWritingStage
+pub mod BytesWritingAnswers
+pub mod BytesWritingEffect
 pub mod SpotAsked
+pub mod BytesReadingStage

@@ -1,5 +1,5 @@
 -- Means: bytes laid one after another in a gather buffer on their way into a file: what a byte counts on and leaves, and what the bytes still to lay come to.
-use Prim.Native.Nat.{ℕ, _+_, _<_}
+use Prim.Native.Nat.{ℕ, _+_, _≤_, _<_}
 use mathlib.Core.Path.{_≡_}
 use mathlib.Core.Bool.{false}
 use mathlib.Core.List.{List, _++_}
@@ -8,7 +8,6 @@ use Rattle.answers.specs.Refusals.{firstOf}
 use Rattle.pack.specs.declared.Geometry.{Geometry}
 use Rattle.pack.specs.declared.BlockNo.{BlockNo}
 use Rattle.pack.specs.declared.Key.{Key}
-use Rattle.pack.specs.GeometrySized.{mostBlocks}
 use Rattle.pack.specs.Geometry.{geometryOf, payloadBytes}
 use Rattle.pack.specs.Entry.{entryOf}
 use Rattle.asking.specs.Asked.{entryNo}
@@ -39,7 +38,7 @@ pub record Writing (key : Key) (caller : ℕ) (img map : List ℕ) (g : Geometry
   pub number : entryNo img key ≡ e
   pub room : at .filled < payloadBytes g
   pub whole : length gather ≡ payloadBytes g
-  pub long : length map ≡ mostBlocks
+  pub long : g .blocks ≤ length map
   pub says : Says map img
   pub above : NoneFrom map g (at .from .0)
 

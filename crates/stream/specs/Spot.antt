@@ -4,8 +4,8 @@ use mathlib.Core.Path.{_≡_}
 use mathlib.Core.List.{List}
 use lib.ListN.{drop}
 use Rattle.pack.specs.declared.Geometry.{Geometry}
-use Rattle.pack.specs.Geometry.{blockBytes, payloadBytes}
-use Rattle.pack.specs.GeometrySized.{Sized}
+use Rattle.pack.specs.Geometry.{segmentBytes, blockBytes, payloadBytes}
+use Rattle.pack.specs.GeometrySized.{mostSegments, Sized}
 use Rattle.pack.specs.File.{linkOf, chain, count}
 use Rattle.bodies.specs.BlockBytes.{blockStart, payloadStart}
 use Rattle.bodies.specs.Payloads.{payloadsOf}
@@ -14,6 +14,10 @@ use Rattle.stream.specs.declared.Spot.{Spot}
 -- the payloads of `left` blocks from b on, each the link of the one before
 unfoldable pub payloadsFrom : List ℕ → Geometry → ℕ → ℕ → List ℕ
 payloadsFrom img g left b = payloadsOf img g (chain (linkOf img g) left b)
+
+-- no file has more bytes: its length is a word
+abbrev pub mostBytes : ℕ
+mostBytes = 65536 * segmentBytes mostSegments
 
 -- what is left of the payload of its block, and the payloads of the blocks behind it
 unfoldable pub bytesFrom : List ℕ → Geometry → Spot → List ℕ

@@ -7,6 +7,8 @@ pub use reading::byte_at;
 pub use reading::bytes_in;
 pub use reading::locate;
 pub use reading::step;
+pub use writing::ask_write;
+pub use writing::full_blocks;
 pub use writing::lay;
 pub use writing::lay_all;
 pub use writing::lay_within;

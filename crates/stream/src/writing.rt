@@ -1,12 +1,20 @@
-// Writing bytes into a linked file: laid in a gather buffer, and a block added each time it is full.
+// Writing bytes into a linked file: laid in a gather buffer, and a block added each time it is full; and what can refuse that.
 ghost use mathlib.Core.Path.{_≡_};
-ghost use mathlib.Core.List.{[]};
-ghost use Prim.Native.Nat.{_+_, _<_};
+ghost use mathlib.Core.List.{List, []};
+ghost use Prim.Native.Nat.{ℕ, _+_, _/_, _≤_, _<_};
 ghost use lib.ListN.{length, set};
+ghost use Rattle.consistency.specs.ConsistentTest.{openedOf};
+ghost use Rattle.consistency.specs.Mapped.{MappedIf};
+ghost use Rattle.asking.specs.AskedStage.{stageOf};
+ghost use Rattle.stream.specs.BytesWriting.{wrongGather, writingRows};
 ghost use Rattle.stream.specs.Filling.{Layable, LaidByte, LaidWithin, Writable, Laying};
 use crate::Filling;
 use adding::linked_add;
+use asking::Asked;
+use consistency::Opened;
 use pack::Geometry;
+use pack::Key;
+use room::Blocks;
 
 // One byte more in the gather buffer; where that fills it, a block is added to the file of entry e.
 pub fn lay(
@@ -68,4 +76,50 @@ pub fn lay_all(
         i += 1;
     }
     at
+}
+
+// How many blocks become full; none where the filled count leaves no room. The filled count and the bytes together may be more than a number holds:
+// the bytes that fill the first are taken off.
+pub fn full_blocks(size: usize, filled: usize, bytes: usize) -> Blocks
+    ensures { λ r. ⌜ (filled < size → r .0 ≡ (filled + bytes) / size) ⌝ }
+    ensures { λ r. ⌜ (size ≤ filled → r .0 ≡ 0) ⌝ }
+{
+    if size <= filled {
+        return Blocks(0);
+    }
+    let room = size - filled;
+    if bytes < room {
+        return Blocks(0);
+    }
+    Blocks((bytes - room) / size + 1)
+}
+
+// Is the gather buffer not of a payload's size, or does the filled count leave no room in it?
+fn is_gather_wrong(img: &[u8], gather: &[u8], filled: usize) -> bool
+    ensures { λ r. ⌜ r ≡ wrongGather (now (img .entry)) (now (gather .entry)) filled ⌝ }
+{
+    let size = bodies::payload_bytes_of(img);
+    (gather.len() != size) | (size <= filled)
+}
+
+// All that can refuse a request that fills so many blocks; nothing is written here. `wrong` says that an argument is wrong other than the gather
+// buffer and its filled count.
+pub fn ask_write(
+    img: &[u8],
+    map: &[u8],
+    opened: Opened,
+    key: Key,
+    caller: usize,
+    wrong: bool,
+    gather: &[u8],
+    filled: usize,
+    needed: Blocks,
+) -> Asked
+    requires { ⌜ opened ≡ openedOf (now img) ⌝ }
+    requires { ⌜ MappedIf (now map) (now img) ⌝ }
+    ensures { λ r. ⌜ ((put : List ℕ) → (filled < length (now (gather .entry)) → needed .0 ≡ (filled + length put) / length (now (gather .entry)))
+        → r ≡ stageOf (writingRows (now (img .entry)) key caller wrong (now (gather .entry)) filled put) (now (img .entry)) key) ⌝ }
+{
+    let unfit = is_gather_wrong(img, gather, filled);
+    linked_add::ask_add(img, map, opened, key, caller, unfit | wrong, needed)
 }

@@ -1,51 +1,15 @@
--- Rests on `LineWritingAnswers`: what was counted is the front of the text, a file that the stage gives has room for what is put for it.
+-- Rests on `MappedLent`: a map of zeros, large enough for an image of that length, can be lent.
 use borrow.Author.Needs.{needs}
-use Prim.Native.Nat.{ℕ}
-use mathlib.Core.Path.{_∙_}
-use lib.ListN.{length-replicate}
-use Rattle.pack.specs.GeometrySized.{mostBlocks}
-use Rattle.lines.proofs.LineWritingAnswers.{front-fits, line-denied, line-begun, line-done}
+use mathlib.Core.Path.{refl}
+use Rattle.consistency.proofs.MappedLent.{lent-few, lent-most}
 use Rattle.lines.proofs.line_write.line_write.Statement.{statement}
 use Rattle.lines.proofs.line_write.line_write.Tie as tie
 
-count-taken-requires : tie.Need-count-taken-requires
-count-taken-requires c κs = search needs
+slice-aggregate-line-write-lent : tie.Need-slice-aggregate-line-write-lent
+slice-aggregate-line-write-lent c = search needs
 
-slice-aggregate-taken : tie.Need-slice-aggregate-taken
-slice-aggregate-taken c =
-    let a = c .before .before .before .before .before .args in
-    front-fits (a .mode) (a .text .now) (c .before .count-taken .ensures)
-
-text-blocks-requires : tie.Need-text-blocks-requires
-text-blocks-requires c κs = search needs
-
-slice-aggregate-ask-write : tie.Need-slice-aggregate-ask-write
-slice-aggregate-ask-write c = search needs
-
-ask-write-requires : tie.Need-ask-write-requires
-ask-write-requires c κs = search needs
-
-enum-known-code : tie.Need-enum-known-code
-enum-known-code c = search needs
-
-enum-known-g : tie.Need-enum-known-g
-enum-known-g c = search needs
-
-slice-aggregate-lay-text : tie.Need-slice-aggregate-lay-text
-slice-aggregate-lay-text c = search needs
-
-lay-text-requires : tie.Need-lay-text-requires
-lay-text-requires c κs =
-    let a = c .before .before .before .before .before .before .before .before .before .before .before .before .before .before .before .before .before .args in
-    let count = c .before .before .before .before .before .before .before .before .before .before .before .before .before .count-taken .ensures in
-    let full = c .before .before .before .before .before .before .before .before .before .before .before .text-blocks .ensures .0 in
-    let f = c .before .before .before .before .before .before .before .ask-write in
-    let told = c .before .before .before .before .g .given .1 in
-    line-begun (a .img .now) (a .key) (a .caller) (a .mode) (a .text .now) (a .gather .now) (a .filled) count full (f .ensures .0) told
-    (f .last .1 .0) (f .kept .1 .0 ∙ length-replicate {A = ℕ} mostBlocks 0) (f .ensures .1)
-
-status-of-requires : tie.Need-status-of-requires
-status-of-requires c κs = search needs
+line-write-lent-requires : tie.Need-line-write-lent-requires
+line-write-lent-requires c κs = lent-few (c .before .before .before .if1 .taken) refl
 
 same-length : tie.Need-same-length
 same-length c = search needs
@@ -54,13 +18,13 @@ same-length-2 : tie.Need-same-length-2
 same-length-2 c = search needs
 
 returns : tie.Need-returns
-returns c =
-    let a = c .before .before .before .before .before .before .before .before .before .before .before .before .before .before .args in
-    let count = c .before .before .before .before .before .before .before .before .before .before .count-taken .ensures in
-    let full = c .before .before .before .before .before .before .before .before .text-blocks .ensures .0 in
-    let f = c .before .before .before .before .ask-write in
-    let told = c .before .code .given .1 in
-    line-denied (a .img .now) (a .key) (a .caller) (a .mode) (a .text .now) (a .gather .now) (a .filled) count full (f .ensures .0) told
+returns c = search needs
+
+slice-aggregate-line-write-lent-2 : tie.Need-slice-aggregate-line-write-lent-2
+slice-aggregate-line-write-lent-2 c = search needs
+
+line-write-lent-requires-2 : tie.Need-line-write-lent-requires-2
+line-write-lent-requires-2 c κs = lent-most refl
 
 same-length-3 : tie.Need-same-length-3
 same-length-3 c = search needs
@@ -69,34 +33,19 @@ same-length-4 : tie.Need-same-length-4
 same-length-4 c = search needs
 
 returns-2 : tie.Need-returns-2
-returns-2 c =
-    let file = c .before .before .before .before .before .before .before .before .before .before .before in
-    let a = file .before .before .before .before .before .before .before .before .before .before .before .before .before .args in
-    let count = file .before .before .before .before .before .before .before .before .before .count-taken .ensures in
-    let full = file .before .before .before .before .before .before .before .text-blocks .ensures .0 in
-    let f = file .before .before .before .ask-write in
-    let told = file .g .given .1 in
-    let laid = c .before .before .before .before .before .before .lay-text .ensures in
-    line-done (a .img .now) (a .key) (a .caller) (a .mode) (a .text .now) (a .gather .now) (a .filled) count full (f .ensures .0) told
-    (f .last .1 .0) (f .kept .1 .0 ∙ length-replicate {A = ℕ} mostBlocks 0) (f .ensures .1) laid (c .status-of .ensures)
+returns-2 c = search needs
 
 pub line-write-spec : {M : Type 1} → statement M
 line-write-spec =
     tie.close
     (tie.spec
-    count-taken-requires
-    slice-aggregate-taken
-    text-blocks-requires
-    slice-aggregate-ask-write
-    ask-write-requires
-    enum-known-code
-    enum-known-g
-    slice-aggregate-lay-text
-    lay-text-requires
-    status-of-requires
+    slice-aggregate-line-write-lent
+    line-write-lent-requires
     same-length
     same-length-2
     returns
+    slice-aggregate-line-write-lent-2
+    line-write-lent-requires-2
     same-length-3
     same-length-4
     returns-2)

@@ -1,8 +1,8 @@
 -- Rests on `BytesWritingStage`: the test goes by the size that was read.
 use borrow.Author.Needs.{needs}
-use Rattle.lines.proofs.BytesWritingStage.{gather-judged}
-use Rattle.lines.proofs.line_write.is_gather_wrong.Statement.{statement}
-use Rattle.lines.proofs.line_write.is_gather_wrong.Tie as tie
+use Rattle.stream.proofs.BytesWritingStage.{gather-judged}
+use Rattle.stream.proofs.writing.is_gather_wrong.Statement.{statement}
+use Rattle.stream.proofs.writing.is_gather_wrong.Tie as tie
 
 payload-bytes-of-requires : tie.Need-payload-bytes-of-requires
 payload-bytes-of-requires c κs = search needs

@@ -2,9 +2,9 @@
 use mathlib.Core.Path.{refl}
 use borrow.Author.Needs.{needs}
 use native.Mathlib.Omega.{arith}
-use Rattle.lines.proofs.BytesWritingStage.{full-none, full-fits, full-more}
-use Rattle.lines.proofs.counting.full_blocks.Statement.{statement}
-use Rattle.lines.proofs.counting.full_blocks.Tie as tie
+use Rattle.stream.proofs.BytesWritingStage.{full-none, full-fits, full-more}
+use Rattle.stream.proofs.writing.full_blocks.Statement.{statement}
+use Rattle.stream.proofs.writing.full_blocks.Tie as tie
 
 returns : tie.Need-returns
 returns c = (λ some. absurd (omega (arith, some, c .if1 .taken)), λ over. refl)

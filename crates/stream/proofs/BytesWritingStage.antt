@@ -16,9 +16,9 @@ use Rattle.asking.specs.declared.Asked.{Asked}
 use Rattle.asking.specs.KeysTest.{legalKey}
 use Rattle.asking.specs.AskedStage.{fileRows, stageOf}
 use Rattle.adding.specs.LinkedAddRows.{linkedAddRows}
 use Rattle.stream.specs.Gather.{gathered}
 use Rattle.stream.proofs.Gather.{gathered-count}
-use Rattle.lines.specs.BytesWriting.{wrongGather, gatheredIn, writingRows}
+use Rattle.stream.specs.BytesWriting.{wrongGather, gatheredIn, writingRows}
 
 -- the bytes that fill the first block taken off
 module _ (size filled bytes : ℕ) (some : filled < size) where

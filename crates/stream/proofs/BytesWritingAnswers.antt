@@ -1,31 +1,29 @@
 -- What an answer of the stage of writing comes to: that the bytes can be laid, and the code, the numbers, the image and the gather buffer of the request.
 use Prim.Native.Nat.{ℕ, _<_}
 use mathlib.Core.Path.{_≡_, sym, ap, subst, _∙_}
-use mathlib.Core.Bool.{Bool, true, _||_}
+use mathlib.Core.Bool.{Bool, _||_}
 use mathlib.Core.List.{List, []}
 use lib.ListN.{length}
 use Rattle.answers.specs.Refusals.{firstOf}
 use Rattle.pack.specs.declared.Geometry.{Geometry}
 use Rattle.pack.specs.declared.Entry.{Entry}
 use Rattle.pack.specs.declared.Key.{Key}
-use Rattle.pack.specs.GeometrySized.{mostBlocks}
 use Rattle.pack.specs.Geometry.{geometryOf, payloadBytes}
-use Rattle.consistency.specs.ConsistentTest.{consistent}
+use Rattle.consistency.specs.Mapped.{Mapped, MappedIf}
 use Rattle.asking.specs.declared.Asked.{Asked}
 use Rattle.asking.specs.declared.Asked.the-variants.{File, Refused}
 use Rattle.asking.specs.Outcome.{Outcome, zeroed}
 use Rattle.asking.specs.AskedStage.{stageOf}
 use Rattle.asking.proofs.Outcome.{settled-refused, settled-success}
 use Rattle.asking.proofs.AskedStage.{Given, stage-is-refused, stage-is-file}
-use Rattle.room.specs.RoomMap.{Says}
 use Rattle.adding.proofs.LinkedAddStage.{add-clear}
 use Rattle.stream.specs.declared.Filling.{Filling}
 use Rattle.stream.specs.Gather.{gathered}
 use Rattle.stream.specs.Filling.{Writing, Writable, Written, written, Laying}
 use Rattle.stream.proofs.FillingSteps.{writing-start}
-use Rattle.stream.proofs.FillingLoop.{writing-alone, laying-done}
-use Rattle.lines.specs.BytesWriting.{wrongGather, gatheredIn, writingRows, bytesWritten}
-use Rattle.lines.proofs.BytesWritingStage.{Fitting, argument-fits}
+use Rattle.stream.proofs.FillingLoop.{writing-alone, laying-done, laying-mapped}
+use Rattle.stream.specs.BytesWriting.{wrongGather, gatheredIn, writingRows, bytesWritten}
+use Rattle.stream.proofs.BytesWritingStage.{Fitting, argument-fits}
 
 -- how a write begins: no block from the end of the pack on is free
 abbrev pub fromStart : Geometry → ℕ → Filling
@@ -54,13 +52,13 @@ module _ (img : List ℕ) (key : Key) (caller : ℕ) (wrong : Bool) (gather : Li
       given : Given (writingRows img key caller wrong gather filled put) img key g e x
       given = stage-is-file (writingRows img key caller wrong gather filled put) img key g e x (sym is ∙ told)
 
-      module _ (map : List ℕ) (long : length map ≡ mostBlocks) (says : consistent img ≡ true → Says map img) where
+      module _ (map : List ℕ) (mapped : MappedIf map img) where
         begun : Writing key caller img map g e gather (fromStart g filled) put
         begun =
             let f = write-fitting (given .clear) in
             writing-start (wrongGather img gather filled || wrong) (length (gatheredIn img gather filled put .full)) filled put given
             (ap (λ (h : Geometry). length (gathered (payloadBytes h) gather filled put .full)) (given .measures))
-            (subst (λ (h : Geometry). filled < payloadBytes h) (given .measures) (f .room)) (f .whole ∙ ap payloadBytes (given .measures)) long says
+            (subst (λ (h : Geometry). filled < payloadBytes h) (given .measures) (f .room)) (f .whole ∙ ap payloadBytes (given .measures)) mapped
 
         pub write-begun : Writable img map g e gather (fromStart g filled) put
         write-begun = writing-alone begun
@@ -69,6 +67,9 @@ module _ (img : List ℕ) (key : Key) (caller : ℕ) (wrong : Bool) (gather : Li
         module _ {img′ map′ gather′ : List ℕ} {at : Filling} (laying : Laying g e img map gather (fromStart g filled) put img′ map′ gather′ at []) where
           came : written key caller (payloadBytes (geometryOf img)) img gather filled put ≡ record { image = img′; buffer = gather′; filled = at .filled }
           came = ap (λ (h : Geometry). written key caller (payloadBytes h) img gather filled put) (given .measures) ∙ laying-done begun laying
+
+          pub write-mapped : Mapped map′ img′
+          write-mapped = laying-mapped begun laying
 
           pub write-filled : at .filled ≡ gatheredIn img gather filled put .filled
           unfolding written

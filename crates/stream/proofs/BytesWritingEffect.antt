@@ -30,13 +30,13 @@ use Rattle.frame.proofs.UntouchedFramed.{untouched-refl}
 use Rattle.bodies.specs.Payloads.{payloadsOf}
 use Rattle.adding.specs.LinkedAddRows.{openForAdding, linkedAddRows}
 use Rattle.adding.proofs.LinkedAddStage.{add-ordered, add-rows-last, add-clear}
 use Rattle.stream.specs.Gather.{lastOr}
 use Rattle.stream.specs.AddedAll.{addedAll, takenBlocks, EachAdded}
 use Rattle.stream.proofs.Gather.{Gathering, gathered-holds, gathered-bytes, gathered-count, gathered-filled}
 use Rattle.stream.proofs.AddedAll.{added-accepted, added-consistent, added-untouched, added-owner, added-payloads}
-use Rattle.lines.specs.BytesWriting.{wrongGather, gatheredIn, writingRows, bytesWritten}
-use Rattle.lines.proofs.BytesWritingStage.{Fitting}
-use Rattle.lines.proofs.BytesWritingAnswers.{write-fitting}
+use Rattle.stream.specs.BytesWriting.{wrongGather, gatheredIn, writingRows, bytesWritten}
+use Rattle.stream.proofs.BytesWritingStage.{Fitting}
+use Rattle.stream.proofs.BytesWritingAnswers.{write-fitting}
 
 module _ (img : List ℕ) (key : Key) (caller : ℕ) (wrong : Bool) (gather : List ℕ) (filled : ℕ) (put numbers : List ℕ) where
   abbrev rows : List Row

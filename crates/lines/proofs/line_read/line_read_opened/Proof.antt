@@ -2,8 +2,8 @@
 use borrow.Author.Needs.{needs}
 use native.Mathlib.Omega.{arith}
 use Rattle.lines.proofs.LineReadingStage.{line-unasked, line-read-asked, line-counted, line-beyond, line-located, line-ready, line-fits, line-done}
-use Rattle.lines.proofs.line_read.line_read.Statement.{statement}
-use Rattle.lines.proofs.line_read.line_read.Tie as tie
+use Rattle.lines.proofs.line_read.line_read_opened.Statement.{statement}
+use Rattle.lines.proofs.line_read.line_read_opened.Tie as tie
 
 ask-linked-read-requires : tie.Need-ask-linked-read-requires
 ask-linked-read-requires c κs = search needs
@@ -51,8 +51,8 @@ read-payloads-requires c κs =
     let located = c .before .before .locate .ensures in
     (located .1, line-ready file (c .before .before .before .before .bytes-in .ensures) (c .before .before .before .if1 .left) _ (located .0))
 
-add-t17 : tie.Need-add-t17
-add-t17 c =
+add-t18 : tie.Need-add-t18
+add-t18 c =
     let a = c .before .before .before .before .before .before .before .before .before .before .before .before .before .before .before .args in
     let asked = c .before .before .before .before .before .before .before .before .before .before .before .before .ask-linked-read in
     let g = c .before .before .before .before .before .before .before .before .before .before .g in
@@ -76,8 +76,8 @@ returns-3 c =
     let read = c .before .before .before .read-payloads .ensures in
     line-done file counted (c .before .before .before .before .before .before .before .if1 .left) _ (located .0) _ _ (c .before .before .before .before .before .mode-of .ensures) read
 
-pub line-read-spec : {M : Type 1} → statement M
-line-read-spec =
+pub line-read-opened-spec : {M : Type 1} → statement M
+line-read-opened-spec =
     tie.close
     (tie.spec
     ask-linked-read-requires
@@ -89,6 +89,6 @@ line-read-spec =
     locate-requires
     mode-of-requires
     read-payloads-requires
-    add-t17
+    add-t18
     same-length
     returns-3)
