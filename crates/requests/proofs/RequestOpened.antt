@@ -131,7 +131,7 @@ opened-kept r {img} who other right = by (ℕ-discrete (outcome r img .code) 0)
   where
     by : Dec (outcome r img .code ≡ 0) → openedOf (outcome r img .image) ≡ openedOf img
     by (yes success) = opened-same (right success) (stays-consistent r (right success)) (who-is-not-named r (right success) who other .measures)
-    by (no never) = ap openedOf (refusal-leaves r img never .image)
+    by (no never) = ap openedOf (refusal-leaves r img never .same-image)
 
 pub opened-stays : (r : Request) → NotFormat r → (img : List ℕ) → openedOf (outcome r img .image) ≡ openedOf img
 opened-stays (FORMAT form blocks contents uics) other img = absurd (other form blocks contents uics refl)
