@@ -17,7 +17,7 @@ use Rattle.pack.specs.Entry.{entryWord, entryOf, blocksAt}
 use Rattle.pack.specs.Consistent.{Consistent}
 use Rattle.pack.specs.Owner.{FreeBlock}
 use Rattle.pack.proofs.GeometryRoom.{block-room, sized-same}
-use Rattle.frame.specs.Framed.{ChangesOnly, InWords, InBlock, Only, Never, Within, Kept}
+use Rattle.frame.specs.Framed.{ChangesOnly, InBlock, Only, Never, Within, Kept}
 use Rattle.frame.specs.Framed.Within.{entry, block}
 use Rattle.frame.specs.Growth.{Resized, Grown}
 use Rattle.frame.proofs.ChangesWritten.{word-kept, changes-wider, changes-then, changes-word, changes-part}

@@ -1,6 +1,6 @@
 -- What a write counts, as loops do it: the characters through the first terminator, the bytes put for a text part by part, the blocks that become full.
 use Prim.Native.Nat.{ℕ, suc, _+_, _*_, _-_, _/_, _≤_, _<_, min}
-use mathlib.Core.Path.{_≡_, refl, sym, ap, _∙_}
+use mathlib.Core.Path.{_≡_, sym, ap, _∙_}
 use mathlib.Core.Bool.{Bool, true, false, cond}
 use mathlib.Core.List.{List}
 use native.Mathlib.Nat.{zero-add, add-zero, div-eq-of-lt, div-lt-iff-lt-mul}
