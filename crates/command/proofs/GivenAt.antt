@@ -17,7 +17,6 @@ use Rattle.command_grammar.proofs.ReaderLines.{specification-reads}
 use Rattle.command_parts.specs.CappedParts.{cappedSpecification}
 use Rattle.command_parts.specs.Numbers.{numbersOf}
 use Rattle.command_parts.specs.Specified.{withSwitches, PartsAt}
-use Rattle.command_parts.specs.declared.Numbers.{Numbers}
 use Rattle.command_parts.specs.declared.Parts.{Parts}
 use Rattle.command_switches.specs.Encoded.{encoded}
 use Rattle.command_switches.specs.SwitchesWritten.{SwitchesWritable}
@@ -94,10 +93,11 @@ module _ {line : List ℕ} {at : ℕ} (s : SpecificationAt line at) {x : Parts} 
   pub give-given : {buffer after : List ℕ} {lacks : Bool} → LacksRoom line (x .next .at) (length buffer) lacks → lacks ≡ false → {count : ℕ}
       → ((ws : List Switch) (end : ℕ) → from (many (is slash) switch) line (x .next .at) ≡ ok ws end
       → (after ≡ encoded ws ++ drop (length (encoded ws)) buffer) × (count ≡ length ws))
-      → {numbers : Numbers} → numbers ≡ withSwitches x count → GivenAt line at buffer (A.Given numbers) after
-  give-given {buffer} {after} r enough written {numbers} made =
+      → GivenAt line at buffer (A.Given (withSwitches (x .numbers) count)) after
+  give-given {buffer} {after} r enough {count} written =
       let w = written (s .what .switches) (s .end) its-switches in
-      let whole : numbers ≡ numbersOf (cappedSpecification (s .what)) = made ∙ ap (withSwitches x) (w .1) ∙ parts .numbers (s .what) (s .end) (s .stands) in
+      let whole : withSwitches (x .numbers) count ≡ numbersOf (cappedSpecification (s .what)) =
+      ap (withSwitches (x .numbers)) (w .1) ∙ parts .numbers (s .what) (s .end) (s .stands) in
       record {
-        gives = only (λ (v : Specification). Q.SpecificationGiven v buffer (A.Given numbers) after) (rw (whole, w .0) (Q.SpecificationGiven.given (fits r enough)));
+        gives = only (λ (v : Specification). Q.SpecificationGiven v buffer (A.Given (withSwitches (x .numbers) count)) after) (rw (whole, w .0) (Q.SpecificationGiven.given (fits r enough)));
       }

@@ -16,10 +16,10 @@ use Rattle.command_grammar.specs.Grammar.{All, nil, cons, Between, IsDevice, Is
 use Rattle.command_grammar.specs.Grammar as G
 use Rattle.command_grammar.specs.Reading.{Reading, Reads, reads, sideOf}
 use Rattle.command_grammar.proofs.ReaderHeads.{letter-alnum}
+use Rattle.command_parts.specs.declared.Numbers.{Numbers}
 use Rattle.command_parts.specs.Numbers.{numbersOf, deviceWord, unitOf, nameFirst, nameSecond, extensionWord, groupOf, userOf, isPresent, isExtended, bit, presentBits}
 use Rattle.command.specs.Csi2.{askingAnswer}
 use Rattle.command.specs.Known.{Pair, pairOf, DecodedSwitch, valueNumbers, switchNumbers, Known, knownOf}
-use Rattle.command.specs.declared.csi2.SpecificationAnswer.{SpecificationAnswer}
 use Rattle.command.specs.declared.csi2.Asking.the-variants as A
 
 -- names and their words
@@ -166,20 +166,20 @@ unfolding knownAs numbersOf
 specification-same s t v w
     (G.IsSpecification.specification {a} {b} {e} {d} {f} {u} {ws} is-device is-file is-uic are-switches)
     (G.IsSpecification.specification {a = a′} {b = b′} {e = e′} {d = d′} {f = f′} {u = u′} {ws = ws′} is-device′ is-file′ is-uic′ are-switches′) is =
-    let answers = ap (λ (k : Known). k .answer) is in
+    let numbers = ap (λ (k : Known). k .answer .numbers) is in
     let bits = same-bits (isPresent d) (isPresent f) (isExtended f) (isPresent u)
-    (isPresent d′) (isPresent f′) (isExtended f′) (isPresent u′) (ap (λ (x : SpecificationAnswer). x .present) answers) in
+    (isPresent d′) (isPresent f′) (isExtended f′) (isPresent u′) (ap (λ (n : Numbers). n .present) numbers) in
     let device : d ≡ d′ = device-same a a′ d d′ is-device is-device′
     (bits .first)
-    (ap (λ (x : SpecificationAnswer). x .device) answers)
-    (ap (λ (x : SpecificationAnswer). x .unit) answers) in
+    (ap (λ (n : Numbers). n .device) numbers)
+    (ap (λ (n : Numbers). n .unit) numbers) in
     let file : f ≡ f′ = file-same b b′ f f′ is-file is-file′ (bits .second) (bits .third)
-    (ap (λ (x : SpecificationAnswer). x .name1) answers)
-    (ap (λ (x : SpecificationAnswer). x .name2) answers)
-    (ap (λ (x : SpecificationAnswer). x .extension) answers) in
+    (ap (λ (n : Numbers). n .name1) numbers)
+    (ap (λ (n : Numbers). n .name2) numbers)
+    (ap (λ (n : Numbers). n .extension) numbers) in
     let uic : u ≡ u′ = uic-same u u′ (bits .fourth)
-    (ap (λ (x : SpecificationAnswer). x .group) answers)
-    (ap (λ (x : SpecificationAnswer). x .user) answers) in
+    (ap (λ (n : Numbers). n .group) numbers)
+    (ap (λ (n : Numbers). n .user) numbers) in
     let switches : ws ≡ ws′ = switches-same e e′ ws ws′ are-switches are-switches′ (ap (λ (k : Known). k .switches) is) in
     rw (device, file, uic, switches)
 

@@ -44,7 +44,7 @@ module _ (line : List ℕ) (reading : Reading) (fits : length line ≤ lineLimit
         ap (λ (a : SpecificationAnswer). a .code) (answers-missing line fits side k buffer answer after is found .0)
 
     one-known : (v : Specification) (us : List Specification) → drop k (sideOf side reading) ≡ v ∷ us → (answer .code ≡ 0o52 → ⊥)
-        → (answer .code ≡ 0) × (_≡_ {A = Known} (record { answer = answer; switches = decoded (answer .switches) after })
+        → (answer .code ≡ 0) × (_≡_ {A = Known} (record { answer = answer; switches = decoded (answer .numbers .switches) after })
         (record { answer = askingAnswer (A.Given (numbersOf v)); switches = switchNumbers (v .switches) }))
     unfolding numbersOf
     one-known v us left room =

@@ -21,32 +21,22 @@ refusal code place =
     record {
       code = code;
       place = place;
-      present = 0;
-      device = 0;
-      unit = 0;
-      name1 = 0;
-      name2 = 0;
-      extension = 0;
-      group = 0;
-      user = 0;
-      switches = 0;
+      numbers =
+          record {
+            present = 0;
+            device = 0;
+            unit = 0;
+            name1 = 0;
+            name2 = 0;
+            extension = 0;
+            group = 0;
+            user = 0;
+            switches = 0;
+          };
     }
 
 abbrev pub askingAnswer : Asking → SpecificationAnswer
-askingAnswer (A.Given numbers) =
-    record {
-      code = 0;
-      place = 0;
-      present = numbers .present;
-      device = numbers .device;
-      unit = numbers .unit;
-      name1 = numbers .name1;
-      name2 = numbers .name2;
-      extension = numbers .extension;
-      group = numbers .group;
-      user = numbers .user;
-      switches = numbers .switches;
-    }
+askingAnswer (A.Given numbers) = record { code = 0; place = 0; numbers = numbers }
 askingAnswer A.TooLong = refusal 0o53 0
 askingAnswer (A.Wrong place) = refusal 0o50 place
 askingAnswer A.TooLarge = refusal 0o54 0

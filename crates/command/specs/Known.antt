@@ -67,4 +67,4 @@ pub data AskedFrom (line : List ℕ) (side : ℕ) (lent : ℕ → List ℕ) : �
       → AskedFrom line side lent k []
   goes : {k : ℕ} {answer : SpecificationAnswer} {after : List ℕ} {rest : List Known} → Csi2Answered line side k (lent k) answer after → answer .code ≡ 0
       → AskedFrom line side lent (suc k) rest
-      → AskedFrom line side lent k (record { answer = answer; switches = decoded (answer .switches) after } ∷ rest)
+      → AskedFrom line side lent k (record { answer = answer; switches = decoded (answer .numbers .switches) after } ∷ rest)

@@ -5,7 +5,6 @@ ghost use lib.ListN.{length};
 ghost use Rattle.command.specs.Condensed.{lineLimit};
 ghost use Rattle.command.specs.Csi2.{refusal, askingAnswer, Csi2};
 ghost use Rattle.command.specs.GivenAt.{SpecificationAt, SwitchesAt, LacksRoom, GivenAt};
-ghost use Rattle.command.specs.declared.csi2.Asking.the-variants.{Given};
 use crate::LINE_LIMIT;
 use command_cursor::Cursor;
 use command_parts::Numbers;
@@ -26,15 +25,7 @@ pub enum Asking {
 pub struct SpecificationAnswer {
     pub code: usize,
     pub place: usize,
-    pub present: usize,
-    pub device: usize,
-    pub unit: usize,
-    pub name1: usize,
-    pub name2: usize,
-    pub extension: usize,
-    pub group: usize,
-    pub user: usize,
-    pub switches: usize,
+    pub numbers: Numbers,
 }
 
 // Whether the switches at the cursor take more room than there is. A character takes 3 bytes at most, so that they need only be counted where there is
@@ -61,8 +52,9 @@ fn give(line: &[u8], c: Cursor, buffer: &mut [u8]) -> Asking
     if lacks_room(line, start, buffer.len()) {
         return Asking::NoRoom;
     }
-    let switches = command_switches::write_switches(line, start, buffer);
-    Asking::Given(command_parts::with_switches(parts, switches))
+    let mut numbers = parts.numbers;
+    numbers.switches = command_switches::write_switches(line, start, buffer);
+    Asking::Given(numbers)
 }
 
 // "Order: 53, over 128; 50; 51, no such side or specification; 52, switch buffer too short.", and "54, a number over its bound, after 50", which "51 and
@@ -85,9 +77,7 @@ pub fn csi2(line: &[u8], side: usize, k: usize, buffer: &mut [u8]) -> Asking
 fn refused(code: usize, place: usize) -> SpecificationAnswer
     ensures { λ r. ⌜ r ≡ refusal code place ⌝ }
 {
-    SpecificationAnswer {
-        code,
-        place,
+    let numbers = Numbers {
         present: 0,
         device: 0,
         unit: 0,
@@ -97,24 +87,11 @@ fn refused(code: usize, place: usize) -> SpecificationAnswer
         group: 0,
         user: 0,
         switches: 0,
-    }
-}
-
-fn given(numbers: Numbers) -> SpecificationAnswer
-    ensures { λ r. ⌜ r ≡ askingAnswer (Given numbers) ⌝ }
-{
+    };
     SpecificationAnswer {
-        code: 0,
-        place: 0,
-        present: numbers.present,
-        device: numbers.device,
-        unit: numbers.unit,
-        name1: numbers.name1,
-        name2: numbers.name2,
-        extension: numbers.extension,
-        group: numbers.group,
-        user: numbers.user,
-        switches: numbers.switches,
+        code,
+        place,
+        numbers,
     }
 }
 
@@ -122,7 +99,11 @@ pub fn asking_answer(answer: Asking) -> SpecificationAnswer
     ensures { λ r. ⌜ r ≡ askingAnswer answer ⌝ }
 {
     match answer {
-        Asking::Given(numbers) => given(numbers),
+        Asking::Given(numbers) => SpecificationAnswer {
+            code: 0,
+            place: 0,
+            numbers,
+        },
         Asking::TooLong => refused(0o53, 0),
         Asking::Wrong(place) => refused(0o50, place),
         Asking::TooLarge => refused(0o54, 0),

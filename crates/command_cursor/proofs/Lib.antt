@@ -7,3 +7,4 @@ pub mod FilledWord
 pub mod CursorAtRuns
 pub mod FilledWordLegal
 pub mod FilledWordNames
+pub mod NamesAt

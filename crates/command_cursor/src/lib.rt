@@ -14,6 +14,7 @@ ghost use Rattle.command_grammar.specs.Reader.{is, span, oneCharacter};
 ghost use Rattle.command_cursor.specs.Capped.{capped};
 ghost use Rattle.command_cursor.specs.CursorAt.{partAt, standsAt, characterAt};
 ghost use Rattle.command_cursor.specs.NumberAt.{NumberAt};
+ghost use Rattle.command_cursor.specs.NamesAt.{runBehind};
 ghost use Rattle.command_cursor.specs.FilledWord.{filledWord, firstWord, secondWord};
 use radix::Radix50;
 
@@ -145,6 +146,20 @@ impl Cursor {
         let at = self.at;
         if stands(line, at, character) {
             Part::Read(Cursor { at: at + 1 })
+        } else {
+            Part::Refused(at)
+        }
+    }
+
+    // Behind a character, if it stands here, and the letters and digits behind it, at most so many: so an extension stands behind its period, the name of
+    // a switch behind its slash, and a value behind its colon. All who walk over these go by it, whether they judge, measure or write them.
+    pub fn name_behind(self, line: &[u8], character: u8, most: usize) -> Part
+        ensures { λ r. ⌜ r ≡ runBehind (now (line .entry)) (self .at) character most ⌝ }
+    {
+        let at = self.at;
+        if stands(line, at, character) {
+            let name = Cursor { at: at + 1 };
+            Part::Read(name.named(line, most))
         } else {
             Part::Refused(at)
         }

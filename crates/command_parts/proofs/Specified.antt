@@ -43,24 +43,28 @@ module _ (s : List ℕ) (i : ℕ) (x : DeviceNumbers) (device-is : x ≡ deviceF
     abbrev made : Parts
     made =
         record {
-          present = bits;
-          device = x .word;
-          unit = x .unit;
-          name1 = y .name1;
-          name2 = y .name2;
-          extension = y .extension;
-          group = z .group;
-          user = z .user;
+          numbers =
+              record {
+                present = bits;
+                device = x .word;
+                unit = x .unit;
+                name1 = y .name1;
+                name2 = y .name2;
+                extension = y .extension;
+                group = z .group;
+                user = z .user;
+                switches = 0;
+              };
           next = z .next;
         }
 
     numbers-are : (h : Head) (u : Option Uic) (ws : List Switch) (a b : ℕ) → x ≡ numbered (h .device) (x .next) → y ≡ fileFound (h .file) a → z ≡ uicFound u b
-        → withSwitches made (length ws) ≡ numbersOf (cappedSpecification (mkSpecification h (mkTail u ws)))
+        → withSwitches (made .numbers) (length ws) ≡ numbersOf (cappedSpecification (mkSpecification h (mkTail u ws)))
     unfolding numbersOf fileFound uicFound
     numbers-are h u ws a b p q r = rw (bits-are, p, q, r)
 
     all-made : (v : Specification) (end : ℕ) → from specification s i ≡ ok v end
-        → (withSwitches made (length (v .switches)) ≡ numbersOf (cappedSpecification v)) × (from switches s (z .next .at) ≡ ok (v .switches) end)
+        → (withSwitches (made .numbers) (length (v .switches)) ≡ numbersOf (cappedSpecification v)) × (from switches s (z .next .at) ≡ ok (v .switches) end)
     unfolding specification fileFound uicFound
     all-made v end stands =
         let t = seq-both mkSpecification head tail s i stands in
@@ -69,7 +73,7 @@ module _ (s : List ℕ) (i : ℕ) (x : DeviceNumbers) (device-is : x ≡ deviceF
         let front = front-by (from device s i) refl (t .3) in
         let file-made = file-is (t .0 .file) (t .1) (front .0) in
         let uic-made = uic-is (w .0) (w .1) (ap (λ (n : FileNumbers). from brackets s (n .next .at)) file-made ∙ w .3) in (
-          subst (λ (u : Specification). withSwitches made (length (u .switches)) ≡ numbersOf (cappedSpecification u)) (sym whole)
+          subst (λ (u : Specification). withSwitches (made .numbers) (length (u .switches)) ≡ numbersOf (cappedSpecification u)) (sym whole)
               (numbers-are (t .0) (w .0) (w .2) (t .1) (w .1) (front .1) file-made uic-made),
           ap (λ (n : UicNumbers). from switches s (n .next .at)) uic-made ∙ w .4 ∙ ap (λ (u : Specification). ok (u .switches) end) (sym whole),
         )

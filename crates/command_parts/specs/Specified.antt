@@ -11,7 +11,8 @@ use Rattle.command_parts.specs.Passed.{switches}
 use Rattle.command_parts.specs.declared.Numbers.{Numbers}
 use Rattle.command_parts.specs.declared.Parts.{Parts}
 
-abbrev pub withSwitches : Parts → ℕ → Numbers
+-- the numbers, with so many switches
+abbrev pub withSwitches : Numbers → ℕ → Numbers
 withSwitches x n =
     record {
       present = x .present;
@@ -27,5 +28,5 @@ withSwitches x n =
 
 -- its numbers, as far as 256, and where its switches begin
 pub record PartsAt (line : List ℕ) (at : ℕ) (x : Parts) : Type 0 where
-  pub numbers : (v : Specification) (end : ℕ) → from specification line at ≡ ok v end → withSwitches x (length (v .switches)) ≡ numbersOf (cappedSpecification v)
+  pub numbers : (v : Specification) (end : ℕ) → from specification line at ≡ ok v end → withSwitches (x .numbers) (length (v .switches)) ≡ numbersOf (cappedSpecification v)
   pub behind : (v : Specification) (end : ℕ) → from specification line at ≡ ok v end → from switches line (x .next .at) ≡ ok (v .switches) end

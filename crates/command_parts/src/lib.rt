@@ -9,13 +9,14 @@ ghost use Prim.Native.Nat.{_≤_};
 ghost use Rattle.command_grammar.specs.Keeps.{specificationKeeps};
 ghost use Rattle.command_grammar.specs.Reader.{specification, from};
 ghost use Rattle.command_parts.specs.Numbers.{bit, presentBits};
-ghost use Rattle.command_parts.specs.Specified.{withSwitches, PartsAt};
+ghost use Rattle.command_parts.specs.Specified.{PartsAt};
 ghost use Rattle.command_parts.specs.Passed.{passing, keepsOf};
 use command_cursor::Cursor;
 use command_cursor::Part;
 use passing::Passing;
 
-// A specification in the paper's numbers; those of absent parts are 0.
+// A specification in the paper's numbers, as a host sees them; those of absent parts are 0.
+#[repr(C)]
 pub struct Numbers {
     pub present: usize,
     pub device: usize,
@@ -28,16 +29,9 @@ pub struct Numbers {
     pub switches: usize,
 }
 
-// The numbers of a specification but for how many switches it has, and where its switches begin.
+// The numbers of a specification whose switches are not yet counted, and where these begin.
 pub struct Parts {
-    pub present: usize,
-    pub device: usize,
-    pub unit: usize,
-    pub name1: usize,
-    pub name2: usize,
-    pub extension: usize,
-    pub group: usize,
-    pub user: usize,
+    pub numbers: Numbers,
     pub next: Cursor,
 }
 
@@ -98,7 +92,7 @@ pub fn read_parts(line: &[u8], c: Cursor) -> Parts
     let head = file.next;
     let uic = bracket::read_uic(line, head);
     let next = uic.next;
-    Parts {
+    let numbers = Numbers {
         present: present_bits(device.present, file.present, file.extended, uic.present),
         device: device.word,
         unit: device.unit,
@@ -107,23 +101,7 @@ pub fn read_parts(line: &[u8], c: Cursor) -> Parts
         extension: file.extension,
         group: uic.group,
         user: uic.user,
-        next,
-    }
-}
-
-// The numbers of a specification with so many switches.
-pub fn with_switches(parts: Parts, switches: usize) -> Numbers
-    ensures { λ r. ⌜ r ≡ withSwitches parts switches ⌝ }
-{
-    Numbers {
-        present: parts.present,
-        device: parts.device,
-        unit: parts.unit,
-        name1: parts.name1,
-        name2: parts.name2,
-        extension: parts.extension,
-        group: parts.group,
-        user: parts.user,
-        switches,
-    }
+        switches: 0,
+    };
+    Parts { numbers, next }
 }

@@ -99,8 +99,8 @@ encoded-front ws us rest behind long is =
 abbrev knownAs : Specification → Known
 knownAs v = record { answer = askingAnswer (A.Given (numbersOf v)); switches = switchNumbers (v .switches) }
 
-numbers-known : (n m : Numbers) → recordWords n ≡ recordWords m → (n .switches ≡ m .switches) × (askingAnswer (A.Given n) ≡ askingAnswer (A.Given m))
-numbers-known n m is =
+numbers-same : (n m : Numbers) → recordWords n ≡ recordWords m → n ≡ m
+numbers-same n m is =
     let present : n .present ≡ m .present = cc in
     let device : n .device ≡ m .device = cc in
     let unit : n .unit ≡ m .unit = cc in
@@ -110,7 +110,17 @@ numbers-known n m is =
     let group : n .group ≡ m .group = cc in
     let user : n .user ≡ m .user = cc in
     let switches : n .switches ≡ m .switches = cc in
-    (switches, rw (present, device, unit, name1, name2, extension, group, user, switches))
+    λ i. record {
+      present = present i;
+      device = device i;
+      unit = unit i;
+      name1 = name1 i;
+      name2 = name2 i;
+      extension = extension i;
+      group = group i;
+      user = user i;
+      switches = switches i;
+    }
 
 count-of : (v : Specification) → numbersOf v .switches ≡ length (v .switches)
 unfolding numbersOf
@@ -122,9 +132,9 @@ record-known v w rest behind is =
     let split = words-front (recordWords (numbersOf v)) (recordWords (numbersOf w)) (encoded (v .switches) ++ rest) (encoded (w .switches) ++ behind) refl
     (sym (append-assoc (wordBytes (recordWords (numbersOf v))) (encoded (v .switches)) rest) ∙ is
     ∙ append-assoc (wordBytes (recordWords (numbersOf w))) (encoded (w .switches)) behind) in
-    let numbers = numbers-known (numbersOf v) (numbersOf w) (split .0) in
-    let switches = encoded-front (v .switches) (w .switches) rest behind (sym (count-of v) ∙ numbers .0 ∙ count-of w) (split .1) in
-    (rw (numbers .1, switches .0), switches .1)
+    let numbers = numbers-same (numbersOf v) (numbersOf w) (split .0) in
+    let switches = encoded-front (v .switches) (w .switches) rest behind (sym (count-of v) ∙ ap (λ (n : Numbers). n .switches) numbers ∙ count-of w) (split .1) in
+    (rw (numbers, switches .0), switches .1)
 
 records-known : (vs ws : List Specification) (rest behind : List ℕ) → length vs ≡ length ws → recordsOf vs ++ rest ≡ recordsOf ws ++ behind
     → (knownOf vs ≡ knownOf ws) × (rest ≡ behind)

@@ -1,4 +1,4 @@
--- Rests on `given` and `refused`, and on `askingAnswer`, which is the same table of cases.
+-- Rests on `refused`, and on `askingAnswer`, which is the same table of cases.
 use mathlib.Core.Path.{sym, ap, _∙_}
 use borrow.Author.Needs.{needs}
 use Rattle.command.specs.Csi2.{askingAnswer}
@@ -7,9 +7,6 @@ use Rattle.command.proofs.csi2.asking_answer.Tie as tie
 
 enum-known-answer : tie.Need-enum-known-answer
 enum-known-answer c = search needs
-
-given-requires : tie.Need-given-requires
-given-requires c κs = search needs
 
 enum-told : tie.Need-enum-told
 enum-told c = search needs
@@ -42,7 +39,7 @@ refused-requires-5 : tie.Need-refused-requires-5
 refused-requires-5 c κs = search needs
 
 returns : tie.Need-returns
-returns c = c .given .ensures ∙ sym (ap askingAnswer (c .before .before .answer .given .1))
+returns c = sym (ap askingAnswer (c .before .answer .given .1))
 
 returns-2 : tie.Need-returns-2
 returns-2 c = c .refused .ensures ∙ sym (ap askingAnswer (c .before .enum-told .given .1))
@@ -64,7 +61,6 @@ asking-answer-spec =
     tie.close
     (tie.spec
     enum-known-answer
-    given-requires
     enum-told
     refused-requires
     enum-known-answer-2
