@@ -34,9 +34,9 @@ use Rattle.frame.proofs.GrowthConsistent.{grown-framed}
 use Rattle.bodies.specs.BufferSizes.{wrongPayload}
 use Rattle.adding.specs.LinkedAddRows.{openForAdding, linkedAddRows}
 use Rattle.adding.specs.LinkedAdd.{addedBlock, linkedAdd}
-use Rattle.adding.proofs.LinkedAddStage.{Admitted, add-clear, clear-add}
+use Rattle.adding.proofs.LinkedAddStage.{Admitted, linked-add-clear, clear-add}
 use Rattle.adding.proofs.LinkedAddEnlarged.{Touched}
-use Rattle.adding.proofs.LinkedAddEffect.{add-code, add-admitted, add-free, add-enlarged, add-consistent}
+use Rattle.adding.proofs.LinkedAddEffect.{linked-add-code, linked-add-admitted, linked-add-free, linked-add-enlarged, linked-add-consistent}
 
 -- what access looks at
 same-access : (x y : Entry) (caller : ℕ) → y .uic ≡ x .uic → y .protect ≡ x .protect → y .kind ≡ x .kind → y .writer ≡ x .writer
@@ -54,23 +54,23 @@ module _ (img : List ℕ) (key : Key) (caller : ℕ) (payload : List ℕ) where
       → linkedAdd img key caller payload .code ≡ 0
   again-accepted needed positive passed whole =
       let fits : wrongPayload img payload ≡ false = ap not (eq-eqb (length payload) (payloadBytes (geometryOf img)) whole) in
-      let r = add-clear img key caller false needed passed in
-      add-code img key caller payload ∙ rw fits (clear-add img key caller false 1 (r .0) (omega (arith, r .1)))
+      let r = linked-add-clear img key caller false needed passed in
+      linked-add-code img key caller payload ∙ rw fits (clear-add img key caller false 1 (r .0) (omega (arith, r .1)))
 
   module _ (success : linkedAdd img key caller payload .code ≡ 0) where
     abbrev image : List ℕ
     image = linkedAdd img key caller payload .image
 
     known : Admitted img key (wrongPayload img payload)
-    known = add-admitted img key caller payload success
+    known = linked-add-admitted img key caller payload success
 
     framed : Framed (Only (entryNo img key)) (Touched img (geometryOf img) (entryNo img key) (addedBlock img)) img image (geometryOf img)
     framed =
-        grown-framed refl (known .file .right) (known .file .inside) (known .linked) (add-free img key caller payload success)
-        (add-enlarged img key caller payload success .grown)
+        grown-framed refl (known .file .right) (known .file .inside) (known .linked) (linked-add-free img key caller payload success)
+        (linked-add-enlarged img key caller payload success .grown)
 
     consistent-again : Consistent image
-    consistent-again = add-consistent img key caller payload (known .file .right)
+    consistent-again = linked-add-consistent img key caller payload (known .file .right)
 
     pub again-measures : geometryOf image ≡ geometryOf img
     again-measures = geometry-framed refl (known .file .right) framed
@@ -78,7 +78,7 @@ module _ (img : List ℕ) (key : Key) (caller : ℕ) (payload : List ℕ) where
     -- all words of the entry but "6 first block; 7 length in blocks; 8 last block"
     pub again-words : (i : ℕ) → i < 16 → (i ≡ 6 → ⊥) → (i ≡ 7 → ⊥) → (i ≡ 8 → ⊥)
         → entryWord image (geometryOf img) (entryNo img key) i ≡ entryWord img (geometryOf img) (entryNo img key) i
-    again-words = add-enlarged img key caller payload success .grown .resized .words
+    again-words = linked-add-enlarged img key caller payload success .grown .resized .words
 
     same-word : (i : ℕ) → i < 16 → (i < 6) → entryWord image (geometryOf img) (entryNo img key) i ≡ entryWord img (geometryOf img) (entryNo img key) i
     same-word i small front = again-words i small (λ is. omega arith) (λ is. omega arith) (λ is. omega arith)
@@ -98,7 +98,7 @@ module _ (img : List ℕ) (key : Key) (caller : ℕ) (payload : List ℕ) where
           total-swap (λ x. entryOf img (geometryOf img) x .length) (λ x. entryOf image (geometryOf img) x .length) (entryNo img key) 0 (slots (geometryOf img))
               (λ x low high other. ap (λ (y : Entry). y .length) (entry-framed refl (known .file .right) framed x (omega arith) other))
               (omega arith) (omega (arith, known .file .inside)),
-          add-enlarged img key caller payload success .grown .size,
+          linked-add-enlarged img key caller payload success .grown .size,
         )
 
     -- the entry has the key still
@@ -135,7 +135,7 @@ module _ (img : List ℕ) (key : Key) (caller : ℕ) (payload : List ℕ) where
     -- one block fewer is needed then
     pub again-clear : (needed : ℕ) → firstOf (linkedAddRows img key caller false (needed + 1)) ≡ 0 → firstOf (linkedAddRows image key caller false needed) ≡ 0
     again-clear needed passed =
-        let r = add-clear img key caller false (needed + 1) passed in
+        let r = linked-add-clear img key caller false (needed + 1) passed in
         let asked = sym (asked-file image key false (consistent-iff image .1 consistent-again) (known .file .legal) refl (entryNo img key) there-again) in
         clear-add image key caller false needed
         (record {

@@ -158,12 +158,12 @@ module _ (img : List ℕ) (key : Key) (caller : ℕ) (payload : List ℕ) (size 
   unfolding addingOf
   at-stated = sym (is ∙ ap (λ (n : ℕ). addingOf img key caller (not (eqb (length payload) n))) stated)
 
-  pub add-denied : (code : ℕ) → adding ≡ Denied code
+  pub linked-add-denied : (code : ℕ) → adding ≡ Denied code
       → (code ≡ linkedAdd img key caller payload .code)
       × (((0 ∷ []) ≡ linkedAdd img key caller payload .numbers)
       × (img ≡ linkedAdd img key caller payload .image))
   unfolding linkedAdd
-  add-denied code told =
+  linked-add-denied code told =
       let r = stage-is-refused rows img key code (refused-in (addedBlock img) (stageOf rows img key) (at-stated ∙ told)) in
       let a = refused-answer rows img payload _ (r .first) (r .not-zero) in
       (a .0, (a .1, a .2))
@@ -175,9 +175,9 @@ module _ (img : List ℕ) (key : Key) (caller : ℕ) (payload : List ℕ) (size 
     pub block-is : b .0 ≡ addedBlock img
     block-is = own .block
 
-    pub add-ready : (map : List ℕ) → MappedIf map img → Ready img map g e payload
+    pub linked-add-ready : (map : List ℕ) → MappedIf map img → Ready img map g e payload
     unfolding fileOf
-    add-ready map mapped =
+    linked-add-ready map mapped =
         let given = own .given in
         let a : Admitted img key (wrongPayload img payload) = admitted img key caller (wrongPayload img payload) 1 (omega arith) (given .clear) in
         let held-on : Mapped map img = mapped (consistent-iff img .1 (a .file .right)) in
@@ -192,12 +192,12 @@ module _ (img : List ℕ) (key : Key) (caller : ℕ) (payload : List ℕ) (size 
           says = held-on .says;
         }
 
-    pub add-done : (img′ : List ℕ) → img′ ≡ added img g e (entryOf img g e) (addedBlock img) payload
+    pub linked-add-done : (img′ : List ℕ) → img′ ≡ added img g e (entryOf img g e) (addedBlock img) payload
         → (0 ≡ linkedAdd img key caller payload .code)
         × (((b .0 ∷ []) ≡ linkedAdd img key caller payload .numbers)
         × (img′ ≡ linkedAdd img key caller payload .image))
     unfolding linkedAdd fileOf
-    add-done img′ written =
+    linked-add-done img′ written =
         let given = own .given in
         let d =
         done-answer rows img payload _ (given .clear) (b .0 ∷ []) img′ (ap (λ (z : ℕ). z ∷ []) block-is)

@@ -42,7 +42,7 @@ use Rattle.adding.specs.declared.linked_add.Adding.the-variants.{Block, 
 use Rattle.adding.specs.LinkedAddRows.{openForAdding, linkedAddRows}
 use Rattle.adding.specs.LinkedAdd.{highestFree, addedBlock}
 use Rattle.adding.specs.LinkedAddStage.{blockIn, addingOf}
-use Rattle.adding.proofs.LinkedAddStage.{add-rows-last}
+use Rattle.adding.proofs.LinkedAddStage.{linked-add-rows-last}
 
 -- `asked` is what was answered of the file and the access to it
 module _ (img : List ℕ) (key : Key) (caller : ℕ) (wrong : Bool) (asked : Asked)
@@ -78,13 +78,13 @@ module _ (img : List ℕ) (key : Key) (caller : ℕ) (wrong : Bool) (asked : Ask
         → Refused code ≡ stageOf (linkedAddRows img key caller wrong needed) img key
     stopped-last needed last never =
         stage-refuses (linkedAddRows img key caller wrong needed) img key
-        (record { first = add-rows-last img key caller wrong needed reached ∙ last; not-zero = never })
+        (record { first = linked-add-rows-last img key caller wrong needed reached ∙ last; not-zero = never })
 
     given-last : (needed : ℕ) → firstOf (row (ltb (freeCount img) needed) 0o42 ∷ []) ≡ 0 → File g e x ≡ stageOf (linkedAddRows img key caller wrong needed) img key
     given-last needed last =
         stage-gives (linkedAddRows img key caller wrong needed) img key
         (record {
-          clear = add-rows-last img key caller wrong needed reached ∙ last;
+          clear = linked-add-rows-last img key caller wrong needed reached ∙ last;
           measures = reached .file .measures;
           number = number-found img key (reached .file .there);
           file = sym (reached .entry);

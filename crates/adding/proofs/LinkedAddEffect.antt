@@ -47,18 +47,18 @@ use Rattle.bodies.proofs.BufferSizes.{payload-fits}
 use Rattle.bodies.proofs.Payloads.{payloads-one, payloads-append, payloads-same}
 use Rattle.adding.specs.LinkedAddRows.{openForAdding, linkedAddRows}
 use Rattle.adding.specs.LinkedAdd.{AddWords, addedBlock, added, linkedAdd}
-use Rattle.adding.proofs.LinkedAddStage.{Admitted, admitted, add-rows-last, block-free, block-highest}
+use Rattle.adding.proofs.LinkedAddStage.{Admitted, admitted, linked-add-rows-last, block-free, block-highest}
 use Rattle.adding.proofs.LinkedAddEnlarged.{Touched, Enlarged, added-changes, enlarged}
 
 module _ (img : List ℕ) (key : Key) (caller : ℕ) (payload : List ℕ) where
-  pub add-code : linkedAdd img key caller payload .code ≡ firstOf (linkedAddRows img key caller (wrongPayload img payload) 1)
+  pub linked-add-code : linkedAdd img key caller payload .code ≡ firstOf (linkedAddRows img key caller (wrongPayload img payload) 1)
   unfolding linkedAdd
-  add-code = code-is (linkedAddRows img key caller (wrongPayload img payload) 1) img payload _
+  linked-add-code = code-is (linkedAddRows img key caller (wrongPayload img payload) 1) img payload _
 
   -- "A refusal returns its code, any other number in the answer 0 .., and nothing in the image or a lent buffer changes."
-  pub add-refused : (linkedAdd img key caller payload .code ≡ 0 → ⊥) → Unchanged (linkedAdd img key caller payload) (0 ∷ []) img payload
+  pub linked-add-refused : (linkedAdd img key caller payload .code ≡ 0 → ⊥) → Unchanged (linkedAdd img key caller payload) (0 ∷ []) img payload
   unfolding linkedAdd
-  add-refused = refusal-keeps (linkedAddRows img key caller (wrongPayload img payload) 1) img payload _
+  linked-add-refused = refusal-keeps (linkedAddRows img key caller (wrongPayload img payload) 1) img payload _
 
   -- "42: no free block": with nothing else against it, exactly if no block is free
   module _ (clear : firstOf (fileRows img key (wrongPayload img payload) ++ accessRows (fileOf img key) caller Write 1 (not (openForAdding (fileOf img key)))) ≡ 0) where
@@ -73,7 +73,7 @@ module _ (img : List ℕ) (key : Key) (caller : ℕ) (payload : List ℕ) where
 
     -- row 42 decides
     last-row : linkedAdd img key caller payload .code ≡ firstOf (row (ltb (freeCount img) 1) 0o42 ∷ [])
-    last-row = add-code ∙ add-rows-last img key caller (wrongPayload img payload) 1 reached
+    last-row = linked-add-code ∙ linked-add-rows-last img key caller (wrongPayload img payload) 1 reached
 
     none-left : freeCount img < 1 → linkedAdd img key caller payload .code ≡ 0o42
     none-left few = last-row ∙ refuse [] (lt-ltb (freeCount img) 1 few)
@@ -81,16 +81,16 @@ module _ (img : List ℕ) (key : Key) (caller : ℕ) (payload : List ℕ) where
     some-left : 1 ≤ freeCount img → linkedAdd img key caller payload .code ≡ 0
     some-left more = last-row ∙ pass 0o42 [] (le-ltb (freeCount img) 1 more) ∙ no-rows
 
-    pub add-42-iff : linkedAdd img key caller payload .code ≡ 0o42 ↔ ((b : ℕ) → FreeBlock img b → ⊥)
-    add-42-iff = by (decLt (freeCount img) 1)
+    pub linked-add-42-iff : linkedAdd img key caller payload .code ≡ 0o42 ↔ ((b : ℕ) → FreeBlock img b → ⊥)
+    linked-add-42-iff = by (decLt (freeCount img) 1)
       where
         by : Dec (freeCount img < 1) → linkedAdd img key caller payload .code ≡ 0o42 ↔ ((b : ℕ) → FreeBlock img b → ⊥)
         by (yes few) = (λ code. none-free (reached .file .right) .0 few, λ never. none-left few)
         by (no more) =
             (λ code. absurd (omega (arith, code, some-left (omega (arith, more)))), λ never. none-left (none-free (reached .file .right) .1 never))
 
-    pub add-else-0 : (linkedAdd img key caller payload .code ≡ 0o42 → ⊥) → linkedAdd img key caller payload .code ≡ 0
-    add-else-0 other = by (decLt (freeCount img) 1)
+    pub linked-add-else-0 : (linkedAdd img key caller payload .code ≡ 0o42 → ⊥) → linkedAdd img key caller payload .code ≡ 0
+    linked-add-else-0 other = by (decLt (freeCount img) 1)
       where
         by : Dec (freeCount img < 1) → linkedAdd img key caller payload .code ≡ 0
         by (yes few) = absurd (other (none-left few))
@@ -154,47 +154,47 @@ module _ (img : List ℕ) (key : Key) (caller : ℕ) (payload : List ℕ) where
 
   -- the request, on success
   module _ (success : linkedAdd img key caller payload .code ≡ 0) where
-    pub add-admitted : Admitted img key (wrongPayload img payload)
-    add-admitted = admitted img key caller (wrongPayload img payload) 1 (omega arith) (sym add-code ∙ success)
+    pub linked-add-admitted : Admitted img key (wrongPayload img payload)
+    linked-add-admitted = admitted img key caller (wrongPayload img payload) 1 (omega arith) (sym linked-add-code ∙ success)
 
-    pub add-image : linkedAdd img key caller payload .image ≡ after
+    pub linked-add-image : linkedAdd img key caller payload .image ≡ after
     unfolding linkedAdd fileOf
-    add-image = success-image (linkedAddRows img key caller (wrongPayload img payload) 1) img payload _ (sym add-code ∙ success)
+    linked-add-image = success-image (linkedAddRows img key caller (wrongPayload img payload) 1) img payload _ (sym linked-add-code ∙ success)
 
     -- "the highest free block is joined": its number is the answer's
-    pub add-highest : (linkedAdd img key caller payload .numbers ≡ addedBlock img ∷ [])
+    pub linked-add-highest : (linkedAdd img key caller payload .numbers ≡ addedBlock img ∷ [])
         × FreeBlock img (addedBlock img)
         × ((b : ℕ) → addedBlock img < b → FreeBlock img b → ⊥)
     unfolding linkedAdd
-    add-highest = (
-      success-numbers (linkedAddRows img key caller (wrongPayload img payload) 1) img payload _ (sym add-code ∙ success),
-      free-of add-admitted,
-      block-highest (add-admitted .file .right) (add-admitted .more),
+    linked-add-highest = (
+      success-numbers (linkedAddRows img key caller (wrongPayload img payload) 1) img payload _ (sym linked-add-code ∙ success),
+      free-of linked-add-admitted,
+      block-highest (linked-add-admitted .file .right) (linked-add-admitted .more),
     )
 
-    pub add-free : FreeBlock img (addedBlock img)
-    add-free = free-of add-admitted
+    pub linked-add-free : FreeBlock img (addedBlock img)
+    linked-add-free = free-of linked-add-admitted
 
-    pub add-enlarged : Enlarged img (linkedAdd img key caller payload .image) (geometryOf img) (entryNo img key) (addedBlock img) payload
-    add-enlarged =
-        subst (λ (img′ : List ℕ). Enlarged img img′ (geometryOf img) (entryNo img key) (addedBlock img) payload) (sym add-image) (larger add-admitted)
+    pub linked-add-enlarged : Enlarged img (linkedAdd img key caller payload .image) (geometryOf img) (entryNo img key) (addedBlock img) payload
+    linked-add-enlarged =
+        subst (λ (img′ : List ℕ). Enlarged img img′ (geometryOf img) (entryNo img key) (addedBlock img) payload) (sym linked-add-image) (larger linked-add-admitted)
 
     -- "joined at the end"
-    pub add-blocks : blocksAt (linkedAdd img key caller payload .image) (geometryOf img) (entryNo img key)
+    pub linked-add-blocks : blocksAt (linkedAdd img key caller payload .image) (geometryOf img) (entryNo img key)
         ≡ blocksAt img (geometryOf img) (entryNo img key) ++ (addedBlock img ∷ [])
-    add-blocks = rw add-image (after-blocks add-admitted)
+    linked-add-blocks = rw linked-add-image (after-blocks linked-add-admitted)
 
-    pub add-payloads : payloadsOf (linkedAdd img key caller payload .image) (geometryOf img)
+    pub linked-add-payloads : payloadsOf (linkedAdd img key caller payload .image) (geometryOf img)
         (blocksAt (linkedAdd img key caller payload .image) (geometryOf img) (entryNo img key))
         ≡ payloadsOf img (geometryOf img) (blocksAt img (geometryOf img) (entryNo img key)) ++ payload
-    add-payloads = rw add-image (after-payloads add-admitted)
+    linked-add-payloads = rw linked-add-image (after-payloads linked-add-admitted)
 
-    pub add-payload : payloadOf (linkedAdd img key caller payload .image) (geometryOf img) (addedBlock img) ≡ payload
-    add-payload = add-enlarged .own
+    pub linked-add-payload : payloadOf (linkedAdd img key caller payload .image) (geometryOf img) (addedBlock img) ≡ payload
+    linked-add-payload = linked-add-enlarged .own
 
     -- "with link 0"
-    pub add-link : linkOf (linkedAdd img key caller payload .image) (geometryOf img) (addedBlock img) ≡ 0
-    add-link = add-enlarged .grown .end
+    pub linked-add-link : linkOf (linkedAdd img key caller payload .image) (geometryOf img) (addedBlock img) ≡ 0
+    linked-add-link = linked-add-enlarged .grown .end
 
   -- refused or not
   always : (P : List ℕ → Type 0) → P img → ((a : Admitted img key (wrongPayload img payload)) → P after) → P (linkedAdd img key caller payload .image)
@@ -203,21 +203,21 @@ module _ (img : List ℕ) (key : Key) (caller : ℕ) (payload : List ℕ) where
       image-by (linkedAddRows img key caller (wrongPayload img payload) 1) img payload _ P before
       (λ clear. then (admitted img key caller (wrongPayload img payload) 1 (omega arith) clear))
 
-  pub add-consistent : Consistent img → Consistent (linkedAdd img key caller payload .image)
-  add-consistent right = always Consistent right after-consistent
+  pub linked-add-consistent : Consistent img → Consistent (linkedAdd img key caller payload .image)
+  linked-add-consistent right = always Consistent right after-consistent
 
   -- no link, nor anything else, is written into block 0
-  pub add-block-zero : (w : ℕ) → w < blockWords (geometryOf img) → wordAt (linkedAdd img key caller payload .image) w ≡ wordAt img w
-  add-block-zero w within = always (λ (img′ : List ℕ). wordAt img′ w ≡ wordAt img w) refl (λ a. header-kept (larger a .grown .kept) w within)
+  pub linked-add-block-zero : (w : ℕ) → w < blockWords (geometryOf img) → wordAt (linkedAdd img key caller payload .image) w ≡ wordAt img w
+  linked-add-block-zero w within = always (λ (img′ : List ℕ). wordAt img′ w ≡ wordAt img w) refl (λ a. header-kept (larger a .grown .kept) w within)
 
   -- a file that the request does not name
-  pub add-untouched : (other : Key) → (other ≡ key → ⊥) → Untouched other img (linkedAdd img key caller payload .image)
-  add-untouched other apart = always (Untouched other img) (untouched-refl other img) (λ a. after-untouched a other apart)
+  pub linked-add-untouched : (other : Key) → (other ≡ key → ⊥) → Untouched other img (linkedAdd img key caller payload .image)
+  linked-add-untouched other apart = always (Untouched other img) (untouched-refl other img) (λ a. after-untouched a other apart)
 
   -- no other word changes
-  pub add-changes : ChangesOnly (AddWords (geometryOf img) (entryNo img key) (fileOf img key) (addedBlock img)) img (linkedAdd img key caller payload .image)
+  pub linked-add-changes : ChangesOnly (AddWords (geometryOf img) (entryNo img key) (fileOf img key) (addedBlock img)) img (linkedAdd img key caller payload .image)
   unfolding fileOf
-  add-changes =
+  linked-add-changes =
       always (ChangesOnly (AddWords (geometryOf img) (entryNo img key) (entryOf img (geometryOf img) (entryNo img key)) (addedBlock img)) img) changes-nothing
       (λ a. added-changes img (geometryOf img) (addedBlock img) payload (header-sized img (a .file .right .header)) (free-of a .below)
       (payload-fits img payload (geometryOf img) (a .file .argument) refl) _ _)

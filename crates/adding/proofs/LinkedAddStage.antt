@@ -31,9 +31,9 @@ use Rattle.adding.specs.LinkedAddRows.{openForAdding, linkedAddRows}
 use Rattle.adding.specs.LinkedAdd.{highestFree, addedBlock}
 
 -- 40, 15, 41, 2, 6, 43, 45 and 42 stand in the order of the table
-pub add-ordered : (img : List ℕ) (key : Key) (caller : ℕ) (wrong : Bool) (needed : ℕ) → inOrder tableOrder 0 (linkedAddRows img key caller wrong needed) ≡ true
+pub linked-add-ordered : (img : List ℕ) (key : Key) (caller : ℕ) (wrong : Bool) (needed : ℕ) → inOrder tableOrder 0 (linkedAddRows img key caller wrong needed) ≡ true
 unfolding linkedAddRows fileRows accessRows
-add-ordered img key caller wrong needed = refl
+linked-add-ordered img key caller wrong needed = refl
 
 -- "writer 2 or 3"
 pub open-output : (x : Entry) → x .writer ≡ 2 → true ≡ openForAdding x
@@ -67,28 +67,28 @@ pub record Admitted (img : List ℕ) (key : Key) (wrong : Bool) : Type 0 where
 
 module _ (img : List ℕ) (key : Key) (caller : ℕ) (wrong : Bool) (needed : ℕ) where
   -- the rows before 42 are those of the stage that other requests share
-  pub add-rows-last : {g : Geometry} {e : ℕ} {x : Entry} → Reached img key wrong caller Write 1 (λ y. not (openForAdding y)) g e x
+  pub linked-add-rows-last : {g : Geometry} {e : ℕ} {x : Entry} → Reached img key wrong caller Write 1 (λ y. not (openForAdding y)) g e x
       → firstOf (linkedAddRows img key caller wrong needed) ≡ firstOf (row (ltb (freeCount img) needed) 0o42 ∷ [])
   unfolding linkedAddRows
-  add-rows-last reached = reached-rows img key wrong caller Write 1 (λ y. not (openForAdding y)) _ reached
+  linked-add-rows-last reached = reached-rows img key wrong caller Write 1 (λ y. not (openForAdding y)) _ reached
 
   -- no row is given: the file is there and open as needed, and enough blocks are free
-  pub add-clear : firstOf (linkedAddRows img key caller wrong needed) ≡ 0
+  pub linked-add-clear : firstOf (linkedAddRows img key caller wrong needed) ≡ 0
       → Reached img key wrong caller Write 1 (λ y. not (openForAdding y)) (geometryOf img) (entryNo img key) (fileOf img key) × (needed ≤ freeCount img)
   unfolding linkedAddRows
-  add-clear passed =
+  linked-add-clear passed =
       let r = reached-clear img key wrong caller Write 1 (λ y. not (openForAdding y)) (row (ltb (freeCount img) needed) 0o42 ∷ []) passed in
       let crowded = none-given (ltb (freeCount img) needed) 0o42 [] (λ is. omega (arith, is)) (r .1) in
       (r .0, ltb-false (freeCount img) needed (crowded .0))
 
   pub clear-add : {g : Geometry} {e : ℕ} {x : Entry} → Reached img key wrong caller Write 1 (λ y. not (openForAdding y)) g e x → needed ≤ freeCount img
       → firstOf (linkedAddRows img key caller wrong needed) ≡ 0
-  clear-add reached enough = add-rows-last reached ∙ pass 0o42 [] (le-ltb (freeCount img) needed enough) ∙ clear
+  clear-add reached enough = linked-add-rows-last reached ∙ pass 0o42 [] (le-ltb (freeCount img) needed enough) ∙ clear
 
   pub admitted : 0 < needed → firstOf (linkedAddRows img key caller wrong needed) ≡ 0 → Admitted img key wrong
   unfolding fileOf
   admitted positive passed =
-      let r = add-clear passed in
+      let r = linked-add-clear passed in
       let f = r .0 .file in
       record {
         file = f;

@@ -41,7 +41,7 @@ added img g e x b payload =
 abbrev pub addedBlock : List ℕ → ℕ
 addedBlock img = orElse 0 (highestFree img)
 
--- what may change: words 6 to 8 of the entry, the new block, and the link of the last block of a file that has one (`add-changes`)
+-- what may change: words 6 to 8 of the entry, the new block, and the link of the last block of a file that has one (`linked-add-changes`)
 abbrev pub AddWords : Geometry → ℕ → Entry → ℕ → ℕ → Type 0
 AddWords g e x b w = InWords g e 6 8 w ⊎ (InBlock g b w ⊎ ((0 < x .length) × (w ≡ blockAt g (x .last .0))))
 

@@ -26,26 +26,26 @@ pub openo-ordered : (img : List ℕ) (key : Key) (caller protect : ℕ) → inOr
 openo-ordered img key caller protect = creating-ordered img key caller protect false
 
 module _ (img : List ℕ) (key : Key) (caller protect : ℕ) (answer : Creating) (is : answer ≡ creatingOf img key caller protect false) where
-  pub output-refused : (code : ℕ) → answer ≡ Refused code → (code ≡ openo img key caller protect .code) × (img ≡ openo img key caller protect .image)
+  pub openo-denied : (code : ℕ) → answer ≡ Refused code → (code ≡ openo img key caller protect .code) × (img ≡ openo img key caller protect .image)
   unfolding openo
-  output-refused code told =
+  openo-denied code told =
       let f = forbidden img key caller protect false answer is code told in
       let r = refused-answer (openoRows img key caller protect) img [] _ (f .first) (f .never) in
       (r .0, r .2)
 
   module _ (g : Geometry) (e : ℕ) (told : answer ≡ At g e) where
-    pub output-ready : ((i : ℕ) → getD img i 0 < 256) → Sized img g × ((e < slots g) × WordFields (newFile key protect emptyOutput))
-    output-ready bytes =
+    pub openo-ready : ((i : ℕ) → getD img i 0 < 256) → Sized img g × ((e < slots g) × WordFields (newFile key protect emptyOutput))
+    openo-ready bytes =
         let a = allowed img key caller protect false answer is g e told in
         let ready = creatable img key caller protect false (a .clear) in (
           sized-at ready (a .measures) (a .number),
           (inside-at ready (a .measures) (a .number), writable ready bytes emptyOutput (omega arith) (omega arith) (omega arith) (omega arith) (omega arith)),
         )
 
-    pub output-done : (img′ : List ℕ) → img′ ≡ setEntryWords img g e 0 (wordsOf (newFile key protect emptyOutput))
+    pub openo-done : (img′ : List ℕ) → img′ ≡ setEntryWords img g e 0 (wordsOf (newFile key protect emptyOutput))
         → (0 ≡ openo img key caller protect .code) × (img′ ≡ openo img key caller protect .image)
     unfolding openo
-    output-done img′ written =
+    openo-done img′ written =
         let a = allowed img key caller protect false answer is g e told in
         let d = done-answer (openoRows img key caller protect) img [] _ (a .clear) [] img′ refl (written ∙ created-at img _ g e (a .measures) (a .number)) in
         (d .0, d .2)

@@ -43,7 +43,7 @@ use Rattle.transfer.specs.LinkedRead.{linkedRead}
 use Rattle.adding.specs.LinkedAddRows.{linkedAddRows}
 use Rattle.adding.specs.LinkedAdd.{linkedAdd}
 use Rattle.adding.proofs.LinkedAddEnlarged.{Enlarged}
-use Rattle.adding.proofs.LinkedAddEffect.{add-admitted, add-free, add-enlarged}
+use Rattle.adding.proofs.LinkedAddEffect.{linked-add-admitted, linked-add-free, linked-add-enlarged}
 use Rattle.promises.specs.AddedAgain.{addedImage, closedImage, openedImage}
 use Rattle.promises.proofs.AddedAgainStored.{Stored, read-stored, close-stored, stored-closed, closed-writer, closed-readers, open-stored, stored-opened, opened-readers}
 
@@ -164,17 +164,17 @@ module _ (img : List ℕ) (key : Key) (caller : ℕ) (payload : List ℕ) where
     stored-added : Stored img₁ key (geometryOf img) (entryNo img key) caller (fileOf img key .length) payload
     unfolding fileOf
     stored-added =
-        let a = add-admitted img key caller payload done in
-        stored-enlarged refl (a .file .right) (a .file .legal) (a .file .inside) (a .file .keyed) (a .linked) (add-free img key caller payload done)
-        (opens .readable) (add-enlarged img key caller payload done)
+        let a = linked-add-admitted img key caller payload done in
+        stored-enlarged refl (a .file .right) (a .file .legal) (a .file .inside) (a .file .keyed) (a .linked) (linked-add-free img key caller payload done)
+        (opens .readable) (linked-add-enlarged img key caller payload done)
 
     added-writer : entryOf img₁ (geometryOf img) (entryNo img key) .writer ≡ fileOf img key .writer
     unfolding fileOf
-    added-writer = enlarged-writer (add-enlarged img key caller payload done)
+    added-writer = enlarged-writer (linked-add-enlarged img key caller payload done)
 
     added-readers : entryOf img₁ (geometryOf img) (entryNo img key) .readers ≡ fileOf img key .readers
     unfolding fileOf
-    added-readers = enlarged-readers (add-enlarged img key caller payload done)
+    added-readers = enlarged-readers (linked-add-enlarged img key caller payload done)
 
     -- the file is open with that mode
     pub add-close : close (addedImage img key caller payload) key (fileOf img key .writer) .code ≡ 0

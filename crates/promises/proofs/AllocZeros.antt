@@ -42,7 +42,7 @@ use Rattle.creation.proofs.AllocEffect.{alloc-allocatable, alloc-consistent, al
 use Rattle.transfer.specs.BlockRows.{openForInput}
 use Rattle.transfer.specs.Block.{blockAtPlace, blockIn}
 use Rattle.transfer.proofs.BlockStage.{open-reader}
-use Rattle.transfer.proofs.BlockInput.{block-in-given}
+use Rattle.transfer.proofs.BlockIn.{block-in-given}
 use Rattle.promises.specs.GivenWhen.{GivesCode}
 use Rattle.promises.specs.Codes.{CreatingCases}
 use Rattle.promises.specs.AllocZeros.{allocatedImage, readableImage, zeroBlock}

@@ -22,7 +22,7 @@ pub use Rattle.transfer.proofs.BlockAgain.{block-again}
 -- taking a block, for any use: every byte of it is 0 and every other byte is what it was; ALLOC takes its run so, linked add and lines each block
 pub use Rattle.room.proofs.Cleared.{taken-cleared}
 -- linked add: the highest free block, joined at the end, its payload behind the others
-pub use Rattle.adding.proofs.LinkedAddEffect.{add-highest, add-blocks, add-payloads}
+pub use Rattle.adding.proofs.LinkedAddEffect.{linked-add-highest, linked-add-blocks, linked-add-payloads}
 -- Finish, document 02 §12 (`finish-listed`, `finish-deletes`, `finish-again`: Main.antt). Exactly the scratch files are gone, every other entry has its
 -- words, and no entry has their names; their blocks are free and no other changes hands; every other file has its words and bytes: another's, kept,
 -- open, with bit 6 set, and these are all that is spared

@@ -22,7 +22,7 @@ use Rattle.asking.proofs.AskedCleared.{asked-cleared, file-used}
 use Rattle.opening.specs.declared.Opening.the-variants.{Input}
 use Rattle.opening.specs.Open.{opened}
 use Rattle.opening.specs.Close.{close}
-use Rattle.adding.proofs.LinkedAddStage.{add-clear}
+use Rattle.adding.proofs.LinkedAddStage.{linked-add-clear}
 use Rattle.stream.proofs.SpotAsked.{asked-linked}
 use Rattle.lines.specs.LineWrite.{putAll}
 use Rattle.lines.specs.LineWriting.{nulsFor, lineEnd}
@@ -49,7 +49,7 @@ record Added (img : List ℕ) (key : Key) (caller : ℕ) : Type 0 where
 clear-added : {key : Key} {caller : ℕ} {g : Geometry} {img gather bytes : List ℕ} {filled : ℕ} → Clear key caller g img gather filled bytes → Added img key caller
 unfolding fileOf
 clear-added {key} {caller} {g} {img} c =
-    let r = add-clear img key caller false _ (c .rows) .0 in
+    let r = linked-add-clear img key caller false _ (c .rows) .0 in
     let cleared = asked-cleared (r .file) in
     let writer : (fileOf img key .writer ≡ 2) ⊎ (fileOf img key .writer ≡ 3) =
     either (eqb (fileOf img key .writer) 2) (eqb (fileOf img key .writer) 3) (equal-numbers _ 2) (equal-numbers _ 3) .0 (not-false _ (r .access .opened)) in

@@ -17,7 +17,7 @@ use Rattle.owners.proofs.OwnerSearch.{measured-sized}
 use Rattle.bodies.specs.BufferSizes.{wrongPayload}
 use Rattle.bodies.proofs.BufferSizes.{payload-fits}
 use Rattle.adding.specs.LinkedAddRows.{linkedAddRows}
-use Rattle.adding.proofs.LinkedAddStage.{add-clear}
+use Rattle.adding.proofs.LinkedAddStage.{linked-add-clear}
 use Rattle.stream.specs.Gather.{gathered}
 use Rattle.stream.proofs.Gather.{gathered-count}
 use Rattle.lines.specs.declared.LineMode.{LineMode}
@@ -78,7 +78,7 @@ module _ (img : List ℕ) (key : Key) (caller : ℕ) (gather : List ℕ)
   -- the payloads have a size, and the buffer has it
   sizes : (length gather ≡ payloadBytes (geometryOf img)) × (0 < payloadBytes (geometryOf img))
   sizes =
-      let file = add-clear img key caller (wrongPayload img gather) 0 (rows-none 0 (omega arith)) .0 .file in
+      let file = linked-add-clear img key caller (wrongPayload img gather) 0 (rows-none 0 (omega arith)) .0 .file in
       (payload-fits img gather (geometryOf img) (file .argument) refl, omega (arith, measured-sized (file .right) (file .measures) .some))
 
   -- "room enough"
@@ -100,7 +100,7 @@ module _ (img : List ℕ) (key : Key) (caller : ℕ) (gather : List ℕ)
         let passed = rows-none needed enough in
         record {
           measures = refl;
-          rows = ap (λ (wrong : Bool). firstOf (linkedAddRows img key caller wrong needed)) (sym (add-clear img key caller _ _ passed .0 .file .argument)) ∙ passed;
+          rows = ap (λ (wrong : Bool). firstOf (linkedAddRows img key caller wrong needed)) (sym (linked-add-clear img key caller _ _ passed .0 .file .argument)) ∙ passed;
           whole = sizes .0;
           room = sizes .1;
         }

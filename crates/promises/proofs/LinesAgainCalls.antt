@@ -16,7 +16,7 @@ use Rattle.pack.specs.Geometry.{geometryOf, payloadBytes}
 use Rattle.asking.specs.Outcome.{Outcome}
 use Rattle.asking.proofs.Outcome.{settled-success}
 use Rattle.adding.specs.LinkedAddRows.{linkedAddRows}
-use Rattle.adding.proofs.LinkedAddStage.{add-clear}
+use Rattle.adding.proofs.LinkedAddStage.{linked-add-clear}
 use Rattle.stream.specs.AddedAll.{addedAll}
 use Rattle.stream.proofs.Gather.{gathered-filled}
 use Rattle.lines.specs.declared.LineMode.{LineMode}
@@ -42,7 +42,7 @@ module _ (img : List ℕ) (key : Key) (caller : ℕ) (wrong : Bool) (gather : Li
   bytes-clear success =
       let passed = sym (write-code img key caller wrong gather filled put numbers) ∙ success in
       let fits = write-fitting img key caller wrong gather filled put passed in
-      let argument = add-clear img key caller _ _ passed .0 .file .argument in (
+      let argument = linked-add-clear img key caller _ _ passed .0 .file .argument in (
         record {
           measures = refl;
           rows = ap (λ (w : Bool). firstOf (linkedAddRows img key caller w (length full))) (sym argument) ∙ passed;

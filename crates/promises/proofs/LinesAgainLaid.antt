@@ -14,7 +14,7 @@ use Rattle.pack.specs.Entry.{entryOf}
 use Rattle.asking.specs.Asked.{entryNo, fileOf}
 use Rattle.adding.specs.LinkedAddRows.{linkedAddRows}
 use Rattle.adding.specs.LinkedAdd.{linkedAdd}
-use Rattle.adding.proofs.LinkedAddStage.{add-clear, clear-add}
+use Rattle.adding.proofs.LinkedAddStage.{linked-add-clear, clear-add}
 use Rattle.adding.proofs.LinkedAddAgain.{again-clear}
 use Rattle.stream.specs.Gather.{Gathered, gatherAll, gathered}
 use Rattle.stream.specs.AddedAll.{addedAll, EachAdded}
@@ -82,7 +82,7 @@ module _ {key : Key} {caller : ℕ} {g : Geometry} {img gather : List ℕ} {fill
   module _ (s t : List ℕ) where
     pub clear-front : Clear key caller g img gather filled (s ++ t) → Clear key caller g img gather filled s
     clear-front c =
-        let r = add-clear img key caller false _ (c .rows) in
+        let r = linked-add-clear img key caller false _ (c .rows) in
         record {
           measures = c .measures;
           rows = clear-add img key caller false _ (r .0) (omega (arith, r .1, needed (payloadBytes g) gather filled s t));

@@ -7,12 +7,12 @@ use Rattle.words.specs.Word.{wordAt}
 use Rattle.opening.specs.declared.Opening.the-variants.{Input, Update, Extension}
 use Rattle.opening.proofs.OpenEffect.{open-changes}
 use Rattle.directory.proofs.DeletEffect.{delet-changes}
-use Rattle.adding.proofs.LinkedAddEffect.{add-changes}
+use Rattle.adding.proofs.LinkedAddEffect.{linked-add-changes}
 use Rattle.lines.proofs.LineReadingStage.{line-read-image}
 use Rattle.requests.specs.Request.{Request, outcome, FORMAT, ALLOC, OPENO, OPEN, CLOSE, DELET, RENAM, APPND, LOOK, KEEP, BLOCK-INPUT, BLOCK-OUTPUT, LINKED-READ, LINKED-ADD}
 use Rattle.requests.specs.Request.{LINE-READ, LINE-WRITE, LINE-END, FINISH, OWNER}
 use Rattle.requests.specs.Changes.{MayChange}
-use Rattle.requests.proofs.RequestAsking.{look-image, owner-image, block-input-image, linked-read-image}
+use Rattle.requests.proofs.RequestAsking.{look-image, owner-image, block-in-image, linked-read-image}
 use Rattle.frame.specs.Framed.{ChangesOnly}
 use Rattle.frame.proofs.ChangesWritten.{word-kept, changes-nothing}
 use Rattle.requests.proofs.ChangesEntries.{openo-changes, close-changes, keep-changes, renam-changes}
@@ -37,10 +37,10 @@ changes-only (RENAM old name1 name2 extension protect caller) img = renam-change
 changes-only (APPND first second caller) img = appnd-changes img first second caller
 changes-only (LOOK key) img = kept-changes (look-image img key)
 changes-only (KEEP key caller) img = keep-changes img key caller
-changes-only (BLOCK-INPUT key caller place buffer) img = kept-changes (block-input-image img key caller place buffer)
+changes-only (BLOCK-INPUT key caller place buffer) img = kept-changes (block-in-image img key caller place buffer)
 changes-only (BLOCK-OUTPUT key caller place buffer) img = block-output-changes img key caller place buffer
 changes-only (LINKED-READ key caller place buffer) img = kept-changes (linked-read-image img key caller place buffer)
-changes-only (LINKED-ADD key caller payload) img = add-changes img key caller payload
+changes-only (LINKED-ADD key caller payload) img = linked-add-changes img key caller payload
 changes-only (LINE-READ key caller mode position buffer) img = kept-changes (line-read-image img key caller mode position buffer)
 changes-only (LINE-WRITE key caller mode text gather filled) img = line-write-changes img key caller mode text gather filled
 changes-only (LINE-END key caller gather filled) img = line-end-changes img key caller gather filled

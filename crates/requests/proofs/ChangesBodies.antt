@@ -26,7 +26,7 @@ use Rattle.creation.proofs.FormatBytes.{formatted-length, formatted-bodies}
 use Rattle.creation.proofs.FormatRows.{test-formattable}
 use Rattle.transfer.specs.Block.{blockAtPlace, blockOut}
 use Rattle.transfer.specs.BlockRows.{blockOutRows}
-use Rattle.transfer.proofs.BlockWritten.{output-asked, output-fits}
+use Rattle.transfer.proofs.BlockWritten.{block-out-asked, block-out-fits}
 use Rattle.appending.specs.AppndRows.{appndRows}
 use Rattle.appending.specs.Appnd.{chainJoined, appnd}
 use Rattle.requests.specs.Request.{FORMAT, ALLOC, APPND, BLOCK-OUTPUT}
@@ -97,8 +97,8 @@ block-output-changes img key caller place buffer =
     changes-settled (blockOutRows img key caller place buffer) img buffer _
     (λ clear.
     let success = code-is (blockOutRows img key caller place buffer) img buffer _ ∙ clear in
-    let asked = output-asked img key caller place buffer success in
-    let fits = output-fits img key caller place buffer success in
+    let asked = block-out-asked img key caller place buffer success in
+    let fits = block-out-fits img key caller place buffer success in
     changes-part img buffer (blockStart (geometryOf img) (blockAtPlace (fileOf img key) place))
     (omega (arith, fits, room-of img (geometryOf img) (blockAtPlace (fileOf img key) place) (asked .sized) (asked .below) .inside))
     (λ w low high. (omega arith, omega (arith, fits))))

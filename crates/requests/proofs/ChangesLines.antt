@@ -15,7 +15,7 @@ use Rattle.pack.proofs.FileCount.{count-same, count-more}
 use Rattle.pack.proofs.HeaderRules.{header-sized}
 use Rattle.asking.specs.Asked.{entryNo, fileOf}
 use Rattle.adding.specs.LinkedAdd.{addedBlock, linkedAdd}
-use Rattle.adding.proofs.LinkedAddEffect.{add-refused, add-admitted, add-enlarged, add-changes}
+use Rattle.adding.proofs.LinkedAddEffect.{linked-add-refused, linked-add-admitted, linked-add-enlarged, linked-add-changes}
 use Rattle.adding.proofs.LinkedAddAgain.{again-measures, again-number}
 use Rattle.stream.specs.AddedAll.{addedAll, takenBlocks}
 use Rattle.lines.specs.LineReading.{modeOf}
@@ -64,12 +64,12 @@ module _ (key : Key) (caller : ℕ) (img payload : List ℕ) (more : List (List 
     unfolding fileOf
     ends =
         rw (again-measures img key caller payload success, again-number img key caller payload success)
-        (add-enlarged img key caller payload success .grown .final)
+        (linked-add-enlarged img key caller payload success .grown .final)
 
     link-taken : (w : ℕ) → IsLastLink image (fileOf image key) w → MayAdd img key caller (payload ∷ more) w
     link-taken w (some, link) =
         let at : w ≡ blockAt (geometryOf img) (addedBlock img) = link ∙ rw (again-measures img key caller payload success, ends) refl in
-        let sized = header-sized img (add-admitted img key caller payload success .file .right .header) in
+        let sized = header-sized img (linked-add-admitted img key caller payload success .file .right .header) in
         inr (inl (addedBlock img, (first-taken, (omega (arith, at), omega (arith, at, sized .some)))))
 
   -- accepted or refused
@@ -79,7 +79,7 @@ module _ (key : Key) (caller : ℕ) (img payload : List ℕ) (more : List (List 
       by : Dec (linkedAdd img key caller payload .code ≡ 0) → (w : ℕ) → MayAdd image key caller more w → MayAdd img key caller (payload ∷ more) w
       by (yes success) = wider-rest (again-measures img key caller payload success) (again-number img key caller payload success) (link-taken success)
       by (no refused) =
-          let same = add-refused img key caller payload refused .same-image in
+          let same = linked-add-refused img key caller payload refused .same-image in
           wider-rest (ap geometryOf same) (ap (λ (i : List ℕ). entryNo i key) same)
           (λ w link. inr (inr (subst (λ (i : List ℕ). IsLastLink i (fileOf i key) w) same link)))
 
@@ -88,7 +88,7 @@ pub added-all-changes : (key : Key) (caller : ℕ) (img : List ℕ) (payloads : 
 unfolding addedAll
 added-all-changes key caller img [] = changes-nothing
 added-all-changes key caller img (payload ∷ more) =
-    changes-then (changes-wider (wider-first key caller img payload more) (add-changes img key caller payload))
+    changes-then (changes-wider (wider-first key caller img payload more) (linked-add-changes img key caller payload))
     (changes-wider (wider key caller img payload more) (added-all-changes key caller (linkedAdd img key caller payload .image) more))
 
 bytes-changes : (img : List ℕ) (key : Key) (caller : ℕ) (wrong : Bool) (gather : List ℕ) (filled : ℕ) (bytes numbers : List ℕ)

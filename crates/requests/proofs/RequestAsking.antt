@@ -29,9 +29,9 @@ pub owner-image : (img : List ℕ) (block : ℕ) → owner img block .image ≡ 
 unfolding owner
 owner-image img block = asked-image (ownerRows img block) img [] _ []
 
-pub block-input-image : (img : List ℕ) (key : Key) (caller place : ℕ) (buffer : List ℕ) → blockIn img key caller place buffer .image ≡ img
+pub block-in-image : (img : List ℕ) (key : Key) (caller place : ℕ) (buffer : List ℕ) → blockIn img key caller place buffer .image ≡ img
 unfolding blockIn
-block-input-image img key caller place buffer = asked-image (blockInRows img key caller place buffer) img buffer [] _
+block-in-image img key caller place buffer = asked-image (blockInRows img key caller place buffer) img buffer [] _
 
 pub linked-read-image : (img : List ℕ) (key : Key) (caller place : ℕ) (buffer : List ℕ) → linkedRead img key caller place buffer .image ≡ img
 unfolding linkedRead

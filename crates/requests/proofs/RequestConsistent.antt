@@ -15,14 +15,14 @@ use Rattle.directory.proofs.RenamEffect.{renam-consistent}
 use Rattle.finishing.proofs.FinishEffect.{finish-consistent}
 use Rattle.transfer.proofs.BlockWritten.{block-out-consistent}
 use Rattle.appending.proofs.AppndEffect.{appnd-consistent}
-use Rattle.adding.proofs.LinkedAddEffect.{add-consistent}
+use Rattle.adding.proofs.LinkedAddEffect.{linked-add-consistent}
 use Rattle.lines.proofs.LineReadingStage.{line-read-image}
 use Rattle.lines.proofs.LineWritingEffect.{line-write-consistent}
 use Rattle.lines.proofs.LineWritingEnding.{line-end-consistent}
 use Rattle.requests.specs.Request.{Request, outcome, FORMAT, ALLOC, OPENO, OPEN, CLOSE, DELET, RENAM, APPND, LOOK, KEEP, BLOCK-INPUT, BLOCK-OUTPUT, LINKED-READ, LINKED-ADD}
 use Rattle.requests.specs.Request.{LINE-READ, LINE-WRITE, LINE-END, FINISH, OWNER}
 use Rattle.requests.proofs.RequestFormat.{format-by}
-use Rattle.requests.proofs.RequestAsking.{look-image, owner-image, block-input-image, linked-read-image}
+use Rattle.requests.proofs.RequestAsking.{look-image, owner-image, block-in-image, linked-read-image}
 
 -- the image is as it was
 kept-right : {img after : List ℕ} → after ≡ img → Consistent img → Consistent after
@@ -41,10 +41,10 @@ stays-consistent (RENAM old name1 name2 extension protect caller) {img} right =
 stays-consistent (APPND first second caller) {img} right = appnd-consistent img first second caller right
 stays-consistent (LOOK key) {img} right = kept-right (look-image img key) right
 stays-consistent (KEEP key caller) {img} right = keep-consistent img key caller right
-stays-consistent (BLOCK-INPUT key caller place buffer) {img} right = kept-right (block-input-image img key caller place buffer) right
+stays-consistent (BLOCK-INPUT key caller place buffer) {img} right = kept-right (block-in-image img key caller place buffer) right
 stays-consistent (BLOCK-OUTPUT key caller place buffer) {img} right = block-out-consistent img key caller place buffer right
 stays-consistent (LINKED-READ key caller place buffer) {img} right = kept-right (linked-read-image img key caller place buffer) right
-stays-consistent (LINKED-ADD key caller payload) {img} right = add-consistent img key caller payload right
+stays-consistent (LINKED-ADD key caller payload) {img} right = linked-add-consistent img key caller payload right
 stays-consistent (LINE-READ key caller mode position buffer) {img} right = kept-right (line-read-image img key caller mode position buffer) right
 stays-consistent (LINE-WRITE key caller mode text gather filled) {img} right = line-write-consistent img key caller mode text gather filled right
 stays-consistent (LINE-END key caller gather filled) {img} right = line-end-consistent img key caller gather filled right

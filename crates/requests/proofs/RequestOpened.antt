@@ -45,7 +45,7 @@ use Rattle.lines.specs.LineWriting.{lineWrite, lineEnd}
 use Rattle.lines.proofs.LineReadingStage.{line-read-image}
 use Rattle.requests.specs.Request.{Request, outcome, Names, NotFormat, FORMAT, ALLOC, OPENO, OPEN, CLOSE, DELET, RENAM, APPND, LOOK, KEEP, BLOCK-INPUT, BLOCK-OUTPUT, LINKED-READ, LINKED-ADD}
 use Rattle.requests.specs.Request.{LINE-READ, LINE-WRITE, LINE-END, FINISH, OWNER}
-use Rattle.requests.proofs.RequestAsking.{look-image, owner-image, block-input-image, linked-read-image}
+use Rattle.requests.proofs.RequestAsking.{look-image, owner-image, block-in-image, linked-read-image}
 use Rattle.requests.proofs.RequestConsistent.{stays-consistent}
 use Rattle.requests.proofs.RequestRefused.{refusal-leaves}
 use Rattle.requests.proofs.RequestUntouched.{who-is-not-named}
@@ -155,7 +155,7 @@ opened-stays (APPND first second caller) other img =
     neither (inr is) = omega (arith, above _ second is)
 opened-stays (LOOK key) other img = ap openedOf (look-image img key)
 opened-stays (KEEP key caller) other img = opened-kept (KEEP key caller) (elsewhere (key .uic)) (apart key) (keep-right img key caller)
-opened-stays (BLOCK-INPUT key caller place buffer) other img = ap openedOf (block-input-image img key caller place buffer)
+opened-stays (BLOCK-INPUT key caller place buffer) other img = ap openedOf (block-in-image img key caller place buffer)
 opened-stays (BLOCK-OUTPUT key caller place buffer) other img =
     opened-kept (BLOCK-OUTPUT key caller place buffer) (elsewhere (key .uic)) (apart key) (block-out-right img key caller place buffer)
 opened-stays (LINKED-READ key caller place buffer) other img = ap openedOf (linked-read-image img key caller place buffer)

@@ -23,11 +23,11 @@ use Rattle.directory.proofs.DeletEffect.{delet-refused}
 use Rattle.directory.proofs.KeepEffect.{keep-refused}
 use Rattle.directory.proofs.RenamEffect.{renam-refused}
 use Rattle.finishing.proofs.FinishEffect.{finish-refused}
-use Rattle.transfer.proofs.BlockInput.{block-in-refused}
-use Rattle.transfer.proofs.BlockOutput.{block-out-refused}
+use Rattle.transfer.proofs.BlockIn.{block-in-refused}
+use Rattle.transfer.proofs.BlockOut.{block-out-refused}
 use Rattle.transfer.proofs.LinkedReadStage.{linked-read-refused}
 use Rattle.appending.proofs.AppndEffect.{appnd-refused}
-use Rattle.adding.proofs.LinkedAddEffect.{add-refused}
+use Rattle.adding.proofs.LinkedAddEffect.{linked-add-refused}
 use Rattle.lines.proofs.LineReadingStage.{line-read-refused}
 use Rattle.lines.proofs.LineWritingEffect.{line-write-refused}
 use Rattle.lines.proofs.LineWritingEnding.{line-end-refused}
@@ -66,7 +66,7 @@ refusal-leaves (KEEP key caller) img = keep-refused img key caller
 refusal-leaves (BLOCK-INPUT key caller place buffer) img = block-in-refused img key caller place buffer
 refusal-leaves (BLOCK-OUTPUT key caller place buffer) img = block-out-refused img key caller place buffer
 refusal-leaves (LINKED-READ key caller place buffer) img = linked-read-refused img key caller place buffer
-refusal-leaves (LINKED-ADD key caller payload) img = add-refused img key caller payload
+refusal-leaves (LINKED-ADD key caller payload) img = linked-add-refused img key caller payload
 refusal-leaves (LINE-READ key caller mode position buffer) img = line-read-refused img key caller mode position buffer
 refusal-leaves (LINE-WRITE key caller mode text gather filled) img = line-write-refused img key caller mode text gather filled
 refusal-leaves (LINE-END key caller gather filled) img = line-end-refused img key caller gather filled

@@ -18,13 +18,13 @@ use Rattle.directory.proofs.RenamEffect.{renam-untouched}
 use Rattle.finishing.proofs.FinishEffect.{finish-untouched}
 use Rattle.transfer.proofs.BlockWritten.{block-out-untouched}
 use Rattle.appending.proofs.AppndEffect.{appnd-untouched}
-use Rattle.adding.proofs.LinkedAddEffect.{add-untouched}
+use Rattle.adding.proofs.LinkedAddEffect.{linked-add-untouched}
 use Rattle.lines.proofs.LineReadingStage.{line-read-image}
 use Rattle.lines.proofs.LineWritingEffect.{line-write-untouched}
 use Rattle.lines.proofs.LineWritingEnding.{line-end-untouched}
 use Rattle.requests.specs.Request.{Request, outcome, Names, FORMAT, ALLOC, OPENO, OPEN, CLOSE, DELET, RENAM, APPND, LOOK, KEEP, BLOCK-INPUT, BLOCK-OUTPUT, LINKED-READ, LINKED-ADD}
 use Rattle.requests.specs.Request.{LINE-READ, LINE-WRITE, LINE-END, FINISH, OWNER}
-use Rattle.requests.proofs.RequestAsking.{look-image, owner-image, block-input-image, linked-read-image}
+use Rattle.requests.proofs.RequestAsking.{look-image, owner-image, block-in-image, linked-read-image}
 
 -- the image is as it was
 kept-untouched : {img after : List ℕ} (who : Key) → after ≡ img → Untouched who img after
@@ -44,10 +44,10 @@ who-is-not-named (APPND first second caller) {img} right who apart =
     appnd-untouched img first second caller who (λ is. apart (inl is)) (λ is. apart (inr is))
 who-is-not-named (LOOK key) {img} right who apart = kept-untouched who (look-image img key)
 who-is-not-named (KEEP key caller) {img} right who apart = keep-untouched img key caller right who apart
-who-is-not-named (BLOCK-INPUT key caller place buffer) {img} right who apart = kept-untouched who (block-input-image img key caller place buffer)
+who-is-not-named (BLOCK-INPUT key caller place buffer) {img} right who apart = kept-untouched who (block-in-image img key caller place buffer)
 who-is-not-named (BLOCK-OUTPUT key caller place buffer) {img} right who apart = block-out-untouched img key caller place buffer who apart
 who-is-not-named (LINKED-READ key caller place buffer) {img} right who apart = kept-untouched who (linked-read-image img key caller place buffer)
-who-is-not-named (LINKED-ADD key caller payload) {img} right who apart = add-untouched img key caller payload who apart
+who-is-not-named (LINKED-ADD key caller payload) {img} right who apart = linked-add-untouched img key caller payload who apart
 who-is-not-named (LINE-READ key caller mode position buffer) {img} right who apart = kept-untouched who (line-read-image img key caller mode position buffer)
 who-is-not-named (LINE-WRITE key caller mode text gather filled) {img} right who apart = line-write-untouched img key caller mode text gather filled who apart
 who-is-not-named (LINE-END key caller gather filled) {img} right who apart = line-end-untouched img key caller gather filled who apart

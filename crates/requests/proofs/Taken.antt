@@ -16,8 +16,8 @@ use Rattle.pack.proofs.FileCount.{count-nil, count-same, count-other}
 use Rattle.owners.proofs.OneOwner.{owner-free}
 use Rattle.asking.specs.Asked.{entryNo}
 use Rattle.adding.specs.LinkedAdd.{addedBlock, linkedAdd}
-use Rattle.adding.proofs.LinkedAddEffect.{add-admitted, add-consistent, add-highest, add-free}
-use Rattle.adding.proofs.LinkedAddOwners.{add-owner}
+use Rattle.adding.proofs.LinkedAddEffect.{linked-add-admitted, linked-add-consistent, linked-add-highest, linked-add-free}
+use Rattle.adding.proofs.LinkedAddOwners.{linked-add-owner}
 use Rattle.adding.proofs.LinkedAddAgain.{again-measures}
 use Rattle.stream.specs.AddedAll.{addedAll, takenBlocks, EachAdded}
 use Rattle.stream.specs.AddedAll.EachAdded.{none, also}
@@ -45,11 +45,11 @@ module _ (key : Key) (caller : ℕ) where
     where
       by : Dec (b ≡ addedBlock img)
           → (0 < count b (takenBlocks (linkedAdd img key caller payload .image) key caller more) → FreeBlock (linkedAdd img key caller payload .image) b) → FreeBlock img b
-      by (yes is) later = subst (FreeBlock img) (sym is) (add-free img key caller payload success)
+      by (yes is) later = subst (FreeBlock img) (sym is) (linked-add-free img key caller payload success)
       by (no other) later =
-          let right = add-admitted img key caller payload success .file .right in
-          same-free (add-consistent img key caller payload right) right (sym (again-measures img key caller payload success)) b
-          (sym (add-owner img key caller payload b other))
+          let right = linked-add-admitted img key caller payload success .file .right in
+          same-free (linked-add-consistent img key caller payload right) right (sym (again-measures img key caller payload success)) b
+          (sym (linked-add-owner img key caller payload b other))
           (later (omega (arith, among, count-other b (addedBlock img) (takenBlocks (linkedAdd img key caller payload .image) key caller more) other)))
 
   pub taken-highest : (img : List ℕ) (payloads : List (List ℕ)) → EachAdded key caller img payloads
@@ -66,13 +66,13 @@ module _ (key : Key) (caller : ℕ) where
       by : Dec (b ≡ addedBlock img) → Dec (other ≡ addedBlock img) → Dec (addedBlock img < other)
           → (0 < count b later → FreeBlock (linkedAdd img key caller payload .image) other → count other later ≡ 0 → other < b) → other < b
       by first (yes is) above rest = absurd (omega (arith, never, count-same other (addedBlock img) later is))
-      by first (no apart) (yes above) rest = absurd (add-highest img key caller payload success .2 other above free)
+      by first (no apart) (yes above) rest = absurd (linked-add-highest img key caller payload success .2 other above free)
       by (yes is) (no apart) (no below) rest = omega (arith, is, below, apart)
       by (no differs) (no apart) (no below) rest =
-          let right = add-admitted img key caller payload success .file .right in
+          let right = linked-add-admitted img key caller payload success .file .right in
           rest (omega (arith, among, count-other b (addedBlock img) later differs))
-          (same-free right (add-consistent img key caller payload right) (again-measures img key caller payload success) other
-          (add-owner img key caller payload other apart) free)
+          (same-free right (linked-add-consistent img key caller payload right) (again-measures img key caller payload success) other
+          (linked-add-owner img key caller payload other apart) free)
           (omega (arith, never, count-other other (addedBlock img) later apart))
 
   pub added-taken : (img : List ℕ) (payloads : List (List ℕ)) → EachAdded key caller img payloads

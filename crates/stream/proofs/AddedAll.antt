@@ -20,8 +20,8 @@ use Rattle.frame.proofs.UntouchedFramed.{untouched-refl, untouched-compose}
 use Rattle.bodies.specs.Payloads.{payloadsOf}
 use Rattle.adding.specs.LinkedAddRows.{linkedAddRows}
 use Rattle.adding.specs.LinkedAdd.{addedBlock, linkedAdd}
-use Rattle.adding.proofs.LinkedAddEffect.{add-blocks, add-payloads, add-consistent, add-untouched}
-use Rattle.adding.proofs.LinkedAddOwners.{add-owner}
+use Rattle.adding.proofs.LinkedAddEffect.{linked-add-blocks, linked-add-payloads, linked-add-consistent, linked-add-untouched}
+use Rattle.adding.proofs.LinkedAddOwners.{linked-add-owner}
 use Rattle.adding.proofs.LinkedAddAgain.{again-accepted, again-measures, again-words, again-free, again-number, again-clear}
 use Rattle.stream.specs.Gather.{Whole}
 use Rattle.stream.specs.Gather.Whole.{none as no-payload, also as one-payload}
@@ -50,15 +50,15 @@ module _ (key : Key) (caller : ℕ) where
   pub added-consistent : (img : List ℕ) (payloads : List (List ℕ)) → Consistent img → Consistent (addedAll img key caller payloads)
   unfolding addedAll
   added-consistent img [] right = right
-  added-consistent img (payload ∷ more) right = added-consistent (linkedAdd img key caller payload .image) more (add-consistent img key caller payload right)
+  added-consistent img (payload ∷ more) right = added-consistent (linkedAdd img key caller payload .image) more (linked-add-consistent img key caller payload right)
 
   -- a file that the request does not name
   pub added-untouched : (img : List ℕ) (payloads : List (List ℕ)) → Consistent img → (other : Key) → (other ≡ key → ⊥) → Untouched other img (addedAll img key caller payloads)
   unfolding addedAll
   added-untouched img [] right other apart = untouched-refl other img
   added-untouched img (payload ∷ more) right other apart =
-      untouched-compose (add-untouched img key caller payload other apart)
-      (added-untouched (linkedAdd img key caller payload .image) more (add-consistent img key caller payload right) other apart) right
+      untouched-compose (linked-add-untouched img key caller payload other apart)
+      (added-untouched (linkedAdd img key caller payload .image) more (linked-add-consistent img key caller payload right) other apart) right
 
   -- a block that was not taken is whose it was
   pub added-owner : (img : List ℕ) (payloads : List (List ℕ)) (b : ℕ) → count b (takenBlocks img key caller payloads) ≡ 0
@@ -68,7 +68,7 @@ module _ (key : Key) (caller : ℕ) where
   added-owner img (payload ∷ more) b never =
       let rest = takenBlocks (linkedAdd img key caller payload .image) key caller more in
       added-owner (linkedAdd img key caller payload .image) more b (omega (arith, never, count-more b (addedBlock img) rest))
-      ∙ add-owner img key caller payload b (λ is. omega (arith, never, count-same b (addedBlock img) rest is))
+      ∙ linked-add-owner img key caller payload b (λ is. omega (arith, never, count-same b (addedBlock img) rest is))
 
   -- none is refused
   pub added-measures : (img : List ℕ) (payloads : List (List ℕ)) → EachAdded key caller img payloads → geometryOf (addedAll img key caller payloads) ≡ geometryOf img
@@ -108,7 +108,7 @@ module _ (key : Key) (caller : ℕ) where
     added-blocks img [] none measures number = sym (append-nil (blocksAt img g e))
     added-blocks img (payload ∷ more) (also success rest) measures number =
         let image = linkedAdd img key caller payload .image in
-        let one : blocksAt image g e ≡ blocksAt img g e ++ (addedBlock img ∷ []) = rw (← measures, ← number) (add-blocks img key caller payload success) in
+        let one : blocksAt image g e ≡ blocksAt img g e ++ (addedBlock img ∷ []) = rw (← measures, ← number) (linked-add-blocks img key caller payload success) in
         added-blocks image more rest (again-measures img key caller payload success ∙ measures) (again-number img key caller payload success ∙ number)
         ∙ ap (λ (s : List ℕ). s ++ takenBlocks image key caller more) one
         ∙ append-assoc (blocksAt img g e) (addedBlock img ∷ []) (takenBlocks image key caller more)
@@ -122,7 +122,7 @@ module _ (key : Key) (caller : ℕ) where
     added-payloads img (payload ∷ more) (also success rest) measures number =
         let image = linkedAdd img key caller payload .image in
         let one : payloadsOf image g (blocksAt image g e) ≡ payloadsOf img g (blocksAt img g e) ++ payload =
-        rw (← measures, ← number) (add-payloads img key caller payload success) in
+        rw (← measures, ← number) (linked-add-payloads img key caller payload success) in
         added-payloads image more rest (again-measures img key caller payload success ∙ measures) (again-number img key caller payload success ∙ number)
         ∙ ap (λ (s : List ℕ). s ++ flatten more) one
         ∙ append-assoc (payloadsOf img g (blocksAt img g e)) payload (flatten more)

@@ -16,7 +16,7 @@ use Rattle.asking.specs.Outcome.{Outcome, zeroed}
 use Rattle.asking.specs.AskedStage.{stageOf}
 use Rattle.asking.proofs.Outcome.{settled-refused, settled-success}
 use Rattle.asking.proofs.AskedStage.{Given, stage-is-refused, stage-is-file}
-use Rattle.adding.proofs.LinkedAddStage.{add-clear}
+use Rattle.adding.proofs.LinkedAddStage.{linked-add-clear}
 use Rattle.stream.specs.declared.Filling.{Filling}
 use Rattle.stream.specs.Gather.{gathered}
 use Rattle.stream.specs.Filling.{Writing, Writable, Written, written, Laying}
@@ -33,7 +33,7 @@ module _ (img : List ℕ) (key : Key) (caller : ℕ) (wrong : Bool) (gather : Li
   pub write-fitting : firstOf (writingRows img key caller wrong gather filled put) ≡ 0 → Fitting img wrong gather filled
   write-fitting passed =
       argument-fits img wrong gather filled
-      (add-clear img key caller (wrongGather img gather filled || wrong) (length (gatheredIn img gather filled put .full)) passed .0 .file .argument)
+      (linked-add-clear img key caller (wrongGather img gather filled || wrong) (length (gatheredIn img gather filled put .full)) passed .0 .file .argument)
 
   module _ (numbers : List ℕ) {asked : Asked} (is : asked ≡ stageOf (writingRows img key caller wrong gather filled put) img key) where
     abbrev outcome : Outcome

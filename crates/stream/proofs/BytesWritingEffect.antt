@@ -29,7 +29,7 @@ use Rattle.asking.proofs.AccessRows.{clear-accessed}
 use Rattle.frame.proofs.UntouchedFramed.{untouched-refl}
 use Rattle.bodies.specs.Payloads.{payloadsOf}
 use Rattle.adding.specs.LinkedAddRows.{openForAdding, linkedAddRows}
-use Rattle.adding.proofs.LinkedAddStage.{add-ordered, add-rows-last, add-clear}
+use Rattle.adding.proofs.LinkedAddStage.{linked-add-ordered, linked-add-rows-last, linked-add-clear}
 use Rattle.stream.specs.Gather.{lastOr}
 use Rattle.stream.specs.AddedAll.{addedAll, takenBlocks, EachAdded}
 use Rattle.stream.proofs.Gather.{Gathering, gathered-holds, gathered-bytes, gathered-count, gathered-filled}
@@ -53,7 +53,7 @@ module _ (img : List ℕ) (key : Key) (caller : ℕ) (wrong : Bool) (gather : Li
   write-code = code-is rows img gather _
 
   pub write-ordered : inOrder tableOrder 0 rows ≡ true
-  write-ordered = add-ordered img key caller (wrongGather img gather filled || wrong) (length full)
+  write-ordered = linked-add-ordered img key caller (wrongGather img gather filled || wrong) (length full)
 
   -- "A refusal returns its code, any other number in the answer 0 .., and nothing in the image or a lent buffer changes."
   pub write-refused : (outcome .code ≡ 0 → ⊥) → Unchanged outcome (zeroed numbers) img gather
@@ -67,7 +67,7 @@ module _ (img : List ℕ) (key : Key) (caller : ℕ) (wrong : Bool) (gather : Li
     last-row =
         let staged = stage-clear img key (wrongGather img gather filled || wrong) (λ x. accessRows x caller Write 1 (not (openForAdding x))) clear in
         write-code
-        ∙ add-rows-last img key caller (wrongGather img gather filled || wrong) (length full)
+        ∙ linked-add-rows-last img key caller (wrongGather img gather filled || wrong) (length full)
         (record {
           file = staged .file;
           entry = refl;
@@ -104,7 +104,7 @@ module _ (img : List ℕ) (key : Key) (caller : ℕ) (wrong : Bool) (gather : Li
 
     each-added : EachAdded key caller img full
     each-added =
-        let argument = add-clear img key caller (wrongGather img gather filled || wrong) (length full) passed .0 .file .argument in
+        let argument = linked-add-clear img key caller (wrongGather img gather filled || wrong) (length full) passed .0 .file .argument in
         added-accepted key caller img full (ap (λ (w : Bool). firstOf (linkedAddRows img key caller w (length full))) (sym argument) ∙ passed) (held .whole)
 
   -- the request, on success
@@ -164,7 +164,7 @@ module _ (img : List ℕ) (key : Key) (caller : ℕ) (wrong : Bool) (gather : Li
   write-untouched other apart =
       always (Untouched other img) (untouched-refl other img)
       (λ clear.
-      added-untouched key caller img full (add-clear img key caller (wrongGather img gather filled || wrong) (length full) clear .0 .file .right) other apart)
+      added-untouched key caller img full (linked-add-clear img key caller (wrongGather img gather filled || wrong) (length full) clear .0 .file .right) other apart)
 
   -- a block that was not taken is whose it was
   pub write-owner : (b : ℕ) → count b (takenBlocks img key caller full) ≡ 0 → ownerOf (outcome .image) b ≡ ownerOf img b

@@ -21,8 +21,8 @@ use Rattle.room.proofs.RoomMapRun.{none-above}
 use Rattle.adding.specs.LinkedAddRows.{linkedAddRows}
 use Rattle.adding.specs.LinkedAdd.{addedBlock, added, linkedAdd}
 use Rattle.adding.specs.LinkedAddStage.{Ready}
-use Rattle.adding.proofs.LinkedAddStage.{Admitted, admitted, add-clear}
-use Rattle.adding.proofs.LinkedAddEffect.{add-image}
+use Rattle.adding.proofs.LinkedAddStage.{Admitted, admitted, linked-add-clear}
+use Rattle.adding.proofs.LinkedAddEffect.{linked-add-image}
 use Rattle.adding.proofs.LinkedAddAgain.{again-accepted, again-measures, again-number, again-clear}
 use Rattle.stream.specs.declared.Filling.{Filling}
 use Rattle.stream.specs.Gather.{Gathered, gatherAll, gathered}
@@ -37,7 +37,7 @@ pub writing-start : {img map gather : List ℕ} {key : Key} {caller : ℕ} {g : 
     → filled < payloadBytes g → length gather ≡ payloadBytes g → MappedIf map img
     → Writing key caller img map g e gather (record { filled = filled; from = record { 0 = g .blocks } }) bytes
 writing-start {img} {map} {gather} {key} {caller} {g} wrong needed filled bytes given counted room whole mapped =
-    let r = add-clear img key caller wrong needed (given .clear) .0 in
+    let r = linked-add-clear img key caller wrong needed (given .clear) .0 in
     let held-on : Mapped map img = mapped (consistent-iff img .1 (r .file .right)) in
     record {
       clear =
@@ -112,7 +112,7 @@ module _ {key : Key} {caller : ℕ} {img map : List ℕ} {g : Geometry} {e : ℕ
         (long-laid ∙ ap payloadBytes (sym (writing .measures)))
 
     image-now : added img g e (entryOf img g e) (addedBlock img) (set gather (at .filled) byte) ≡ linkedAdd img key caller (set gather (at .filled) byte) .image
-    image-now = rw (← writing .measures, ← writing .number) (sym (add-image img key caller (set gather (at .filled) byte) success))
+    image-now = rw (← writing .measures, ← writing .number) (sym (linked-add-image img key caller (set gather (at .filled) byte) success))
 
   pub writing-layable : Layable img map g e gather at byte
   writing-layable = record { room = omega (arith, writing .room, writing .whole); ready = λ is. (ready-now is, writing .above) }

@@ -28,8 +28,8 @@ use Rattle.bodies.proofs.BlockBytes.{room-of, part-again}
 use Rattle.transfer.specs.BlockRows.{openForInput}
 use Rattle.transfer.specs.Block.{blockAtPlace, blockIn, blockOut}
 use Rattle.transfer.proofs.BlockStage.{BlockAsked}
-use Rattle.transfer.proofs.BlockInput.{block-in-given}
-use Rattle.transfer.proofs.BlockWritten.{blockWritten, written-consistent, written-measures, entry-written, output-access, output-inside, output-asked, output-fits, output-image}
+use Rattle.transfer.proofs.BlockIn.{block-in-given}
+use Rattle.transfer.proofs.BlockWritten.{blockWritten, written-consistent, written-measures, entry-written, block-out-access, block-out-within, block-out-asked, block-out-fits, block-out-image}
 
 -- a file whose writer is 1 is open for input too
 writer-serves : (x : Entry) → eqb (x .writer) 1 ≡ true → not (openForInput x) ≡ false
@@ -87,8 +87,8 @@ pub block-again : (img : List ℕ) (key : Key) (caller reader place : ℕ) (buff
     → blockIn (blockOut img key caller place buffer .image) key reader place lent
     ≡ record { code = 0; numbers = []; image = blockOut img key caller place buffer .image; buffer = buffer }
 block-again img key caller reader place buffer lent success size right =
-    let access = output-access img key caller place buffer success in
-    rw (output-image img key caller place buffer success)
-    (input-again (output-asked img key caller place buffer success) buffer (output-fits img key caller place buffer success) reader lent size
+    let access = block-out-access img key caller place buffer success in
+    rw (block-out-image img key caller place buffer success)
+    (input-again (block-out-asked img key caller place buffer success) buffer (block-out-fits img key caller place buffer success) reader lent size
     (record { right-given = right; kind = access .kind; opened = writer-serves (fileOf img key) (not-false _ (access .opened)) })
-    (output-inside img key caller place buffer success))
+    (block-out-within img key caller place buffer success))

@@ -45,7 +45,7 @@ use Rattle.bodies.proofs.BufferSizes.{block-fits}
 use Rattle.transfer.specs.BlockRows.{blockOutRows}
 use Rattle.transfer.specs.Block.{blockAtPlace, blockOut}
 use Rattle.transfer.proofs.BlockStage.{BlockAsked, block-asked, within-place}
-use Rattle.transfer.proofs.BlockOutput.{block-out-refused}
+use Rattle.transfer.proofs.BlockOut.{block-out-refused}
 
 -- the image with a block of a contiguous file written
 abbrev pub blockWritten : List ℕ → Geometry → Entry → ℕ → List ℕ → List ℕ
@@ -150,48 +150,48 @@ module _ (img : List ℕ) (key : Key) (caller place : ℕ) (buffer : List ℕ) w
     unfolding blockOutRows
     output-clear = reached-clear img key (wrongBlock img buffer) caller Write 2 (λ x. not (eqb (x .writer) 1)) _ no-row
 
-    pub output-access : Accessed (fileOf img key) caller Write 2 (not (eqb (fileOf img key .writer) 1))
-    output-access = output-clear .0 .access
+    pub block-out-access : Accessed (fileOf img key) caller Write 2 (not (eqb (fileOf img key .writer) 1))
+    block-out-access = output-clear .0 .access
 
-    pub output-inside : place < fileOf img key .length
-    output-inside = within-place (fileOf img key .length) place (output-clear .1)
+    pub block-out-within : place < fileOf img key .length
+    block-out-within = within-place (fileOf img key .length) place (output-clear .1)
 
-    pub output-asked : BlockAsked img key (wrongBlock img buffer) (geometryOf img) (entryNo img key) (fileOf img key) place
-    output-asked = block-asked (output-clear .0) output-inside
+    pub block-out-asked : BlockAsked img key (wrongBlock img buffer) (geometryOf img) (entryNo img key) (fileOf img key) place
+    block-out-asked = block-asked (output-clear .0) block-out-within
 
-    pub output-fits : length buffer ≡ blockBytes (geometryOf img)
-    output-fits = block-fits img buffer (geometryOf img) (output-asked .file .argument) refl
+    pub block-out-fits : length buffer ≡ blockBytes (geometryOf img)
+    block-out-fits = block-fits img buffer (geometryOf img) (block-out-asked .file .argument) refl
 
-    pub output-image : blockOut img key caller place buffer .image ≡ blockWritten img (geometryOf img) (fileOf img key) place buffer
+    pub block-out-image : blockOut img key caller place buffer .image ≡ blockWritten img (geometryOf img) (fileOf img key) place buffer
     unfolding blockOut
-    output-image = ap (λ (r : Outcome). r .image) (settled-success (blockOutRows img key caller place buffer) img buffer _ no-row)
+    block-out-image = ap (λ (r : Outcome). r .image) (settled-success (blockOutRows img key caller place buffer) img buffer _ no-row)
 
     -- "and changes the 512 bytes of the image, starting at that block": these are the buffer's
     pub block-out-inside : (k : ℕ) → k < blockBytes (geometryOf img)
         → getD (blockOut img key caller place buffer .image) (blockStart (geometryOf img) (blockAtPlace (fileOf img key) place) + k) 0 ≡ getD buffer k 0
-    block-out-inside k inside = rw output-image (written-inside output-asked buffer output-fits k inside)
+    block-out-inside k inside = rw block-out-image (written-inside block-out-asked buffer block-out-fits k inside)
 
   by-code : (P : List ℕ → Type 0) → P img → (blockOut img key caller place buffer .code ≡ 0 → P (blockWritten img (geometryOf img) (fileOf img key) place buffer))
       → P (blockOut img key caller place buffer .image)
   by-code P before after = by (ℕ-discrete (blockOut img key caller place buffer .code) 0)
     where
       by : Dec (blockOut img key caller place buffer .code ≡ 0) → P (blockOut img key caller place buffer .image)
-      by (yes success) = subst P (sym (output-image success)) (after success)
+      by (yes success) = subst P (sym (block-out-image success)) (after success)
       by (no refused) = subst P (sym (block-out-refused img key caller place buffer refused .same-image)) before
 
   pub block-out-consistent : Consistent img → Consistent (blockOut img key caller place buffer .image)
-  block-out-consistent consistent = by-code Consistent consistent (λ success. written-consistent (output-asked success) buffer (output-fits success))
+  block-out-consistent consistent = by-code Consistent consistent (λ success. written-consistent (block-out-asked success) buffer (block-out-fits success))
 
   pub block-out-untouched : (other : Key) → (other ≡ key → ⊥) → Untouched other img (blockOut img key caller place buffer .image)
-  block-out-untouched other apart = by-code (Untouched other img) (untouched-refl other img) (λ success. written-untouched (output-asked success) buffer (output-fits success) other apart)
+  block-out-untouched other apart = by-code (Untouched other img) (untouched-refl other img) (λ success. written-untouched (block-out-asked success) buffer (block-out-fits success) other apart)
 
   pub block-out-owner : (b : ℕ) → ownerOf (blockOut img key caller place buffer .image) b ≡ ownerOf img b
-  block-out-owner b = by-code (λ (after : List ℕ). ownerOf after b ≡ ownerOf img b) refl (λ success. written-owner (output-asked success) buffer (output-fits success) b)
+  block-out-owner b = by-code (λ (after : List ℕ). ownerOf after b ≡ ownerOf img b) refl (λ success. written-owner (block-out-asked success) buffer (block-out-fits success) b)
 
   pub block-out-held : Consistent img → (b : ℕ) → held (blockOut img key caller place buffer .image) b ≡ held img b
-  block-out-held consistent b = by-code (λ (after : List ℕ). held after b ≡ held img b) refl (λ success. written-held (output-asked success) buffer (output-fits success) b)
+  block-out-held consistent b = by-code (λ (after : List ℕ). held after b ≡ held img b) refl (λ success. written-held (block-out-asked success) buffer (block-out-fits success) b)
 
   -- no other byte changes
   pub block-out-outside : (k : ℕ) → Outside (blockStart (geometryOf img) (blockAtPlace (fileOf img key) place)) (blockBytes (geometryOf img)) k
       → getD (blockOut img key caller place buffer .image) k 0 ≡ getD img k 0
-  block-out-outside k outside = by-code (λ (after : List ℕ). getD after k 0 ≡ getD img k 0) refl (λ success. written-outside (output-asked success) buffer (output-fits success) k outside)
+  block-out-outside k outside = by-code (λ (after : List ℕ). getD after k 0 ≡ getD img k 0) refl (λ success. written-outside (block-out-asked success) buffer (block-out-fits success) k outside)

@@ -1,7 +1,7 @@
 -- The laws of BLOCK input and output and of linked read.
 pub mod BlockStage
-pub mod BlockInput
-pub mod BlockOutput
+pub mod BlockIn
+pub mod BlockOut
 pub mod BlockWritten
 pub mod BlockAgain
 pub mod LinkedReadStage

@@ -59,42 +59,42 @@ module _ (img : List ℕ) (key : Key) (caller place : ℕ) (buffer : List ℕ) (
   at-stated : accessedOf img key (wrongPayload img buffer) caller Read 1 (λ x. eqb (x .readers) 0) ≡ asked
   at-stated = stage-sized img key caller Read 1 (λ x. eqb (x .readers) 0) buffer stated asked is
 
-  pub read-refused : (code : ℕ) → asked ≡ Refused code
+  pub linked-read-denied : (code : ℕ) → asked ≡ Refused code
       → (code ≡ linkedRead img key caller place buffer .code) × (buffer ≡ linkedRead img key caller place buffer .buffer)
   unfolding linkedRead linkedReadRows
-  read-refused code told =
+  linked-read-denied code told =
       let o = outcome-unreached img key (wrongPayload img buffer) caller Read 1 (λ x. eqb (x .readers) 0) _ buffer _ (at-stated ∙ told) in
       (sym (ap (λ (r : Outcome). r .code) o), sym (ap (λ (r : Outcome). r .buffer) o))
 
   module _ (g : Geometry) (e : ℕ) (x : Entry) (told : asked ≡ File g e x) where
-    pub read-file : Readable img key (wrongPayload img buffer) caller g e x
-    read-file = readable img key (wrongPayload img buffer) caller g e x (at-stated ∙ told)
+    pub linked-read-file : Readable img key (wrongPayload img buffer) caller g e x
+    linked-read-file = readable img key (wrongPayload img buffer) caller g e x (at-stated ∙ told)
 
     fits : length buffer ≡ payloadBytes g
-    fits = payload-fits img buffer g (read-file .reached .file .argument) (read-file .reached .file .measures)
+    fits = payload-fits img buffer g (linked-read-file .reached .file .argument) (linked-read-file .reached .file .measures)
 
-    pub read-beyond : x .length ≤ place → (0o44 ≡ linkedRead img key caller place buffer .code) × (buffer ≡ linkedRead img key caller place buffer .buffer)
+    pub linked-read-beyond : x .length ≤ place → (0o44 ≡ linkedRead img key caller place buffer .code) × (buffer ≡ linkedRead img key caller place buffer .buffer)
     unfolding linkedRead linkedReadRows
-    read-beyond over =
-        let reached = read-file .reached in
+    linked-read-beyond over =
+        let reached = linked-read-file .reached in
         let o =
         outcome-stopped img key (wrongPayload img buffer) caller Read 1 (λ y. eqb (y .readers) 0) _ buffer _ reached
         (place-beyond (reached .entry) over) (λ zero. omega (arith, zero)) in
         (sym (ap (λ (r : Outcome). r .code) o), sym (ap (λ (r : Outcome). r .buffer) o))
 
     -- what `block_at` and `read_part` ask, and what is answered when they have read
-    pub read-walk : place < x .length → Sized img g × (((z : ℕ) → 0 < count z (blocksOf img g x) → z < g .blocks) × (place < x .length))
-    read-walk inside = (read-file .sized, (read-file .blocks, inside))
+    pub linked-read-walk : place < x .length → Sized img g × (((z : ℕ) → 0 < count z (blocksOf img g x) → z < g .blocks) × (place < x .length))
+    linked-read-walk inside = (linked-read-file .sized, (linked-read-file .blocks, inside))
 
-    pub read-ready : place < x .length → (b : ℕ) → b ≡ getD (blocksOf img g x) place 0 → Sized img g × ((b < g .blocks) × (2 + length buffer ≤ blockBytes g))
-    read-ready inside b at = (read-file .sized, (read-file .below place b at inside, omega (arith, fits, read-file .sized .some)))
+    pub linked-read-ready : place < x .length → (b : ℕ) → b ≡ getD (blocksOf img g x) place 0 → Sized img g × ((b < g .blocks) × (2 + length buffer ≤ blockBytes g))
+    linked-read-ready inside b at = (linked-read-file .sized, (linked-read-file .below place b at inside, omega (arith, fits, linked-read-file .sized .some)))
 
-    pub read-done : place < x .length → (b : ℕ) → b ≡ getD (blocksOf img g x) place 0
+    pub linked-read-done : place < x .length → (b : ℕ) → b ≡ getD (blocksOf img g x) place 0
         → (after : List ℕ) → after ≡ partOf img (blockStart g b + 2) (length buffer)
         → (0 ≡ linkedRead img key caller place buffer .code) × (after ≡ linkedRead img key caller place buffer .buffer)
     unfolding linkedRead linkedReadRows
-    read-done inside b at after filled =
-        let reached = read-file .reached in
+    linked-read-done inside b at after filled =
+        let reached = linked-read-file .reached in
         let o =
         outcome-passed img key (wrongPayload img buffer) caller Read 1 (λ y. eqb (y .readers) 0) _ buffer _ reached
         (place-within (reached .entry) inside) in (

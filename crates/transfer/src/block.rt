@@ -26,7 +26,7 @@ fn is_open_for_input(x: Entry) -> bool
 }
 
 // The file of a BLOCK input, judged up to how it is open. `wrong` says that an argument of the request is wrong.
-pub fn ask_input(img: &[u8], opened: Opened, key: Key, caller: usize, wrong: bool) -> Asked
+pub fn ask_block_in(img: &[u8], opened: Opened, key: Key, caller: usize, wrong: bool) -> Asked
     requires { ⌜ opened ≡ openedOf (now img) ⌝ }
     ensures { λ r. ⌜ r ≡ accessedOf (now (img .entry)) key wrong caller Read 2 (λ x. not (openForInput x)) ⌝ }
 {
@@ -42,7 +42,7 @@ pub fn ask_input(img: &[u8], opened: Opened, key: Key, caller: usize, wrong: boo
 }
 
 // The same of a BLOCK output.
-pub fn ask_output(img: &[u8], opened: Opened, key: Key, caller: usize, wrong: bool) -> Asked
+pub fn ask_block_out(img: &[u8], opened: Opened, key: Key, caller: usize, wrong: bool) -> Asked
     requires { ⌜ opened ≡ openedOf (now img) ⌝ }
     ensures { λ r. ⌜ r ≡ accessedOf (now (img .entry)) key wrong caller Write 2 (λ x. not (eqb (x .writer) 1)) ⌝ }
 {
@@ -78,7 +78,7 @@ pub fn block_in_opened(
     ensures { λ r. ⌜ now (buffer .exit) ≡ blockIn (now (img .entry)) key caller (place .0) (now (buffer .entry)) .buffer ⌝ }
 {
     let wrong = buffer.len() != bodies::block_bytes_of(img);
-    match ask_input(img, opened, key, caller, wrong) {
+    match ask_block_in(img, opened, key, caller, wrong) {
         Asked::Refused(code) => {
             return code;
         }
@@ -115,7 +115,7 @@ pub fn block_out_opened(
     ensures { λ r. ⌜ now (img .exit) ≡ blockOut (now (img .entry)) key caller (place .0) (now (buffer .entry)) .image ⌝ }
 {
     let wrong = buffer.len() != bodies::block_bytes_of(img);
-    match ask_output(img, opened, key, caller, wrong) {
+    match ask_block_out(img, opened, key, caller, wrong) {
         Asked::Refused(code) => {
             return code;
         }

@@ -1,7 +1,7 @@
 -- Rests on `LinkedAddAnswers`: a block that the stage gives can be added to its file; and on `mapped-enlarged`.
 use borrow.Author.Needs.{needs}
 use Rattle.adding.proofs.LinkedAddMap.{mapped-enlarged}
-use Rattle.adding.proofs.LinkedAddAnswers.{add-denied, block-is, add-ready, add-done}
+use Rattle.adding.proofs.LinkedAddAnswers.{linked-add-denied, block-is, linked-add-ready, linked-add-done}
 use Rattle.adding.proofs.linked_add.linked_add_opened.Statement.{statement}
 use Rattle.adding.proofs.linked_add.linked_add_opened.Tie as tie
 
@@ -24,7 +24,7 @@ take-and-add-requires c κs =
     let size = c .before .before .before .before .before .before .before .before .payload-bytes-of .ensures in
     let asked = c .before .before .before .before .before .ask-block .ensures in
     let told = c .before .before .before .g .given .1 in
-    (add-ready _ _ _ payload _ size _ asked _ _ _ told _ (s .pre .1), block-is _ _ _ payload _ size _ asked _ _ _ told)
+    (linked-add-ready _ _ _ payload _ size _ asked _ _ _ told _ (s .pre .1), block-is _ _ _ payload _ size _ asked _ _ _ told)
 
 same-length : tie.Need-same-length
 same-length c = search needs
@@ -34,7 +34,7 @@ same-length-2 c = search needs
 
 returns : tie.Need-returns
 returns c =
-    let denied = add-denied _ _ _ _ _ (c .before .before .before .before .before .before .payload-bytes-of .ensures) _ (c .before .before .before .ask-block .ensures) _ (c .before .code .given .1) in
+    let denied = linked-add-denied _ _ _ _ _ (c .before .before .before .before .before .before .payload-bytes-of .ensures) _ (c .before .before .before .ask-block .ensures) _ (c .before .code .given .1) in
     (denied .0, (denied .1 .0, (denied .1 .1, c .before .before .before .before .before .before .before .before .before .before .before .pre .1)))
 
 same-length-3 : tie.Need-same-length-3
@@ -51,8 +51,8 @@ returns-2 c =
     let asked = c .before .before .before .before .before .before .before .before .before .before .ask-block .ensures in
     let told = c .before .before .before .before .before .before .before .before .g .given .1 in
     let joined = c .before .before .before .before .take-and-add in
-    let ready = add-ready _ _ _ payload _ size _ asked _ _ _ told _ (s .pre .1) in
-    let done = add-done _ _ _ payload _ size _ asked _ _ _ told _ (joined .ensures .0) in
+    let ready = linked-add-ready _ _ _ payload _ size _ asked _ _ _ told _ (s .pre .1) in
+    let done = linked-add-done _ _ _ payload _ size _ asked _ _ _ told _ (joined .ensures .0) in
     (done .0, (done .1 .0, (done .1 .1, λ right. mapped-enlarged ready (joined .ensures .0) (joined .kept .1 .0) (joined .ensures .1))))
 
 pub linked-add-opened-spec : {M : Type 1} → statement M

@@ -2,7 +2,7 @@
 use borrow.Author.Needs.{needs}
 use Rattle.transfer.proofs.linked_read.linked_read_opened.Statement.{statement}
 use Rattle.transfer.proofs.linked_read.linked_read_opened.Tie as tie
-use Rattle.transfer.proofs.LinkedReadStage.{read-refused, read-beyond, read-done, read-walk, read-ready}
+use Rattle.transfer.proofs.LinkedReadStage.{linked-read-denied, linked-read-beyond, linked-read-done, linked-read-walk, linked-read-ready}
 
 payload-bytes-of-requires : tie.Need-payload-bytes-of-requires
 payload-bytes-of-requires c κs = search needs
@@ -17,7 +17,7 @@ returns : tie.Need-returns
 returns c =
     let payload-bytes-of = c .before .before .before .before .payload-bytes-of in
     let ask-linked-read = c .before .before .before .ask-linked-read in
-    read-refused _ _ _ _ _ _ (payload-bytes-of .ensures) _ (ask-linked-read .ensures) _ (c .before .code .given .1)
+    linked-read-denied _ _ _ _ _ _ (payload-bytes-of .ensures) _ (ask-linked-read .ensures) _ (c .before .code .given .1)
 
 enum-known-g : tie.Need-enum-known-g
 enum-known-g c = search needs
@@ -27,7 +27,7 @@ returns-2 c =
     let payload-bytes-of = c .before .before .before .before .before .before .before .payload-bytes-of in
     let ask-linked-read = c .before .before .before .before .before .before .ask-linked-read in
     let g = c .before .before .before .before .g in
-    read-beyond _ _ _ _ _ _ (payload-bytes-of .ensures) _ (ask-linked-read .ensures) _ _ _ (g .given .1) (c .if1 .taken)
+    linked-read-beyond _ _ _ _ _ _ (payload-bytes-of .ensures) _ (ask-linked-read .ensures) _ _ _ (g .given .1) (c .if1 .taken)
 
 block-at-requires : tie.Need-block-at-requires
 block-at-requires c κs =
@@ -35,7 +35,7 @@ block-at-requires c κs =
     let payload-bytes-of = c .before .before .before .before .before .before .before .payload-bytes-of in
     let ask-linked-read = c .before .before .before .before .before .before .ask-linked-read in
     let g = c .before .before .before .before .g in
-    read-walk _ _ _ _ (s .args .buffer .now) _ (payload-bytes-of .ensures) _ (ask-linked-read .ensures) _ _ _ (g .given .1) (c .if1 .left)
+    linked-read-walk _ _ _ _ (s .args .buffer .now) _ (payload-bytes-of .ensures) _ (ask-linked-read .ensures) _ _ _ (g .given .1) (c .if1 .left)
 
 read-part-requires : tie.Need-read-part-requires
 read-part-requires c κs =
@@ -44,7 +44,7 @@ read-part-requires c κs =
     let ask-linked-read = c .before .before .before .before .before .before .before .before .ask-linked-read in
     let g = c .before .before .before .before .before .before .g in
     let if1 = c .before .before .if1 in
-    read-ready _ _ _ _ (s .args .buffer .now) _ (payload-bytes-of .ensures) _ (ask-linked-read .ensures) _ _ _ (g .given .1) (if1 .left) _
+    linked-read-ready _ _ _ _ (s .args .buffer .now) _ (payload-bytes-of .ensures) _ (ask-linked-read .ensures) _ _ _ (g .given .1) (if1 .left) _
     (c .before .block-at .ensures)
 
 same-length : tie.Need-same-length
@@ -58,7 +58,7 @@ returns-3 c =
     let if1 = c .before .before .before .before .before .if1 in
     let block-at = c .before .before .before .before .block-at in
     let read-part = c .before .before .read-part in
-    read-done _ _ _ _ _ _ (payload-bytes-of .ensures) _ (ask-linked-read .ensures) _ _ _ (g .given .1) (if1 .left) _ (block-at .ensures) _
+    linked-read-done _ _ _ _ _ _ (payload-bytes-of .ensures) _ (ask-linked-read .ensures) _ _ _ (g .given .1) (if1 .left) _ (block-at .ensures) _
     (read-part .ensures)
 
 pub linked-read-opened-spec : {M : Type 1} → statement M

@@ -40,10 +40,10 @@ module _ (img : List ℕ) (key : Key) (caller place : ℕ) (buffer : List ℕ) (
   at-stated : accessedOf img key (wrongBlock img buffer) caller Write 2 (λ x. not (eqb (x .writer) 1)) ≡ asked
   at-stated = stage-sized img key caller Write 2 (λ x. not (eqb (x .writer) 1)) buffer stated asked is
 
-  pub output-refused : (code : ℕ) → asked ≡ Refused code
+  pub block-out-denied : (code : ℕ) → asked ≡ Refused code
       → (code ≡ blockOut img key caller place buffer .code) × (img ≡ blockOut img key caller place buffer .image)
   unfolding blockOut blockOutRows
-  output-refused code told =
+  block-out-denied code told =
       let o = outcome-unreached img key (wrongBlock img buffer) caller Write 2 (λ x. not (eqb (x .writer) 1)) _ buffer _ (at-stated ∙ told) in
       (sym (ap (λ (r : Outcome). r .code) o), sym (ap (λ (r : Outcome). r .image) o))
 
@@ -51,26 +51,26 @@ module _ (img : List ℕ) (key : Key) (caller place : ℕ) (buffer : List ℕ) (
     reached : Reached img key (wrongBlock img buffer) caller Write 2 (λ y. not (eqb (y .writer) 1)) g e x
     reached = reached-file img key (wrongBlock img buffer) caller Write 2 (λ y. not (eqb (y .writer) 1)) g e x (at-stated ∙ told)
 
-    pub output-beyond : x .length ≤ place → (0o44 ≡ blockOut img key caller place buffer .code) × (img ≡ blockOut img key caller place buffer .image)
+    pub block-out-beyond : x .length ≤ place → (0o44 ≡ blockOut img key caller place buffer .code) × (img ≡ blockOut img key caller place buffer .image)
     unfolding blockOut blockOutRows
-    output-beyond over =
+    block-out-beyond over =
         let o =
         outcome-stopped img key (wrongBlock img buffer) caller Write 2 (λ y. not (eqb (y .writer) 1)) _ buffer _ reached
         (place-beyond (reached .entry) over) (λ zero. omega (arith, zero)) in
         (sym (ap (λ (r : Outcome). r .code) o), sym (ap (λ (r : Outcome). r .image) o))
 
     module _ (inside : place < x .length) where
-      pub output-file : BlockAsked img key (wrongBlock img buffer) g e x place
-      output-file = block-asked reached inside
+      pub block-out-file : BlockAsked img key (wrongBlock img buffer) g e x place
+      block-out-file = block-asked reached inside
 
       -- what `write_part` asks, and what is answered when it has written
-      pub output-ready : Sized img g × ((blockAtPlace x place < g .blocks) × (0 + length buffer ≤ blockBytes g))
-      output-ready = (output-file .sized, (output-file .below, omega (arith, block-fits img buffer g (reached .file .argument) (reached .file .measures))))
+      pub block-out-ready : Sized img g × ((blockAtPlace x place < g .blocks) × (0 + length buffer ≤ blockBytes g))
+      block-out-ready = (block-out-file .sized, (block-out-file .below, omega (arith, block-fits img buffer g (reached .file .argument) (reached .file .measures))))
 
-      pub output-done : (after : List ℕ) → after ≡ withPart img (blockStart g (blockAtPlace x place) + 0) buffer
+      pub block-out-done : (after : List ℕ) → after ≡ withPart img (blockStart g (blockAtPlace x place) + 0) buffer
           → (0 ≡ blockOut img key caller place buffer .code) × (after ≡ blockOut img key caller place buffer .image)
       unfolding blockOut blockOutRows
-      output-done after written =
+      block-out-done after written =
           let o =
           outcome-passed img key (wrongBlock img buffer) caller Write 2 (λ y. not (eqb (y .writer) 1)) _ buffer _ reached
           (place-within (reached .entry) inside) in (

@@ -41,10 +41,10 @@ module _ (img : List ℕ) (key : Key) (caller place : ℕ) (buffer : List ℕ) (
   at-stated : accessedOf img key (wrongBlock img buffer) caller Read 2 (λ x. not (openForInput x)) ≡ asked
   at-stated = stage-sized img key caller Read 2 (λ x. not (openForInput x)) buffer stated asked is
 
-  pub input-refused : (code : ℕ) → asked ≡ Refused code
+  pub block-in-denied : (code : ℕ) → asked ≡ Refused code
       → (code ≡ blockIn img key caller place buffer .code) × (buffer ≡ blockIn img key caller place buffer .buffer)
   unfolding blockIn blockInRows
-  input-refused code told =
+  block-in-denied code told =
       let o = outcome-unreached img key (wrongBlock img buffer) caller Read 2 (λ x. not (openForInput x)) _ buffer _ (at-stated ∙ told) in
       (sym (ap (λ (r : Outcome). r .code) o), sym (ap (λ (r : Outcome). r .buffer) o))
 
@@ -52,29 +52,29 @@ module _ (img : List ℕ) (key : Key) (caller place : ℕ) (buffer : List ℕ) (
     reached : Reached img key (wrongBlock img buffer) caller Read 2 (λ y. not (openForInput y)) g e x
     reached = reached-file img key (wrongBlock img buffer) caller Read 2 (λ y. not (openForInput y)) g e x (at-stated ∙ told)
 
-    pub input-beyond : x .length ≤ place → (0o44 ≡ blockIn img key caller place buffer .code) × (buffer ≡ blockIn img key caller place buffer .buffer)
+    pub block-in-beyond : x .length ≤ place → (0o44 ≡ blockIn img key caller place buffer .code) × (buffer ≡ blockIn img key caller place buffer .buffer)
     unfolding blockIn blockInRows
-    input-beyond over =
+    block-in-beyond over =
         let o =
         outcome-stopped img key (wrongBlock img buffer) caller Read 2 (λ y. not (openForInput y)) _ buffer _ reached
         (place-beyond (reached .entry) over) (λ zero. omega (arith, zero)) in
         (sym (ap (λ (r : Outcome). r .code) o), sym (ap (λ (r : Outcome). r .buffer) o))
 
     module _ (inside : place < x .length) where
-      pub input-file : BlockAsked img key (wrongBlock img buffer) g e x place
-      input-file = block-asked reached inside
+      pub block-in-file : BlockAsked img key (wrongBlock img buffer) g e x place
+      block-in-file = block-asked reached inside
 
       fits : length buffer ≡ blockBytes g
       fits = block-fits img buffer g (reached .file .argument) (reached .file .measures)
 
       -- what `read_part` asks, and what is answered when it has read
-      pub input-ready : Sized img g × ((blockAtPlace x place < g .blocks) × (0 + length buffer ≤ blockBytes g))
-      input-ready = (input-file .sized, (input-file .below, omega (arith, fits)))
+      pub block-in-ready : Sized img g × ((blockAtPlace x place < g .blocks) × (0 + length buffer ≤ blockBytes g))
+      block-in-ready = (block-in-file .sized, (block-in-file .below, omega (arith, fits)))
 
-      pub input-done : (after : List ℕ) → after ≡ partOf img (blockStart g (blockAtPlace x place) + 0) (length buffer)
+      pub block-in-done : (after : List ℕ) → after ≡ partOf img (blockStart g (blockAtPlace x place) + 0) (length buffer)
           → (0 ≡ blockIn img key caller place buffer .code) × (after ≡ blockIn img key caller place buffer .buffer)
       unfolding blockIn blockInRows
-      input-done after filled =
+      block-in-done after filled =
           let o =
           outcome-passed img key (wrongBlock img buffer) caller Read 2 (λ y. not (openForInput y)) _ buffer _ reached
           (place-within (reached .entry) inside) in (
