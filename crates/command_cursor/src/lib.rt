@@ -151,8 +151,8 @@ impl Cursor {
         }
     }
 
-    // Behind a character, if it stands here, and the letters and digits behind it, at most so many: so an extension stands behind its period, the name of
-    // a switch behind its slash, and a value behind its colon. All who walk over these go by it, whether they judge, measure or write them.
+    // Behind a character, if it stands here, and the letters and digits behind it, at most so many: so the name of a switch stands behind its slash, and a
+    // value behind its colon. Who measures them and who writes them goes by it; who judges a line has a reader of its own, which says where it is wrong.
     pub fn name_behind(self, line: &[u8], character: u8, most: usize) -> Part
         ensures { λ r. ⌜ r ≡ runBehind (now (line .entry)) (self .at) character most ⌝ }
     {

@@ -38,15 +38,17 @@ pub fn pass_device(line: &[u8], c: Cursor) -> Passing
 fn pass_extension(line: &[u8], c: Cursor) -> Part
     ensures { λ r. ⌜ r ≡ passed (from extension (now (line .entry)) (c .at)) ⌝ }
 {
-    let p = c.name_behind(line, PERIOD, 3);
+    let p = c.one(line, PERIOD);
     match p {
         Part::Refused(_) => Part::Read(c),
-        Part::Read(next) => {
-            let end = next.at;
-            if end == c.at + 1 {
+        Part::Read(a) => {
+            let start = a.at;
+            let characters = a.named(line, 3);
+            let end = characters.at;
+            if end == start {
                 return Part::Refused(end);
             }
-            Part::Read(next)
+            Part::Read(characters)
         }
     }
 }
@@ -136,15 +138,16 @@ pub struct ExtensionNumbers {
 fn read_extension(line: &[u8], c: Cursor) -> ExtensionNumbers
     ensures { λ r. ⌜ ((e : Option (List ℕ)) (end : ℕ) → from extension (now (line .entry)) (c .at) ≡ ok e end → r ≡ extensionFound e end) ⌝ }
 {
-    let p = c.name_behind(line, PERIOD, 3);
+    let p = c.one(line, PERIOD);
     match p {
         Part::Refused(_) => ExtensionNumbers {
             present: false,
             word: 0,
             next: c,
         },
-        Part::Read(next) => {
-            let start = c.at + 1;
+        Part::Read(a) => {
+            let start = a.at;
+            let next = a.named(line, 3);
             let end = next.at;
             ExtensionNumbers {
                 present: true,

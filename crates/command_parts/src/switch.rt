@@ -2,44 +2,45 @@
 ghost use mathlib.Core.Path.{_≡_};
 ghost use Rattle.command_grammar.specs.LineCharacters.{colon};
 ghost use Rattle.command_grammar.specs.Reader.{is, many, switchValue, from};
-ghost use Rattle.command_cursor.specs.NamesAt.{behindName};
 ghost use Rattle.command_parts.specs.Passed.{behindSlash, switches, passed};
 use command_cursor::Cursor;
 use command_cursor::Part;
 use command_cursor::characters::COLON;
 use command_cursor::characters::SLASH;
 
-// The values of a switch: "`:` with 1-6 A-Z, 0-9".
+// The values of a switch.
 fn pass_values(line: &[u8], c: Cursor) -> Part
     ensures { λ r. ⌜ r ≡ passed (from (many (is colon) switchValue) (now (line .entry)) (c .at)) ⌝ }
 {
     let mut here = c;
     loop {
-        let value = here.name_behind(line, COLON, 6);
-        match value {
+        let colon = here.one(line, COLON);
+        match colon {
             Part::Refused(_) => return Part::Read(here),
-            Part::Read(next) => {
-                let end = next.at;
-                if end == here.at + 1 {
+            Part::Read(start) => {
+                let first = start.at;
+                let characters = start.named(line, 6);
+                let end = characters.at;
+                if end == first {
                     return Part::Refused(end);
                 }
-                here = next;
+                here = characters;
             }
         }
     }
 }
 
-// The switch whose name stands between two cursors: "a letter, up to 5 more A-Z, 0-9", and then its values.
-fn pass_switch(line: &[u8], start: Cursor, name: Cursor) -> Part
-    requires { ⌜ name .at ≡ behindName (now line) (start .at) ⌝ }
-    ensures { λ r. ⌜ r ≡ passed (from behindSlash (now (line .entry)) (start .at)) ⌝ }
+// The switch whose name stands at the cursor.
+fn pass_switch(line: &[u8], c: Cursor) -> Part
+    ensures { λ r. ⌜ r ≡ passed (from behindSlash (now (line .entry)) (c .at)) ⌝ }
 {
-    let first = start.at;
-    let letter = start.letters(line, 1);
-    let end = letter.at;
-    if end == first {
-        return Part::Refused(end);
+    let start = c.at;
+    let letter = c.letters(line, 1);
+    let middle = letter.at;
+    if middle == start {
+        return Part::Refused(middle);
     }
+    let name = letter.named(line, 5);
     pass_values(line, name)
 }
 
@@ -48,11 +49,11 @@ pub fn pass_switches(line: &[u8], c: Cursor) -> Part
 {
     let mut here = c;
     loop {
-        let name = here.name_behind(line, SLASH, 6);
-        match name {
+        let slash = here.one(line, SLASH);
+        match slash {
             Part::Refused(_) => return Part::Read(here),
-            Part::Read(end) => {
-                let w = pass_switch(line, Cursor { at: here.at + 1 }, end);
+            Part::Read(start) => {
+                let w = pass_switch(line, start);
                 match w {
                     Part::Refused(place) => return Part::Refused(place),
                     Part::Read(next) => {

@@ -6,9 +6,8 @@ use borrow.Author.Needs.{needs}
 use lib.ListN.{length}
 use Rattle.command_grammar.specs.LineCharacters.{colon}
 use Rattle.command_grammar.specs.Reader.{is, many, switchValue, from}
-use Rattle.command_cursor.proofs.NamesAt.{name-on}
 use Rattle.command_parts.specs.Passed.{passed}
-use Rattle.command_parts.proofs.PassedValues.{values-none, values-short, values-more}
+use Rattle.command_parts.proofs.PassedValues.{values-none, values-short, values-more, values-on}
 use Rattle.command_parts.proofs.switch.pass_values.Statement.{statement}
 use Rattle.command_parts.proofs.switch.pass_values.Tie as tie
 
@@ -21,8 +20,8 @@ abbrev μ-loop : tie.MeasureT-loop
 loop-holds : tie.Need-loop-holds Inv-loop μ-loop
 loop-holds c = refl
 
-name-behind-requires : tie.Need-name-behind-requires Inv-loop μ-loop
-name-behind-requires c κs = search needs
+one-requires : tie.Need-one-requires Inv-loop μ-loop
+one-requires c κs = search needs
 
 enum-told : tie.Need-enum-told Inv-loop μ-loop
 enum-told c = search needs
@@ -30,38 +29,33 @@ enum-told c = search needs
 returns : tie.Need-returns Inv-loop μ-loop
 returns c =
     let p = c .before .before in
-    values-none _ _ _ (sym (p .name-behind .ensures) ∙ c .enum-told .given .1) ∙ sym (p .before .loop .inv)
+    values-none _ _ _ (sym (p .one .ensures) ∙ c .enum-told .given .1) ∙ sym (p .before .loop .inv)
 
-enum-known-value : tie.Need-enum-known-value Inv-loop μ-loop
-enum-known-value c = search needs
+enum-known-colon : tie.Need-enum-known-colon Inv-loop μ-loop
+enum-known-colon c = search needs
 
-add-if1 : tie.Need-add-if1 Inv-loop μ-loop
-add-if1 c =
-    let p = c .before .before in
-    let q = p .before .before in
-    let start = q .before .before .before in
-    let on = name-on colon (start .args .line .now) (q .before .loop .here .at) (p .value .given .0 .0) (sym (q .name-behind .ensures) ∙ p .value .given .1) in
-    record { fits = omega (arith, on .0, on .1, start .good .0 .0) }
+named-requires : tie.Need-named-requires Inv-loop μ-loop
+named-requires c κs = search needs
 
 returns-2 : tie.Need-returns-2 Inv-loop μ-loop
 returns-2 c =
     let p = c .before .before .before in
     let q = p .before .before in
-    values-short _ _ _ (sym (q .name-behind .ensures) ∙ p .value .given .1) (c .if1 .taken) ∙ sym (q .before .loop .inv)
+    values-short _ _ _ (sym (q .one .ensures) ∙ p .colon .given .1) _ (c .before .named .ensures) (c .if1 .taken) ∙ sym (q .before .loop .inv)
 
 loop-less : tie.Need-loop-less Inv-loop μ-loop
 loop-less c =
     let p = c .before .before .before in
     let q = p .before .before in
-    let start = q .before .before .before in
-    let on = name-on colon (start .args .line .now) (q .before .loop .here .at) (p .value .given .0 .0) (sym (q .name-behind .ensures) ∙ p .value .given .1) in
-    omega (arith, on .0, on .1)
+    let found = sym (q .one .ensures) ∙ p .colon .given .1 in
+    let o = values-on (q .before .before .before .args .line .now) (q .before .loop .here .at) (p .colon .given .0 .0) found (c .before .named .result .at) (c .before .named .ensures) in
+    omega (arith, o .0, o .1)
 
 loop-again : tie.Need-loop-again Inv-loop μ-loop
 loop-again c =
     let p = c .before .before .before in
     let q = p .before .before in
-    q .before .loop .inv ∙ sym (values-more _ _ _ (sym (q .name-behind .ensures) ∙ p .value .given .1) (c .if1 .left))
+    q .before .loop .inv ∙ sym (values-more _ _ _ (sym (q .one .ensures) ∙ p .colon .given .1) _ (c .before .named .ensures) (c .if1 .left))
 
 pub pass-values-spec : {M : Type 1} → statement M
 pass-values-spec =
@@ -70,11 +64,11 @@ pass-values-spec =
     Inv-loop
     μ-loop
     loop-holds
-    name-behind-requires
+    one-requires
     enum-told
     returns
-    enum-known-value
-    add-if1
+    enum-known-colon
+    named-requires
     returns-2
     loop-less
     loop-again)

@@ -1,4 +1,4 @@
--- Rests on `BlockInput`: each answer of the stage gives one of the request; the block at a place of the file is a block of the pack.
+-- Rests on `BlockIn`: each answer of the stage gives one of the request; the block at a place of the file is a block of the pack.
 use borrow.Author.Needs.{needs}
 use Rattle.transfer.proofs.block.block_in_opened.Statement.{statement}
 use Rattle.transfer.proofs.block.block_in_opened.Tie as tie
