@@ -7,4 +7,3 @@ pub mod FilledWord
 pub mod CursorAtRuns
 pub mod FilledWordLegal
 pub mod FilledWordNames
-pub mod NamesAt

@@ -14,7 +14,6 @@ ghost use Rattle.command_grammar.specs.Reader.{is, span, oneCharacter};
 ghost use Rattle.command_cursor.specs.Capped.{capped};
 ghost use Rattle.command_cursor.specs.CursorAt.{partAt, standsAt, characterAt};
 ghost use Rattle.command_cursor.specs.NumberAt.{NumberAt};
-ghost use Rattle.command_cursor.specs.NamesAt.{runBehind};
 ghost use Rattle.command_cursor.specs.FilledWord.{filledWord, firstWord, secondWord};
 use radix::Radix50;
 
@@ -146,20 +145,6 @@ impl Cursor {
         let at = self.at;
         if stands(line, at, character) {
             Part::Read(Cursor { at: at + 1 })
-        } else {
-            Part::Refused(at)
-        }
-    }
-
-    // Behind a character, if it stands here, and the letters and digits behind it, at most so many: so the name of a switch stands behind its slash, and a
-    // value behind its colon. Who measures them and who writes them goes by it; who judges a line has a reader of its own, which says where it is wrong.
-    pub fn name_behind(self, line: &[u8], character: u8, most: usize) -> Part
-        ensures { λ r. ⌜ r ≡ runBehind (now (line .entry)) (self .at) character most ⌝ }
-    {
-        let at = self.at;
-        if stands(line, at, character) {
-            let name = Cursor { at: at + 1 };
-            Part::Read(name.named(line, most))
         } else {
             Part::Refused(at)
         }

@@ -3,17 +3,20 @@ use Prim.Native.Nat.{ℕ, _+_, _*_, _≤_, _<_}
 use mathlib.Core.Path.{_≡_, refl, sym, ap, _∙_}
 use mathlib.Core.List.{List, [], _∷_}
 use native.Mathlib.Omega.{arith}
-use lib.ListN.{length}
+use lib.ListN.{length, drop}
+use Rattle.radix.specs.Names.{isLetterOrDigit}
 use Rattle.command_grammar.specs.LineCharacters.{colon, slash}
 use Rattle.command_grammar.specs.Parsed.{Switch}
-use Rattle.command_grammar.specs.Reader.{is, ok, many, switchValue, switch, mkSwitch, from, valuesIn}
-use Rattle.command_cursor.specs.NamesAt.{nameAt, nameBehind}
+use Rattle.command_grammar.specs.Reader.{is, ok, span, oneCharacter, many, switch, mkSwitch, from, valuesIn}
+use Rattle.command_cursor.specs.CursorAt.{partAt}
 use Rattle.command_cursor.specs.declared.Cursor.{Cursor}
 use Rattle.command_cursor.specs.declared.Part.the-variants as P
-use Rattle.command_cursor.proofs.NamesAt.{name-found, name-missed, name-on}
+use Rattle.command_cursor.proofs.CursorAtRuns.{found, missed, found-place}
 use Rattle.command_switches.specs.Encoded.{encoded}
 use Rattle.command_switches.specs.SwitchesMeasured.{BehindName}
+use Rattle.command_switches.specs.SwitchesWritten.{nameAt}
 use Rattle.command_switches.proofs.EncodedLength.{encoded-length}
+use Rattle.command_switches.proofs.SwitchesWrittenNames.{end-behind, behind-after}
 use Rattle.command_switches.proofs.SwitchesWrittenStanding.{values-none, values-more, switches-none, switches-more}
 
 no-switch : length (encoded []) ≡ 0
@@ -30,69 +33,81 @@ Less line n taken next = (m : ℕ) × BehindName line next m × (n ≡ taken + m
 
 -- the switches at a place
 module _ (line : List ℕ) (at : ℕ) where
-  pub measured-none : (p : ℕ) → nameBehind line at slash ≡ P.Refused p
+  pub measured-none : (p : ℕ) → partAt at (oneCharacter (is slash) (drop at line)) ≡ P.Refused p
       → (ws : List Switch) (end : ℕ) → from (many (is slash) switch) line at ≡ ok ws end → 0 ≡ length (encoded ws)
   measured-none p h ws end stand =
-      let none = switches-none line at ws end stand p (name-missed slash line at p h) in
+      let none = switches-none line at ws end stand p (missed slash line at p h) in
       sym (ap (λ (l : List Switch). length (encoded l)) (none .0) ∙ no-switch)
 
-  module _ (name : Cursor) (h : nameBehind line at slash ≡ P.Read name) where
-    measured-switch : (ws : List Switch) (end : ℕ) → from (many (is slash) switch) line at ≡ ok ws end → Less line (length (encoded ws)) 6 (name .at)
+  module _ (a : Cursor) (h : partAt at (oneCharacter (is slash) (drop at line)) ≡ P.Read a) (e : ℕ) (q : e ≡ a .at + span isLetterOrDigit 6 (drop (a .at) line)) where
+    measured-switch : (ws : List Switch) (end : ℕ) → from (many (is slash) switch) line at ≡ ok ws end → Less line (length (encoded ws)) 6 e
     measured-switch ws end stand =
-        let f = name-found slash line at name h in
-        let m = switches-more line at ws end stand (f .0) (at + 1) (f .1) in (
+        let f = found slash line at a h in
+        let m = switches-more line at ws end stand (f .0) (a .at) (f .1) in (
           4 * length (m .values) + length (encoded (m .rest)),
           record {
             values = m .values;
             middle = m .middle;
             switches = m .rest;
             end = end;
-            values-stand = ap (from (many (is colon) switchValue) line) (f .2) ∙ m .behind;
+            values-stand = rw (end-behind line (a .at) e q) (m .behind);
             switches-stand = m .then;
             all = refl;
           },
-          ap (λ (l : List Switch). length (encoded l)) (m .all) ∙ one-switch (mkSwitch (nameAt line (at + 1)) (m .values)) (m .rest),
+          ap (λ (l : List Switch). length (encoded l)) (m .all) ∙ one-switch (mkSwitch (nameAt line (a .at)) (m .values)) (m .rest),
         )
 
-    pub measured-from : {r : ℕ} → ((n : ℕ) → BehindName line (name .at) n → r ≡ 6 + n)
+    pub slash-on : (at < e) × (at < length line)
+    slash-on =
+        let o = found-place slash line at a h in
+        (omega (arith, o .0, end-behind line (a .at) e q, behind-after line (a .at)), omega (arith, o .0, o .1))
+
+    pub measured-from : {r : ℕ} → ((n : ℕ) → BehindName line e n → r ≡ 6 + n)
         → (ws : List Switch) (end : ℕ) → from (many (is slash) switch) line at ≡ ok ws end → r ≡ length (encoded ws)
     measured-from is ws end stand = let m = measured-switch ws end stand in is (m .0) (m .1) ∙ sym (m .2)
 
 -- behind a name
 module _ (line : List ℕ) (at : ℕ) where
-  one-value : (next : Cursor) → nameBehind line at colon ≡ P.Read next → (n : ℕ) → BehindName line at n → Less line n 4 (next .at)
-  one-value next h n b =
-      let f = name-found colon line at next h in
-      let m = values-more line at (b .values) (b .middle) (b .values-stand) (f .0) (at + 1) (f .1) in (
-        4 * length (m .rest) + length (encoded (b .switches)),
-        record {
-          values = m .rest;
-          middle = b .middle;
-          switches = b .switches;
-          end = b .end;
-          values-stand = ap (from (many (is colon) switchValue) line) (f .2) ∙ m .behind;
-          switches-stand = b .switches-stand;
-          all = refl;
-        },
-        omega (arith, b .all, ap (λ (l : List (List ℕ)). length l) (m .all)),
-      )
+  module _ (a : Cursor) (h : partAt at (oneCharacter (is colon) (drop at line)) ≡ P.Read a) (e : ℕ) (q : e ≡ a .at + span isLetterOrDigit 6 (drop (a .at) line)) where
+    one-value : (n : ℕ) → BehindName line at n → Less line n 4 e
+    one-value n b =
+        let f = found colon line at a h in
+        let m = values-more line at (b .values) (b .middle) (b .values-stand) (f .0) (a .at) (f .1) in (
+          4 * length (m .rest) + length (encoded (b .switches)),
+          record {
+            values = m .rest;
+            middle = b .middle;
+            switches = b .switches;
+            end = b .end;
+            values-stand = rw (end-behind line (a .at) e q) (m .behind);
+            switches-stand = b .switches-stand;
+            all = refl;
+          },
+          omega (arith, b .all, ap (λ (l : List (List ℕ)). length l) (m .all)),
+        )
 
-  module _ (p : ℕ) (h : nameBehind line at colon ≡ P.Refused p) where
+    pub colon-on : (at < e) × (at < length line)
+    colon-on =
+        let o = found-place colon line at a h in
+        (omega (arith, o .0, end-behind line (a .at) e q, behind-after line (a .at)), omega (arith, o .0, o .1))
+
+  module _ (p : ℕ) (h : partAt at (oneCharacter (is colon) (drop at line)) ≡ P.Refused p) where
     -- no value more: the switches stand here
     only-switches : (n : ℕ) (b : BehindName line at n) → (from (many (is slash) switch) line at ≡ ok (b .switches) (b .end)) × (n ≡ length (encoded (b .switches)))
     only-switches n b =
-        let none = values-none line at (b .values) (b .middle) (b .values-stand) p (name-missed colon line at p h) in (
+        let none = values-none line at (b .values) (b .middle) (b .values-stand) p (missed colon line at p h) in (
           ap (from (many (is slash) switch) line) (sym (none .1)) ∙ b .switches-stand,
           omega (arith, b .all, ap (λ (l : List (List ℕ)). length l) (none .0)),
         )
 
-    one-switch-more : (name : Cursor) → nameBehind line at slash ≡ P.Read name → (n : ℕ) → BehindName line at n → Less line n 6 (name .at)
-    one-switch-more name stands n b =
+    one-switch-more : (a : Cursor) → partAt at (oneCharacter (is slash) (drop at line)) ≡ P.Read a → (e : ℕ) → e ≡ a .at + span isLetterOrDigit 6 (drop (a .at) line)
+        → (n : ℕ) → BehindName line at n → Less line n 6 e
+    one-switch-more a found-slash e q n b =
         let s = only-switches n b in
-        let m = measured-switch line at name stands (b .switches) (b .end) (s .0) in
+        let m = measured-switch line at a found-slash e q (b .switches) (b .end) (s .0) in
         (m .0, m .1, s .1 ∙ m .2)
 
-    nothing-more : (p′ : ℕ) → nameBehind line at slash ≡ P.Refused p′ → (n : ℕ) → BehindName line at n → n ≡ 0
+    nothing-more : (p′ : ℕ) → partAt at (oneCharacter (is slash) (drop at line)) ≡ P.Refused p′ → (n : ℕ) → BehindName line at n → n ≡ 0
     nothing-more p′ no-slash n b = let s = only-switches n b in s .1 ∙ sym (measured-none line at p′ no-slash (b .switches) (b .end) (s .0))
 
 -- what was left at the start is what was added since and what is left now
@@ -114,12 +129,14 @@ module _ {line : List ℕ} {start bytes at sum : ℕ} (so-far : Measures line st
             (l .0, l .1, omega (arith, m .2, l .2));
       }
 
-  pub measures-value : (next : Cursor) → nameBehind line at colon ≡ P.Read next → Measures line start bytes (next .at) (sum + 4)
-  measures-value next h = measures-on 4 (next .at) (omega arith) (name-on colon line at next h .0) (one-value line at next h)
+  pub measures-value : (a : Cursor) → partAt at (oneCharacter (is colon) (drop at line)) ≡ P.Read a → {e : ℕ} → e ≡ a .at + span isLetterOrDigit 6 (drop (a .at) line)
+      → Measures line start bytes e (sum + 4)
+  measures-value a h {e} q = measures-on 4 e (omega arith) (colon-on line at a h e q .0) (one-value line at a h e q)
 
-  module _ (p : ℕ) (no-colon : nameBehind line at colon ≡ P.Refused p) where
-    pub measures-switch : (name : Cursor) → nameBehind line at slash ≡ P.Read name → Measures line start bytes (name .at) (sum + 6)
-    measures-switch name h = measures-on 6 (name .at) (omega arith) (name-on slash line at name h .0) (one-switch-more line at p no-colon name h)
+  module _ (p : ℕ) (no-colon : partAt at (oneCharacter (is colon) (drop at line)) ≡ P.Refused p) where
+    pub measures-switch : (a : Cursor) → partAt at (oneCharacter (is slash) (drop at line)) ≡ P.Read a → {e : ℕ} → e ≡ a .at + span isLetterOrDigit 6 (drop (a .at) line)
+        → Measures line start bytes e (sum + 6)
+    measures-switch a h {e} q = measures-on 6 e (omega arith) (slash-on line at a h e q .0) (one-switch-more line at p no-colon a h e q)
 
-    pub measures-done : (p′ : ℕ) → nameBehind line at slash ≡ P.Refused p′ → (n : ℕ) → BehindName line start n → sum ≡ bytes + n
+    pub measures-done : (p′ : ℕ) → partAt at (oneCharacter (is slash) (drop at line)) ≡ P.Refused p′ → (n : ℕ) → BehindName line start n → sum ≡ bytes + n
     measures-done p′ no-slash n b = let m = so-far .left n b in omega (arith, m .2, nothing-more line at p no-colon p′ no-slash (m .0) (m .1))

@@ -1,15 +1,21 @@
 -- What stands at a place, where the values of a switch or switches were read there.
-use Prim.Native.Nat.{ℕ, _<_}
-use mathlib.Core.Path.{_≡_, refl, sym, _∙_}
+use Prim.Native.Nat.{ℕ, suc, _+_, _<_}
+use mathlib.Core.Path.{_≡_, refl, sym, ap, _∙_}
 use mathlib.Core.List.{List, [], _∷_}
-use Rattle.radix.specs.Names.{isLetter, isLetterOrDigit}
+use mathlib.Core.Bool.{Bool, true, false, cond, _||_}
+use native.Mathlib.Omega.{arith}
+use borrow.Author.Tests.{le-leb}
+use lib.ListN.{take, drop}
+use Rattle.radix.specs.Names.{isLetter, isDigit, isLetterOrDigit}
 use Rattle.command_grammar.specs.LineCharacters.{colon, slash}
 use Rattle.command_grammar.specs.Parsed.{Switch}
-use Rattle.command_grammar.specs.Reader.{is, Res, ok, no, from, seq, second, mkSwitch, many, word, span, oneCharacter, switchValue, switch}
+use Rattle.command_grammar.specs.Reader.{is, Res, ok, no, moved, later, andThen, from, seq, second, mkSwitch, many, word, span, oneCharacter, switchValue, switch}
 use Rattle.command_grammar.proofs.ReaderParts.{value-reads, value-first, switch-part, switch-first, is-out, is-in, afterUic}
 use Rattle.command_grammar.proofs.ReaderPlaces.{from-many-missed, from-many-found, seq-both, word-taken, progress}
-use Rattle.command_cursor.specs.NamesAt.{nameAt, behindName}
-use Rattle.command_cursor.proofs.NamesAt.{name-read}
+use Rattle.command_switches.specs.SwitchesWritten.{nameAt, behindName}
+
+clash : {A : Type 0} {P : Type 0} (a : A) (n p : ℕ) → _≡_ {A = Res A} (no p) (ok a n) → P
+clash a n p told = let z : _≡_ {A = ℕ} 0 1 = cc in absurd (omega arith)
 
 -- where no character c stands, nothing that begins with it was read
 none-read : {A : Type 0} (c : ℕ) (f : List ℕ → Res A) (s : List ℕ) (i p : ℕ) (read : List A) (end : ℕ) → from (oneCharacter (is c)) s i ≡ no p
@@ -42,6 +48,39 @@ module _ (line : List ℕ) (at : ℕ) (values : List (List ℕ)) (end : ℕ) (st
       let b = seq-both _∷_ switchValue (many (is colon) switchValue) line at (sym on ∙ stand) in
       let v = value-read line at x next (b .0) (b .1) found (b .3) in
       record { rest = b .2; all = rw (← v .0) (b .5); behind = rw (v .1) at (b .4) }
+
+word-any : (n : List ℕ → ℕ) (s : List ℕ) → word 0 n s ≡ ok (take (n s) s) (n s)
+unfolding word
+word-any n s = rw (le-leb 0 (n s) (omega arith))
+
+-- "a letter, up to 5 more A-Z, 0-9" is a run of up to 6
+name-run : (d name : List ℕ) (n : ℕ) → seq _∷_ (oneCharacter isLetter) (word 0 (span isLetterOrDigit 5)) d ≡ ok name n
+    → (name ≡ take (span isLetterOrDigit 6 d) d) × (n ≡ span isLetterOrDigit 6 d)
+unfolding oneCharacter span
+name-run [] name n told = clash name n 0 told
+name-run (x ∷ d) name n told = go (isLetter x) (isDigit x) told
+  where
+    go : (letter digit : Bool) → andThen _∷_ (word 0 (span isLetterOrDigit 5)) (x ∷ d) (cond letter (ok x 1) (no 0)) ≡ ok name n
+        → (name ≡ take (cond (letter || digit) (suc (span isLetterOrDigit 5 d)) 0) (x ∷ d)) × (n ≡ cond (letter || digit) (suc (span isLetterOrDigit 5 d)) 0)
+    go true digit told =
+        let e = ap (later 1 (_∷_ x)) (sym (word-any (span isLetterOrDigit 5) d)) ∙ told in
+        let count : 1 + span isLetterOrDigit 5 d ≡ n = cc in
+        (cc, omega arith)
+    go false digit told = clash name n 0 told
+
+name-read : (line : List ℕ) (at : ℕ) (name : List ℕ) (end : ℕ) → from (seq _∷_ (oneCharacter isLetter) (word 0 (span isLetterOrDigit 5))) line at ≡ ok name end
+    → (name ≡ nameAt line at) × (end ≡ behindName line at)
+unfolding from nameAt behindName
+name-read line at name end told = go (seq _∷_ (oneCharacter isLetter) (word 0 (span isLetterOrDigit 5)) (drop at line)) refl told
+  where
+    go : (r : Res (List ℕ)) → seq _∷_ (oneCharacter isLetter) (word 0 (span isLetterOrDigit 5)) (drop at line) ≡ r → moved at r ≡ ok name end
+        → (name ≡ take (span isLetterOrDigit 6 (drop at line)) (drop at line)) × (end ≡ at + span isLetterOrDigit 6 (drop at line))
+    go (ok v n) read told =
+        let w = name-run (drop at line) v n read in
+        let same : v ≡ name = cc in
+        let place : at + n ≡ end = cc in
+        (sym same ∙ w .0, omega (arith, w .1))
+    go (no n) read told = clash name end (at + n) told
 
 -- behind the slash, at `next`, stands the name of a switch, and then its values
 named-read : (line : List ℕ) (next : ℕ) (w : Switch) (end : ℕ)

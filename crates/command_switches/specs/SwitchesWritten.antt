@@ -2,12 +2,12 @@
 use Prim.Native.Nat.{ℕ, _+_, _*_, _≤_}
 use mathlib.Core.Path.{_≡_}
 use mathlib.Core.List.{List, [], _∷_}
-use lib.ListN.{length}
+use lib.ListN.{length, take, drop}
 use Rattle.words.specs.Word.{setWord}
+use Rattle.radix.specs.Names.{isLetterOrDigit}
 use Rattle.command_grammar.specs.LineCharacters.{colon, slash}
 use Rattle.command_grammar.specs.Parsed.{Switch}
-use Rattle.command_grammar.specs.Reader.{is, ok, many, switchValue, switch, mkSwitch, from}
-use Rattle.command_cursor.specs.NamesAt.{nameAt, behindName}
+use Rattle.command_grammar.specs.Reader.{is, ok, span, many, switchValue, switch, mkSwitch, from}
 use Rattle.command_cursor.specs.FilledWord.{firstWord, secondWord}
 use Rattle.command_switches.specs.Encoded.{valueWords, switchWords, allSwitchWords, encoded}
 use Rattle.command_switches.specs.declared.WrittenValues.{WrittenValues}
@@ -16,7 +16,13 @@ unfoldable pub setWords : List ℕ → ℕ → List ℕ → List ℕ
 setWords bytes i [] = bytes
 setWords bytes i (word ∷ words) = setWords (setWord bytes i word) (i + 1) words
 
--- the two words of a name or value
+-- the name or value of up to 6 characters that stands at a place, and the place behind it
+unfoldable pub nameAt : List ℕ → ℕ → List ℕ
+nameAt line at = take (span isLetterOrDigit 6 (drop at line)) (drop at line)
+
+unfoldable pub behindName : List ℕ → ℕ → ℕ
+behindName line at = at + span isLetterOrDigit 6 (drop at line)
+
 abbrev pub nameWords : List ℕ → List ℕ
 nameWords name = firstWord name ∷ (secondWord name ∷ [])
 

@@ -12,10 +12,9 @@ ghost use lib.ListN.{length, drop};
 ghost use Rattle.command_grammar.specs.LineCharacters.{slash};
 ghost use Rattle.command_grammar.specs.Parsed.{Switch};
 ghost use Rattle.command_grammar.specs.Reader.{is, ok, many, switch, from};
-ghost use Rattle.command_cursor.specs.NamesAt.{nameAt, behindName};
 ghost use Rattle.command_switches.specs.Encoded.{encoded};
 ghost use Rattle.command_switches.specs.SwitchesMeasured.{BehindName};
-ghost use Rattle.command_switches.specs.SwitchesWritten.{SwitchesWritable, setWords, nameWords, ValuesFit, ValuesWritten, SwitchWritten};
+ghost use Rattle.command_switches.specs.SwitchesWritten.{SwitchesWritable, setWords, nameAt, behindName, nameWords, ValuesFit, ValuesWritten, SwitchWritten};
 
 // How many values were written, and where the cursor stands then.
 pub struct WrittenValues {
@@ -31,18 +30,18 @@ fn measure_from(line: &[u8], c: Cursor, bytes: usize) -> usize
     let mut here = c;
     let mut sum = bytes;
     loop {
-        let value = here.name_behind(line, COLON, 6);
-        match value {
-            Part::Read(next) => {
-                here = next;
+        let colon = here.one(line, COLON);
+        match colon {
+            Part::Read(start) => {
+                here = start.named(line, 6);
                 sum += 4;
             }
             Part::Refused(_) => {
-                let name = here.name_behind(line, SLASH, 6);
-                match name {
+                let slash = here.one(line, SLASH);
+                match slash {
                     Part::Refused(_) => return sum,
-                    Part::Read(next) => {
-                        here = next;
+                    Part::Read(start) => {
+                        here = start.named(line, 6);
                         sum += 6;
                     }
                 }
@@ -56,21 +55,29 @@ pub fn measure(line: &[u8], c: Cursor) -> usize
     requires { ⌜ length (now line) ≤ 65535 ⌝ }
     ensures { λ r. ⌜ ((ws : List Switch) (end : ℕ) → from (many (is slash) switch) (now (line .entry)) (c .at) ≡ ok ws end → r ≡ length (encoded ws)) ⌝ }
 {
-    let name = c.name_behind(line, SLASH, 6);
-    match name {
+    let slash = c.one(line, SLASH);
+    match slash {
         Part::Refused(_) => 0,
-        Part::Read(next) => measure_from(line, next, 6),
+        Part::Read(start) => {
+            let name = start.named(line, 6);
+            measure_from(line, name, 6)
+        }
     }
 }
 
-// "two name words", "two words per value": the name or value between two places, as the words i and i + 1.
-fn write_name(line: &[u8], first: usize, end: usize, buffer: &mut [u8], i: usize)
-    requires { ⌜ (first ≤ length (now line)) × (end ≡ behindName (now line) first) × (2 * i + 3 < length (now buffer)) ⌝ }
-    ensures { λ r. ⌜ now (buffer .exit) ≡ setWords (now (buffer .entry)) i (nameWords (nameAt (now (line .entry)) first)) ⌝ }
+// "two name words", "two words per value": the name or value at the cursor, as the words i and i + 1.
+fn write_name(line: &[u8], c: Cursor, buffer: &mut [u8], i: usize) -> Cursor
+    requires { ⌜ (c .at ≤ length (now line)) × (2 * i + 3 < length (now buffer)) ⌝ }
+    ensures { λ r. ⌜ r .at ≡ behindName (now (line .entry)) (c .at) ⌝ }
+    ensures { λ r. ⌜ now (buffer .exit) ≡ setWords (now (buffer .entry)) i (nameWords (nameAt (now (line .entry)) (c .at))) ⌝ }
 {
+    let first = c.at;
+    let next = c.named(line, 6);
+    let end = next.at;
     let words = name_words(line, first, end);
     set_word(buffer, i, words.first);
     set_word(buffer, i + 1, words.second);
+    next
 }
 
 // The values at the cursor, from word i on.
@@ -82,17 +89,16 @@ fn write_values(line: &[u8], c: Cursor, buffer: &mut [u8], i: usize) -> WrittenV
     let mut place = i;
     let mut count = 0;
     loop {
-        let value = here.name_behind(line, COLON, 6);
-        match value {
+        let colon = here.one(line, COLON);
+        match colon {
             Part::Refused(_) => {
                 return WrittenValues {
                     values: count,
                     next: here,
                 };
             }
-            Part::Read(next) => {
-                write_name(line, here.at + 1, next.at, buffer, place);
-                here = next;
+            Part::Read(start) => {
+                here = write_name(line, start, buffer, place);
                 place += 2;
                 count += 1;
             }
@@ -100,20 +106,13 @@ fn write_values(line: &[u8], c: Cursor, buffer: &mut [u8], i: usize) -> WrittenV
     }
 }
 
-// The switch whose name stands between two places, from word i on. Its first word is written last: how many values there are is known when they are
-// written.
-fn write_switch(
-    line: &[u8],
-    first: usize,
-    name: Cursor,
-    buffer: &mut [u8],
-    i: usize,
-) -> WrittenValues
-    requires { ⌜ (first ≤ length (now line)) × (name .at ≡ behindName (now line) first) × (length (now line) ≤ 65535) × ValuesFit (now line) (name .at) (i + 3) (length (now buffer)) ⌝ }
-    ensures { λ r. ⌜ SwitchWritten (now (line .entry)) first i (now (buffer .entry)) r (now (buffer .exit)) ⌝ }
+// The switch whose name stands at the cursor, from word i on. Its first word is written last: how many values there are is known when they are written.
+fn write_switch(line: &[u8], c: Cursor, buffer: &mut [u8], i: usize) -> WrittenValues
+    requires { ⌜ (c .at ≤ length (now line)) × (length (now line) ≤ 65535) × ValuesFit (now line) (behindName (now line) (c .at)) (i + 3) (length (now buffer)) ⌝ }
+    ensures { λ r. ⌜ SwitchWritten (now (line .entry)) (c .at) i (now (buffer .entry)) r (now (buffer .exit)) ⌝ }
 {
-    write_name(line, first, name.at, buffer, i + 1);
-    let written = write_values(line, name, buffer, i + 3);
+    let next = write_name(line, c, buffer, i + 1);
+    let written = write_values(line, next, buffer, i + 3);
     set_word(buffer, i, written.values);
     written
 }
@@ -129,11 +128,11 @@ pub fn write_switches(line: &[u8], c: Cursor, buffer: &mut [u8]) -> usize
     let mut count = 0;
     let mut i = 0;
     loop {
-        let name = here.name_behind(line, SLASH, 6);
-        match name {
+        let slash = here.one(line, SLASH);
+        match slash {
             Part::Refused(_) => return count,
-            Part::Read(end) => {
-                let written = write_switch(line, here.at + 1, end, buffer, i);
+            Part::Read(start) => {
+                let written = write_switch(line, start, buffer, i);
                 here = written.next;
                 i = i + 3 + 2 * written.values;
                 count += 1;

@@ -1,6 +1,7 @@
 -- Rests on `SwitchesWrittenParts`: the name and the values are set first, and the count, which `write_values` knows, in the word before them.
 use borrow.Author.Needs.{needs}
-use Rattle.command_switches.proofs.SwitchesWrittenParts.{fit-kept, behind-name, switch-written}
+use native.Mathlib.Omega.{arith}
+use Rattle.command_switches.proofs.SwitchesWrittenParts.{behind-name, its-values-asked, switch-written}
 use Rattle.command_switches.proofs.write_switch.Statement.{statement}
 use Rattle.command_switches.proofs.write_switch.Tie as tie
 
@@ -15,9 +16,10 @@ add-write-values c = search needs
 
 write-values-requires : tie.Need-write-values-requires
 write-values-requires c κs =
-    let w = c .before .before .before in
-    let start = w .before .before .before .before in
-    (behind-name _ _ _ (start .pre .1) (start .pre .0), fit-kept (w .write-name .kept .1 .1 .1 .0) (start .pre .3))
+    let s = c .before .before .before .before .before .before .before in
+    let w = c .before .before .before .write-name in
+    let behind = behind-name (s .args .line .now) (s .args .c .at) (w .result) (w .ensures .0) (s .pre .0) in
+    (behind, its-values-asked (s .args .line .now) (s .args .c .at) (w .result) (w .ensures .0) _ _ _ (w .kept .1 .1 .0) (s .pre .2))
 
 set-word-requires : tie.Need-set-word-requires
 set-word-requires c κs = search needs
@@ -27,10 +29,8 @@ same-length c = search needs
 
 returns : tie.Need-returns
 returns c =
-    let v = c .before .before .before .before .before .before in
-    let w = v .before .before .before .before in
-    let start = w .before .before .before .before in
-    switch-written _ _ _ (start .pre .1) _ _ _ _ _ _ (w .write-name .ensures) (v .write-values .ensures) (c .before .before .set-word .ensures)
+    let w = c .before .before .before .before .before .before .before .before .before .before .write-name in
+    switch-written _ _ (w .result) (w .ensures .0) _ _ _ _ _ _ (w .ensures .1) (c .before .before .before .before .before .before .write-values .ensures) (c .before .before .set-word .ensures)
 
 pub write-switch-spec : {M : Type 1} → statement M
 write-switch-spec =

@@ -4,9 +4,7 @@ use mathlib.Core.Path.{sym, _∙_}
 use native.Mathlib.Omega.{arith}
 use borrow.Author.Needs.{needs}
 use lib.ListN.{length}
-use Rattle.command_grammar.specs.LineCharacters.{colon}
-use Rattle.command_cursor.proofs.NamesAt.{name-on}
-use Rattle.command_switches.proofs.SwitchesWrittenLoops.{ValuesLead, values-start, values-done, value-room, value-more}
+use Rattle.command_switches.proofs.SwitchesWrittenLoops.{ValuesLead, values-start, values-done, value-room, value-on, value-more}
 use Rattle.command_switches.proofs.write_values.Statement.{statement}
 use Rattle.command_switches.proofs.write_values.Tie as tie
 
@@ -19,8 +17,8 @@ abbrev μ-loop : tie.MeasureT-loop
 loop-holds : tie.Need-loop-holds Inv-loop μ-loop
 loop-holds c = values-start (c .before .before .pre .0) (c .before .before .pre .1)
 
-name-behind-requires : tie.Need-name-behind-requires Inv-loop μ-loop
-name-behind-requires c κs = search needs
+one-requires : tie.Need-one-requires Inv-loop μ-loop
+one-requires c κs = search needs
 
 enum-told : tie.Need-enum-told Inv-loop μ-loop
 enum-told c = search needs
@@ -29,53 +27,46 @@ same-length : tie.Need-same-length Inv-loop μ-loop
 same-length c = c .before .before .before .loop .inv .kept
 
 returns : tie.Need-returns Inv-loop μ-loop
-returns c = values-done (c .before .before .before .loop .inv) _ (sym (c .before .before .name-behind .ensures) ∙ c .enum-told .given .1)
+returns c = values-done (c .before .before .before .loop .inv) _ (sym (c .before .before .one .ensures) ∙ c .enum-told .given .1)
 
-enum-known-value : tie.Need-enum-known-value Inv-loop μ-loop
-enum-known-value c = search needs
-
-add-write-name : tie.Need-add-write-name Inv-loop μ-loop
-add-write-name c =
-    let p = c .before .before in
-    let q = p .before .before in
-    let room = value-room (q .before .loop .inv) _ (sym (q .name-behind .ensures) ∙ p .value .given .1) in
-    record { fits = omega (arith, room .0, q .before .before .before .before .good .0 .0) }
+enum-known-colon : tie.Need-enum-known-colon Inv-loop μ-loop
+enum-known-colon c = search needs
 
 write-name-requires : tie.Need-write-name-requires Inv-loop μ-loop
 write-name-requires c κs =
-    let p = c .before .before .before in
+    let p = c .before .before in
     let q = p .before .before in
-    value-room (q .before .loop .inv) _ (sym (q .name-behind .ensures) ∙ p .value .given .1)
+    value-room (q .before .loop .inv) _ (sym (q .one .ensures) ∙ p .colon .given .1)
 
 add-place : tie.Need-add-place Inv-loop μ-loop
 add-place c =
-    let p = c .before .before .before .before .before .before in
+    let p = c .before .before .before .before .before in
     let q = p .before .before in
-    let room = value-room (q .before .loop .inv) _ (sym (q .name-behind .ensures) ∙ p .value .given .1) in
-    omega (arith, room .2)
+    let room = value-room (q .before .loop .inv) _ (sym (q .one .ensures) ∙ p .colon .given .1) in
+    omega (arith, room .1)
 
 add-count : tie.Need-add-count Inv-loop μ-loop
 add-count c =
-    let p = c .before .before .before .before .before .before in
+    let w = c .before .before .write-name in
+    let p = c .before .before .before .before .before in
     let q = p .before .before in
-    let start = q .before .before .before .before in
-    let on = name-on colon (start .args .line .now) (q .before .loop .here .at) (p .value .given .0 .0) (sym (q .name-behind .ensures) ∙ p .value .given .1) in
-    record { fits = omega (arith, on .0, on .1, q .before .loop .inv .few, start .good .0 .0) }
+    let on = value-on (q .before .loop .inv) _ (sym (q .one .ensures) ∙ p .colon .given .1) (w .result) (w .ensures .0) in
+    record { fits = omega (arith, on .0, on .1, q .before .loop .inv .few, q .before .before .before .before .good .0 .0) }
 
 loop-less : tie.Need-loop-less Inv-loop μ-loop
 loop-less c =
-    let p = c .before .before .before .before .before .before in
+    let w = c .before .before .write-name in
+    let p = c .before .before .before .before .before in
     let q = p .before .before in
-    let start = q .before .before .before .before in
-    let on = name-on colon (start .args .line .now) (q .before .loop .here .at) (p .value .given .0 .0) (sym (q .name-behind .ensures) ∙ p .value .given .1) in
+    let on = value-on (q .before .loop .inv) _ (sym (q .one .ensures) ∙ p .colon .given .1) (w .result) (w .ensures .0) in
     omega (arith, on .0, on .1)
 
 loop-again : tie.Need-loop-again Inv-loop μ-loop
 loop-again c =
     let w = c .before .before .write-name in
-    let p = c .before .before .before .before .before .before in
+    let p = c .before .before .before .before .before in
     let q = p .before .before in
-    value-more (q .before .loop .inv) _ (sym (q .name-behind .ensures) ∙ p .value .given .1) (w .kept .1 .1 .1 .0) (w .ensures)
+    value-more (q .before .loop .inv) _ (sym (q .one .ensures) ∙ p .colon .given .1) (w .result) (w .ensures .0) (w .kept .1 .1 .0) (w .ensures .1)
 
 pub write-values-spec : {M : Type 1} → statement M
 write-values-spec =
@@ -84,12 +75,11 @@ write-values-spec =
     Inv-loop
     μ-loop
     loop-holds
-    name-behind-requires
+    one-requires
     enum-told
     same-length
     returns
-    enum-known-value
-    add-write-name
+    enum-known-colon
     write-name-requires
     add-place
     add-count
