@@ -23,7 +23,7 @@ use Rattle.frame.proofs.GrowthChain.{ended-last}
 use Rattle.frame.proofs.GrowthResized.{linked-ended}
 use Rattle.bodies.proofs.EntryChainLinked.{Joint}
 use Rattle.appending.specs.Appnd.{chainJoined}
-use Rattle.frame.proofs.FramedEntryWords.{clear-kept}
+use Rattle.frame.proofs.FramedWritten.{clear-kept}
 use Rattle.frame.proofs.ChangesWritten.{changes-then}
 use Rattle.pack.proofs.EntryWordsWritten.{clear-empty}
 use Rattle.appending.proofs.AppndMiddle.{Middle, middle}

@@ -1,5 +1,5 @@
 -- Writing a command line has an answer to every input: whether some reading gives these records is decided, and every case of the contract is met.
-use Prim.Native.Nat.{ℕ, _*_, _≤_, _<_}
+use Prim.Native.Nat.{ℕ, _*_, _<_}
 use mathlib.Core.Path.{_≡_}
 use mathlib.Core.List.{List, List-discrete}
 use native.Mathlib.Decide.{ℕ-discrete, decLt}

@@ -1,19 +1,18 @@
 -- The parts of a record are there to be found: for any numbers some part fits them, or none does.
-use Prim.Native.Nat.{ℕ, _+_, _/_, _%_, _≤_, _<_}
+use Prim.Native.Nat.{ℕ, _+_, _/_, _%_, _≤_}
 use mathlib.Core.Path.{_≡_, refl, sym}
 use mathlib.Core.Bool.{Bool, true, false}
 use mathlib.Core.List.{List}
-use mathlib.Core.Option.{Option, none, some}
+use mathlib.Core.Option.{none, some}
 use native.Mathlib.Decide.{ℕ-discrete, decLe}
 use native.Mathlib.Omega.{arith}
 use lib.Dec.{eqb}
 use lib.ListN.{getD}
 use Rattle.radix.specs.Packing.{firstCode, secondCode, thirdCode}
 use Rattle.radix.specs.NamesTest.{legalName, legalExtension}
-use Rattle.command_grammar.specs.Parsed.{Device, FileName, Uic}
 use Rattle.command_writing.specs.Sayable as Y
 use Rattle.command_writing.specs.LaidText.{fails}
-use Rattle.command_writing.specs.PartFits.{LetterCode, DeviceLetters, NameOf, SwitchNameOf, DeviceFits, ExtensionFits, NoFile, FileFits, UicFits, Front, FrontFits}
+use Rattle.command_writing.specs.PartFits.{LetterCode, DeviceLetters, NameOf, SwitchNameOf, DeviceFits, ExtensionFits, NoFile, FileFits, UicFits, FrontFits}
 use Rattle.command_writing.proofs.NameTests.{letters-two, letters-three, not-first, not-second, third-decides, refuted, named, unnamed, extended}
 use Rattle.command_writing.proofs.NameTests.{switch-named, switch-not-legal, switch-not-letter}
 use Rattle.command_writing.proofs.PartsLaid.{device-word, device-unit, device-large, device-other, extension-word, extension-blank, extension-other}

@@ -1,17 +1,16 @@
 -- At any word of records a thing is found that stands there, with how far it goes, or it is shown that none does: values, switches, specifications, sides, readings.
-use Prim.Native.Nat.{ℕ, zero, suc, _+_, _≤_, _<_}
+use Prim.Native.Nat.{ℕ, zero, suc, _+_, _≤_}
 use mathlib.Core.Path.{_≡_, refl}
-use mathlib.Core.List.{List, []}
+use mathlib.Core.List.{List}
 use native.Mathlib.Decide.{ℕ-discrete, decLe}
 use native.Mathlib.Omega.{arith}
 use lib.ListN.{length, getD}
 use Rattle.radix.specs.Names.{isLetterOrDigit}
-use Rattle.command_grammar.specs.Parsed.{Specification}
 use Rattle.command_grammar.specs.Grammar.{Between}
 use Rattle.command_switches.specs.Encoded.{switchWords}
 use Rattle.command_writing.specs.Sayable.{Each, SayableSwitch, SayableSpecification, SayableSide, SayableReading}
 use Rattle.command_writing.specs.Standing.{joined, nameWords, specificationWords, readingWords, Taken, Never}
-use Rattle.command_writing.specs.PartFits.{NameOf, SwitchNameOf, Front, FrontFits}
+use Rattle.command_writing.specs.PartFits.{NameOf, SwitchNameOf, FrontFits}
 use Rattle.command_writing.proofs.PartsSought.{PartSought, name-decided, switch-name-decided, front-sought}
 use Rattle.command_writing.proofs.PartsSought as P
 use Rattle.command_writing.proofs.StandingMany.{taken-none, taken-more, never-more, never-one}

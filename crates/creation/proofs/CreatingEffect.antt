@@ -36,7 +36,7 @@ use Rattle.frame.proofs.OwnerFramed.{owner-framed}
 use Rattle.creation.specs.declared.creating.Shape.{Shape}
 use Rattle.pack.specs.EntryWords.{wordsOf, setEntryWords}
 use Rattle.creation.specs.Creating.{newFile, entryFor}
-use Rattle.frame.proofs.FramedEntryWords.{words-kept}
+use Rattle.frame.proofs.FramedWritten.{words-kept}
 use Rattle.pack.proofs.EntryWordsWritten.{written-word, written-entry}
 use Rattle.creation.proofs.CreatingStage.{Creatable}
 

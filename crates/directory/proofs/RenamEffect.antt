@@ -28,8 +28,7 @@ use Rattle.frame.specs.Framing.Distinct.{new as unlike-others}
 use Rattle.frame.proofs.FramedStays.{stated-framed}
 use Rattle.frame.proofs.FramedCompose.{entry-kept}
 use Rattle.frame.proofs.UntouchedFramed.{untouched-refl, untouched-one}
-use Rattle.frame.proofs.FramedWritten.{kept-entry-word}
-use Rattle.frame.proofs.FramedEntryWords.{words-kept}
+use Rattle.frame.proofs.FramedWritten.{words-kept, kept-entry-word}
 use Rattle.frame.proofs.ChangesWritten.{changes-then}
 use Rattle.pack.proofs.EntryWordsWritten.{entry-set-same, entry-set-other, words-read, words-behind}
 use Rattle.directory.specs.RenamRows.{renamRows}

@@ -20,7 +20,7 @@ use Rattle.frame.specs.Framed.{Only, Never, Kept}
 use Rattle.frame.proofs.FramedStays.{stated-framed}
 use Rattle.frame.proofs.FramedHeld.{framed-never}
 use Rattle.frame.proofs.FramedCompose.{entry-kept}
-use Rattle.frame.proofs.FramedEntryWords.{clear-kept}
+use Rattle.frame.proofs.FramedWritten.{clear-kept}
 use Rattle.directory.proofs.DeletEffect.{delet-consistent}
 use Rattle.finishing.specs.ScratchTest.{isScratch, keysFrom}
 use Rattle.finishing.specs.Finish.{deletedAll, EachDeleted}

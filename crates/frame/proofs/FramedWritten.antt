@@ -5,13 +5,14 @@ use mathlib.Core.List.{List, _++_}
 use mathlib.Core.Logic.{inl}
 use native.Mathlib.Omega.{arith}
 use native.Mathlib.Decide.{decLt}
-use lib.ListN.{length, take, drop}
+use lib.ListN.{length, take, drop, replicate}
 use Rattle.words.specs.Word.{setWord}
 use Rattle.words.proofs.Word.{word-set-same, word-set-other}
 use Rattle.pack.specs.declared.Geometry.{Geometry}
-use Rattle.pack.specs.Geometry.{blockAt, blockWords, blockBytes, slots, entryAt}
+use Rattle.pack.specs.Geometry.{blockAt, blockBytes, slots, entryAt}
 use Rattle.pack.specs.File.{linkOf}
 use Rattle.pack.specs.Entry.{entryWord}
+use Rattle.pack.specs.EntryWords.{setEntryWords, clearEntry}
 use Rattle.pack.proofs.GeometryRoom.{block-room}
 use Rattle.frame.specs.Framed.{Kept}
 use Rattle.frame.specs.Framed.Within.{entry, block}
@@ -22,6 +23,13 @@ use Rattle.frame.proofs.ChangesWritten.{replaced-other, changes-word, c
 pub kept-entry-word : {Named Written : ℕ → Type 0} {g : Geometry} (img : List ℕ) (x i word : ℕ) → Named x → x < slots g → i < 16
     → Kept Named Written img (setWord img (entryAt g x + i) word) g
 kept-entry-word img x i word named within small = changes-word img _ word (entry x named within (omega arith, omega arith))
+
+pub words-kept : {Named Written : ℕ → Type 0} (words img : List ℕ) (g : Geometry) (e i : ℕ) → Named e → e < slots g → i + length words ≤ 16
+    → Kept Named Written img (setEntryWords img g e i words) g
+words-kept words img g e i named within fits = changes-words words img g e i (λ j low high. entry e named within (omega arith, omega arith))
+
+pub clear-kept : {Named Written : ℕ → Type 0} {g : Geometry} (img : List ℕ) (y : ℕ) → Named y → y < slots g → Kept Named Written img (clearEntry img g y) g
+clear-kept {g = g} img y named within = words-kept (replicate 16 0) img g y 0 named within (omega arith)
 
 -- the link of a block, and a run of its bytes
 pub kept-link : {Named Written : ℕ → Type 0} {g : Geometry} (img : List ℕ) (z word : ℕ) → Written z → g .contents < z → 0 < g .segments .0

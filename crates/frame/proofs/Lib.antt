@@ -11,7 +11,6 @@ pub mod Described
 pub mod UntouchedFramed
 pub mod OwnerFramed
 pub mod FramedWritten
-pub mod FramedEntryWords
 pub mod GrowthChain
 pub mod GrowthResized
 pub mod GrowthConsistent

@@ -36,7 +36,6 @@ use Rattle.transfer.specs.LinkedRead.{linkedRead}
 use Rattle.asking.proofs.AccessRows.{Accessed}
 use Rattle.transfer.proofs.LinkedReadStage.{linked-read-given}
 use Rattle.bodies.proofs.BlockBytes.{payload-same}
-use Rattle.requests.specs.Request.{CLOSE}
 use Rattle.promises.proofs.FileOpened.{own, asked, file-set, file-closes, closed-set, file-opens, opened-set}
 
 -- the payload of a block that is not written

@@ -31,7 +31,7 @@ use Rattle.promises.specs.GivenWhen.{GivesCode}
 use Rattle.promises.specs.Codes.{AddingCases, OtherPayload}
 use Rattle.promises.specs.LinesAgain.{WrittenBy, nothing, call}
 use Rattle.promises.proofs.GivenWhen.{last-given}
-use Rattle.promises.proofs.CodesTests.{above, either}
+use Rattle.promises.proofs.CodesTests.{above}
 use Rattle.promises.proofs.CodesBlocks.{sized, adding-code}
 use Rattle.promises.proofs.LinesAgainLaid.{Clear, clear-front, clear-behind}
 use Rattle.promises.proofs.LinesAgainCalls.{nulsTo, write-laid, write-outcome, written-so-far, written-whole, written-then, front-taken, clear-write, clear-ending}

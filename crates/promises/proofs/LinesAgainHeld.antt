@@ -30,7 +30,6 @@ use Rattle.opening.proofs.CloseEffect.{close-consistent}
 use Rattle.opening.proofs.OpenEffect.{open-consistent}
 use Rattle.bodies.specs.Payloads.{payloadsOf}
 use Rattle.bodies.proofs.Payloads.{payloads-length, payloads-same}
-use Rattle.requests.specs.Request.{CLOSE}
 use Rattle.lines.specs.LineRead.{lineFound}
 use Rattle.lines.specs.LineReadingRows.{wrongReading}
 use Rattle.lines.specs.LineReading.{modeOf, foundOutcome, lineRead}

@@ -20,7 +20,7 @@ use Rattle.stream.specs.Gather.{Gathered, gatherAll, gathered}
 use Rattle.stream.specs.AddedAll.{addedAll, EachAdded}
 use Rattle.stream.specs.AddedAll.EachAdded.{none, also}
 use Rattle.stream.proofs.Gather.{gathered-holds, gathered-bytes}
-use Rattle.stream.proofs.GatherCompose.{behind, gather-compose}
+use Rattle.stream.proofs.GatherCompose.{gather-compose}
 use Rattle.stream.proofs.AddedAll.{added-accepted, added-append, added-measures, added-number, added-words, added-payloads}
 use Rattle.promises.specs.LinesAgain.{payloadsIn}
 

@@ -1,6 +1,5 @@
 -- Rests on `SwitchesWrittenParts`: the name and the values are set first, and the count, which `write_values` knows, in the word before them.
 use borrow.Author.Needs.{needs}
-use native.Mathlib.Omega.{arith}
 use Rattle.command_switches.proofs.SwitchesWrittenParts.{behind-name, its-values-asked, switch-written}
 use Rattle.command_switches.proofs.write_switch.Statement.{statement}
 use Rattle.command_switches.proofs.write_switch.Tie as tie

@@ -1,6 +1,6 @@
 -- Rests on `RoomMapRun`: the count is that of the free blocks from here on, so the first start where it comes to the length is the highest.
 use Prim.Native.Nat.{ℕ, _-_, _≤_, _<_}
-use mathlib.Core.Path.{_≡_, refl, sym, _∙_}
+use mathlib.Core.Path.{_≡_, sym, _∙_}
 use native.Mathlib.Omega.{arith}
 use Rattle.room.proofs.RoomMapRun.{from-most, from-held, from-down, after-short, run-here, run-next, run-end, run-held}
 use Rattle.room.specs.RoomMap.{HeldFrom, freeFrom, runOn}

@@ -1,7 +1,7 @@
 -- Rests on `UnpackingWeights`: the weights that are left decide what all of them make of the word.
 use borrow.Author.Needs.{needs}
 use mathlib.Core.Path.{_≡_, refl, sym, ap, _∙_}
-use Prim.Native.Nat.{_-_, _*_, _≤_}
+use Prim.Native.Nat.{_-_, _≤_}
 use native.Mathlib.Omega.{arith}
 use lib.ListN.{drop}
 use Rattle.radix.specs.Unpacking.{weights, through}
