@@ -1,11 +1,13 @@
--- The forms of a pack. Word 0 of an image is its form, and all that a form decides of an image stands here; document 01 has form 1 alone.
+-- The forms of a pack. Word 0 of an image is its form, and all that a form decides of an image stands here: document 01 has form 1, document 02 §11 form 3,
+-- which "is form 1 with blocks of 64 words".
 use Prim.Native.Nat.{ℕ, _+_}
 use mathlib.Core.Bool.{cond}
 use lib.Dec.{eqb}
 
--- "word 0 is 1"; "A block is 256 words", of "64-word segments": the segments in a block, 0 where the form is not known
+-- "word 0 is 1"; "A block is 256 words", of "64-word segments"; "Form 3 (word 0 is 3)": "blocks of one segment".
+-- The segments in a block, 0 where the form is not known
 unfoldable pub segmentsOf : ℕ → ℕ
-segmentsOf form = cond (eqb form 1) 4 0
+segmentsOf form = cond (eqb form 1) 4 (cond (eqb form 3) 1 0)
 
 -- "word 1 is n, the blocks in all, 16 to 1024"
 abbrev pub leastBlocks : ℕ
@@ -14,16 +16,16 @@ leastBlocks = 16
 unfoldable pub mostBlocksOf : ℕ → ℕ
 mostBlocksOf form = 1024
 
--- "word 2 is c, 1 to 8"
+-- "word 2 is c, 1 to 8"; form 3: "c to 32"
 abbrev pub leastContents : ℕ
 leastContents = 1
 
 unfoldable pub mostContentsOf : ℕ → ℕ
-mostContentsOf form = 8
+mostContentsOf form = cond (eqb form 3) 32 8
 
--- "word 3 is u, 0 to 64"
+-- "word 3 is u, 0 to 64"; form 3: "at most 60 UICs"
 unfoldable pub mostUicsOf : ℕ → ℕ
-mostUicsOf form = 64
+mostUicsOf form = cond (eqb form 3) 60 64
 
 -- "contents first, then bodies": "Blocks 1 to c: 16 entries each .. Other blocks are bodies": the number of the first body in a pack of c blocks of contents
 unfoldable pub bodiesOf : ℕ → ℕ → ℕ

@@ -14,7 +14,7 @@ abbrev pub mostSegments : ℕ
 mostSegments = 4
 
 abbrev pub mostContents : ℕ
-mostContents = 8
+mostContents = 32
 
 -- the most entries of a pack of any form
 abbrev pub mostEntries : ℕ

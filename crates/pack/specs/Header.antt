@@ -22,7 +22,7 @@ pub record Listed (img : List ℕ) (uic : ℕ) : Type 0 where
 
 -- what block 0 and the image's length say: `long` bytes, the form, n, c and u
 pub record Measured (long form blocks contents uics : ℕ) : Type 0 where
-  -- "Block 0: word 0 is 1;": no other form is known (`form-known`, proofs/FormBounds.antt)
+  -- "Block 0: word 0 is 1;", or a form of document 02: which are known says `form-known` (proofs/FormBounds.antt)
   pub known : 0 < segmentsOf form
   -- "word 1 is n, the blocks in all, 16 to 1024;"
   pub blocksLeast : leastBlocks ≤ blocks
@@ -30,7 +30,7 @@ pub record Measured (long form blocks contents uics : ℕ) : Type 0 where
   -- "word 2 is c, 1 to 8;"
   pub contentsLeast : leastContents ≤ contents
   pub contentsMost : contents ≤ mostContentsOf form
-  -- there is a body: in form 1 by the bounds of n and c, in a form with other bounds by its own rule
+  -- there is a body: in form 1 by the bounds of n and c; form 3: "with c + 1 below n"
   pub room : bodiesOf form contents < blocks
   -- "word 3 is u, 0 to 64;"
   pub uicsMost : uics ≤ mostUicsOf form

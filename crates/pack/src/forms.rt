@@ -11,6 +11,9 @@ pub fn segments_of(form: usize) -> Segments
     if form == 1 {
         return Segments(4);
     }
+    if form == 3 {
+        return Segments(1);
+    }
     Segments(0)
 }
 
@@ -23,12 +26,18 @@ pub fn most_blocks(form: usize) -> usize
 pub fn most_contents(form: usize) -> usize
     ensures { λ r. ⌜ r ≡ mostContentsOf form ⌝ }
 {
+    if form == 3 {
+        return 32;
+    }
     8
 }
 
 pub fn most_uics(form: usize) -> usize
     ensures { λ r. ⌜ r ≡ mostUicsOf form ⌝ }
 {
+    if form == 3 {
+        return 60;
+    }
     64
 }
 

@@ -61,7 +61,7 @@ pub struct Place(pub usize);
 pub const MOST_BLOCKS: usize = 1024;
 
 // The most blocks of contents, segments in a block, and entries that a pack of any form has.
-pub const MOST_CONTENTS: usize = 8;
+pub const MOST_CONTENTS: usize = 32;
 
 pub const MOST_SEGMENTS: usize = 4;
 

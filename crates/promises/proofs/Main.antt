@@ -228,7 +228,7 @@ pub add-again : (img : List ℕ) (key : Key) (caller : ℕ) (payload : List ℕ)
     ≡ record { code = 0; numbers = []; image = openedImage img key caller payload; buffer = payload }
 add-again = AddedAgain.add-again
 
--- what Format is told, and what block 0 says, is right exactly in the document's numbers
+-- what Format is told, and what block 0 says, is right exactly in the papers' numbers, those of the form
 pub document-header : (long form n c u : ℕ) → Measured long form n c u ↔ DocumentHeader long form n c u
 document-header = Measures.document-header
 
@@ -288,7 +288,9 @@ stays-consistent = RequestConsistent.stays-consistent
 pub judged : (img : List ℕ) → consistent img ≡ true ↔ Consistent img
 judged = consistent-iff
 
--- in the document's numbers: blocks of 512 bytes, n from 16 to 1024, c from 1 to 8, at most 64 UICs, 16c entries, payloads of 510 bytes
+-- in the papers' numbers, a row for each form: in form 1 blocks of 512 bytes, n from 16 to 1024, c from 1 to 8, at most 64 UICs, 16c entries, payloads of
+-- 510 bytes; in form 3 (02 §11) blocks of 128 bytes, c to 32 and c + 1 below n, at most 60 UICs, 4c entries, payloads of 126 bytes. All else is said once,
+-- over the segments in a block
 pub document-measures : {img : List ℕ} → Consistent img → DocumentMeasures img
 document-measures = Measures.document-measures
 

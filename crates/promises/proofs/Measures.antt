@@ -1,70 +1,107 @@
--- Document 01's numbers follow from those of its form (crates/pack/proofs/FormBounds.antt), and nothing else outside `Form` has them.
-use Prim.Native.Nat.{ℕ}
+-- The papers' numbers follow from those of each form (crates/pack/proofs/FormBounds.antt), and nothing else outside `Form` has them.
+use Prim.Native.Nat.{ℕ, _+_, _*_, _-_, _/_, _<_}
 use mathlib.Core.Path.{_≡_, refl, ap, _∙_}
 use mathlib.Core.Logic.{_↔_}
 use mathlib.Core.List.{List}
 use native.Mathlib.Omega.{arith}
+use native.Mathlib.Nat.{mul-comm}
 use lib.ListN.{length}
 use Rattle.words.specs.Word.{wordAt}
 use Rattle.pack.specs.Form.{segmentsOf, mostBlocksOf, mostContentsOf, mostUicsOf, bodiesOf}
-use Rattle.pack.specs.Geometry.{geometryOf}
+use Rattle.pack.specs.Geometry.{segmentBytes, geometryOf}
 use Rattle.pack.specs.Header.{Measured}
 use Rattle.pack.specs.Consistent.{Consistent}
-use Rattle.pack.proofs.FormBounds.{form-known, document-segments, document-blocks, document-contents, document-uics, document-bodies}
+use Rattle.pack.proofs.FormBounds.{Known, form-1, form-3, form-known, document-segments, disk-segments}
 use Rattle.creation.proofs.AllocBlocks.{blocks-rounded}
-use Rattle.promises.specs.Measures.{DocumentHeader, DocumentMeasures}
+use Rattle.promises.specs.Measures.{HeaderNumbers, DocumentHeader, header-1, header-3, BlockNumbers, BlocksOf, blocks-1, blocks-3, DocumentMeasures}
 
--- block 0's measures, and Format's, are right exactly if they keep the paper's numbers
-module _ (long form n c u : ℕ) where
-  numbers : Measured long form n c u → DocumentHeader long form n c u
+-- block 0's measures, and Format's, are right exactly if they keep the papers' numbers
+module _ {long form n c u : ℕ} (bytes : ℕ) (is : bytes ≡ segmentBytes (segmentsOf form)) where
+  numbers : Measured long form n c u → HeaderNumbers bytes (mostBlocksOf form) (mostContentsOf form) (mostUicsOf form) long n c u
+  unfolding bodiesOf
   numbers m =
-      let is = form-known form (m .known) in
       record {
-        known = is;
         blocks-least = m .blocksLeast;
-        blocks-most = omega (arith, m .blocksMost, ap mostBlocksOf is, document-blocks);
+        blocks-most = m .blocksMost;
         contents-least = m .contentsLeast;
-        contents-most = omega (arith, m .contentsMost, ap mostContentsOf is, document-contents);
-        uics-most = omega (arith, m .uicsMost, ap mostUicsOf is, document-uics);
-        size = m .size ∙ rw (is, document-segments) (omega arith);
+        contents-most = m .contentsMost;
+        room = m .room;
+        uics-most = m .uicsMost;
+        size = m .size ∙ rw (← is) (mul-comm n bytes);
       }
 
-  measures : DocumentHeader long form n c u → Measured long form n c u
-  measures h =
+  measured : 0 < segmentsOf form → HeaderNumbers bytes (mostBlocksOf form) (mostContentsOf form) (mostUicsOf form) long n c u → Measured long form n c u
+  unfolding bodiesOf
+  measured known h =
       record {
-        known = rw (h .known, document-segments) (omega arith);
+        known = known;
         blocksLeast = h .blocks-least;
-        blocksMost = rw (h .known, document-blocks) (h .blocks-most);
+        blocksMost = h .blocks-most;
         contentsLeast = h .contents-least;
-        contentsMost = rw (h .known, document-contents) (h .contents-most);
-        room = rw (h .known, document-bodies) (omega (arith, h .contents-most, h .blocks-least));
-        uicsMost = rw (h .known, document-uics) (h .uics-most);
-        size = h .size ∙ rw (h .known, document-segments) (omega arith);
+        contentsMost = h .contents-most;
+        room = h .room;
+        uicsMost = h .uics-most;
+        size = h .size ∙ rw (← is) (mul-comm bytes n);
       }
 
-  pub document-header : Measured long form n c u ↔ DocumentHeader long form n c u
-  document-header = (numbers, measures)
+module _ (long n c u : ℕ) where
+  to-numbers : (form : ℕ) → Known form → Measured long form n c u → DocumentHeader long form n c u
+  unfolding segmentsOf mostBlocksOf mostContentsOf mostUicsOf
+  to-numbers form form-1 m = header-1 (numbers 512 refl m)
+  to-numbers form form-3 m = header-3 (numbers 128 refl m)
+
+  from-numbers : (form : ℕ) → DocumentHeader long form n c u → Measured long form n c u
+  unfolding segmentsOf mostBlocksOf mostContentsOf mostUicsOf
+  from-numbers form (header-1 h) = measured 512 refl (omega arith) h
+  from-numbers form (header-3 h) = measured 128 refl (omega arith) h
+
+pub document-header : (long form n c u : ℕ) → Measured long form n c u ↔ DocumentHeader long form n c u
+document-header long form n c u = (λ m. to-numbers long n c u form (form-known form (m .known)) m, from-numbers long n c u form)
 
 -- the measures of a consistent image
-pub document-measures : {img : List ℕ} → Consistent img → DocumentMeasures img
-unfolding geometryOf
-document-measures {img} right = by (form-known (wordAt img 0) (right .header .measured .known))
-  where
-    by : wordAt img 0 ≡ 1 → DocumentMeasures img
-    by is =
-        let four : segmentsOf (wordAt img 0) ≡ 4 = ap segmentsOf is ∙ document-segments in
-        record {
-          block-words = rw four;
-          block-bytes = rw four;
-          block-at = λ b. rw four (omega arith);
-          block-start = λ b. rw four (omega arith);
-          header = document-header (length img) (wordAt img 0) (wordAt img 1) (wordAt img 2) (wordAt img 3) .0 (right .header .measured);
-          blocks = refl;
-          contents = refl;
-          entries = rw four (omega arith);
-          entry-at = λ e. rw four;
-          bodies = ap (λ (form : ℕ). bodiesOf form (wordAt img 2)) is ∙ document-bodies (wordAt img 2);
-          payload-bytes = rw four;
-          payload-start = λ b. rw four (omega arith);
-          rounding = λ segments. blocks-rounded (geometryOf img) segments (right .header .measured .known) ∙ rw four;
-        }
+module _ {img : List ℕ} (right : Consistent img) where
+  blocks-by : (segments : ℕ) → segmentsOf (wordAt img 0) ≡ segments
+      → BlockNumbers (64 * segments) (128 * segments) (4 * segments) (128 * segments - 2) (λ n. (n + (segments - 1)) / segments) img
+  unfolding geometryOf
+  blocks-by segments is =
+      record {
+        block-words = rw is;
+        block-bytes = rw is;
+        block-at = λ b. rw is (mul-comm b (64 * segments));
+        block-start = λ b. rw is (mul-comm b (128 * segments));
+        entries = rw is (mul-comm (wordAt img 2) (4 * segments));
+        entry-at = λ e. rw is;
+        payload-bytes = rw is;
+        payload-start = λ b. rw is (ap (λ (at : ℕ). at + 2) (mul-comm b (128 * segments)));
+        rounding = λ n. blocks-rounded (geometryOf img) n (right .header .measured .known) ∙ rw is;
+      }
+
+  -- by one segment nothing is rounded
+  unrounded : BlockNumbers 64 128 4 126 (λ n. (n + 0) / 1) img → BlockNumbers 64 128 4 126 (λ n. n) img
+  unrounded b =
+      record {
+        block-words = b .block-words;
+        block-bytes = b .block-bytes;
+        block-at = b .block-at;
+        block-start = b .block-start;
+        entries = b .entries;
+        entry-at = b .entry-at;
+        payload-bytes = b .payload-bytes;
+        payload-start = b .payload-start;
+        rounding = λ n. b .rounding n ∙ omega arith;
+      }
+
+  blocks-in : (form : ℕ) → Known form → wordAt img 0 ≡ form → BlocksOf img form
+  blocks-in form form-1 is = blocks-1 (blocks-by 4 (ap segmentsOf is ∙ document-segments))
+  blocks-in form form-3 is = blocks-3 (unrounded (blocks-by 1 (ap segmentsOf is ∙ disk-segments)))
+
+  pub document-measures : DocumentMeasures img
+  unfolding geometryOf bodiesOf
+  document-measures =
+      record {
+        header = document-header (length img) (wordAt img 0) (wordAt img 1) (wordAt img 2) (wordAt img 3) .0 (right .header .measured);
+        blocks-of = blocks-in (wordAt img 0) (form-known (wordAt img 0) (right .header .measured .known)) refl;
+        blocks = refl;
+        contents = refl;
+        bodies = refl;
+      }

@@ -1,5 +1,6 @@
--- The measures of a pack in document 01's own numbers, each under its sentence. The form that word 0 names decides them, and 01 has one form.
-use Prim.Native.Nat.{ℕ, _+_, _*_, _/_, _≤_}
+-- The measures of a pack in the papers' own numbers, each under its sentence. The form that word 0 names decides them, and each form has its row:
+-- document 01 has form 1, document 02 §11 form 3.
+use Prim.Native.Nat.{ℕ, _+_, _*_, _/_, _≤_, _<_}
 use mathlib.Core.Path.{_≡_}
 use mathlib.Core.List.{List}
 use lib.ListN.{length}
@@ -8,39 +9,56 @@ use Rattle.pack.specs.Geometry.{geometryOf, blockWords, blockBytes, payloadByte
 use Rattle.bodies.specs.BlockBytes.{blockStart, payloadStart}
 use Rattle.creation.specs.Rounding.{lengthFor}
 
--- what block 0 and the image's length say, and what Format is told: `long` bytes, word 0, n, c and u
-pub record DocumentHeader (long form n c u : ℕ) : Type 0 where
-  -- "Block 0: word 0 is 1;"
-  pub known : form ≡ 1
+-- what block 0 and the image's length say, and what Format is told, in a form with blocks of so many bytes and at most so many blocks, blocks of contents
+-- and UICs: `long` bytes, n, c and u
+pub record HeaderNumbers (bytes most-blocks most-contents most-uics long n c u : ℕ) : Type 0 where
   -- "word 1 is n, the blocks in all, 16 to 1024;"
   pub blocks-least : 16 ≤ n
-  pub blocks-most : n ≤ 1024
-  -- "word 2 is c, 1 to 8;"
+  pub blocks-most : n ≤ most-blocks
+  -- "word 2 is c, 1 to 8;", and "c to 32"
   pub contents-least : 1 ≤ c
-  pub contents-most : c ≤ 8
-  -- "word 3 is u, 0 to 64;"
-  pub uics-most : u ≤ 64
+  pub contents-most : c ≤ most-contents
+  -- "with c + 1 below n": in form 1 by the bounds of n and c
+  pub room : c + 1 < n
+  -- "word 3 is u, 0 to 64;", and "at most 60 UICs"
+  pub uics-most : u ≤ most-uics
   -- "the image is 512n bytes"
-  pub size : long ≡ 512 * n
+  pub size : long ≡ bytes * n
 
+pub data DocumentHeader (long : ℕ) : (form n c u : ℕ) → Type 0 where
+  -- 01: "Block 0: word 0 is 1; word 1 is n, the blocks in all, 16 to 1024; word 2 is c, 1 to 8; word 3 is u, 0 to 64"; "the image is 512n bytes"
+  header-1 : {n c u : ℕ} → HeaderNumbers 512 1024 8 64 long n c u → DocumentHeader long 1 n c u
+  -- 02 §11: "Form 3 (word 0 is 3) is form 1 with blocks of 64 words: .. at most 60 UICs, c to 32 with c + 1 below n"
+  header-3 : {n c u : ℕ} → HeaderNumbers 128 1024 32 60 long n c u → DocumentHeader long 3 n c u
+
+-- the measures of an image whose blocks have so many words, bytes, entries and payload bytes, and which takes so many blocks for N segments
+pub record BlockNumbers (words bytes entries-each payload : ℕ) (blocks-for : ℕ → ℕ) (img : List ℕ) : Type 0 where
+  -- "A block is 256 words."
+  pub block-words : blockWords (geometryOf img) ≡ words
+  pub block-bytes : blockBytes (geometryOf img) ≡ bytes
+  -- so block b begins at that many words, and bytes, times b
+  pub block-at : (b : ℕ) → blockAt (geometryOf img) b ≡ words * b
+  pub block-start : (b : ℕ) → blockStart (geometryOf img) b ≡ bytes * b
+  -- "Blocks 1 to c: 16 entries each, of 16 words"
+  pub entries : slots (geometryOf img) ≡ entries-each * wordAt img 2
+  pub entry-at : (e : ℕ) → entryAt (geometryOf img) e ≡ words + 16 * e
+  -- "its payload is the 510 bytes that start at byte 2 of a block."
+  pub payload-bytes : payloadBytes (geometryOf img) ≡ payload
+  pub payload-start : (b : ℕ) → payloadStart (geometryOf img) b ≡ bytes * b + 2
+  -- "N segments (000: B = 4 per block) make N/4 blocks rounded up."
+  pub rounding : (segments : ℕ) → lengthFor img segments ≡ blocks-for segments
+
+pub data BlocksOf (img : List ℕ) : (form : ℕ) → Type 0 where
+  -- 01: "A block is 256 words", "16 entries each", "the 510 bytes that start at byte 2", "N/4 blocks rounded up"
+  blocks-1 : BlockNumbers 256 512 16 510 (λ segments. (segments + 3) / 4) img → BlocksOf img 1
+  -- 02 §11: "blocks of 64 words: four entries a block, .. linked payload 126 bytes, block buffers of 128 .. ALLOC of N takes N blocks."
+  blocks-3 : BlockNumbers 64 128 4 126 (λ segments. segments) img → BlocksOf img 3
+
+-- "An image's form decides, never the caller."
 pub record DocumentMeasures (img : List ℕ) : Type 0 where
-  -- "A block is 256 words.", which are 512 bytes
-  pub block-words : blockWords (geometryOf img) ≡ 256
-  pub block-bytes : blockBytes (geometryOf img) ≡ 512
-  -- so block b begins at word 256b, and at byte 512b
-  pub block-at : (b : ℕ) → blockAt (geometryOf img) b ≡ 256 * b
-  pub block-start : (b : ℕ) → blockStart (geometryOf img) b ≡ 512 * b
-  -- "Block 0: word 0 is 1; word 1 is n ..; word 2 is c ..; word 3 is u"
   pub header : DocumentHeader (length img) (wordAt img 0) (wordAt img 1) (wordAt img 2) (wordAt img 3)
+  pub blocks-of : BlocksOf img (wordAt img 0)
+  -- "word 1 is n, the blocks in all", "word 2 is c", "Blocks 1 to c ..", "Other blocks are bodies."
   pub blocks : geometryOf img .blocks ≡ wordAt img 1
   pub contents : geometryOf img .contents ≡ wordAt img 2
-  -- "Blocks 1 to c: 16 entries each, of 16 words"
-  pub entries : slots (geometryOf img) ≡ 16 * wordAt img 2
-  pub entry-at : (e : ℕ) → entryAt (geometryOf img) e ≡ 256 + 16 * e
-  -- "Other blocks are bodies."
   pub bodies : geometryOf img .bodies .0 ≡ wordAt img 2 + 1
-  -- "its payload is the 510 bytes that start at byte 2 of a block."
-  pub payload-bytes : payloadBytes (geometryOf img) ≡ 510
-  pub payload-start : (b : ℕ) → payloadStart (geometryOf img) b ≡ 512 * b + 2
-  -- "N segments (000: B = 4 per block) make N/4 blocks rounded up."
-  pub rounding : (segments : ℕ) → lengthFor img segments ≡ (segments + 3) / 4
