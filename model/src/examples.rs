@@ -1,5 +1,6 @@
 //! The examples of 01, those marked P and the others, and what readings of it are easily got wrong.
 
+mod disk;
 mod finish;
 mod lines;
 mod writing;
@@ -171,27 +172,35 @@ fn bounds_of_numbers() {
     assert_eq!(csi2(b"[400,1]/S", 0, 0, &mut []), Err(Refusal::Number.into()));
 }
 
+/// Whether Format takes these numbers. The check says the same of a header that has them.
+fn formats([word, block]: [usize; 2], blocks: usize, contents: usize, uics: usize) -> bool {
+    let bytes: Vec<u8> = (1..=uics as u16).flat_map(u16::to_le_bytes).collect();
+    let mut image = vec![0; block * blocks];
+    for (index, number) in [word, blocks, contents, uics].into_iter().enumerate() {
+        set_word(&mut image, index, number as u16);
+    }
+    image[8..8 + bytes.len()].copy_from_slice(&bytes);
+    let formatted = requests::format(&mut vec![0; block * blocks], word, blocks, contents, &bytes).is_ok();
+    assert_eq!(formatted, examine(&image).is_ok());
+    formatted
+}
+
 /// Format takes each number at its bound and refuses it beyond, and so does the check.
 #[test]
 fn bounds_of_each_form() {
-    for &form in ALL {
-        let Form { least_blocks, most_blocks, most_contents, most_uics, .. } = form;
-        let formats = |blocks: usize, contents: usize, uics: usize| {
-            let mut image = vec![0; form.block_bytes() * blocks];
-            let uics: Vec<u8> = (1..=uics as u16).flat_map(u16::to_le_bytes).collect();
-            let formatted = requests::format(&mut image, form.word as usize, blocks, contents, &uics).is_ok();
-            assert_eq!(formatted, examine(&image).is_ok());
-            formatted
-        };
-        assert!(formats(least_blocks, 1, 0) && !formats(least_blocks - 1, 1, 0));
-        assert!(formats(most_blocks, 1, 0) && !formats(most_blocks + 1, 1, 0));
-        assert!(!formats(least_blocks, 0, 0));
-        assert!(formats(most_blocks, most_contents, 0) && !formats(most_blocks, most_contents + 1, 0));
-        assert!(formats(least_blocks, 1, most_uics) && !formats(least_blocks, 1, most_uics + 1));
-        // One block is a body.
-        let most = most_contents.min(least_blocks - form.first_body(1));
-        assert!(formats(least_blocks, most, 0) && !formats(least_blocks, most + 1, 0));
+    for (form, most_contents, most_uics) in [([1, 512], 8, 64), ([3, 128], 32, 60)] {
+        assert!(formats(form, 16, 1, 0) && !formats(form, 15, 1, 0));
+        assert!(formats(form, 1024, 1, 0) && !formats(form, 1025, 1, 0));
+        assert!(!formats(form, 16, 0, 0));
+        assert!(formats(form, 1024, most_contents, 0) && !formats(form, 1024, most_contents + 1, 0));
+        assert!(formats(form, 16, 1, most_uics) && !formats(form, 16, 1, most_uics + 1));
     }
+    // The contents of form 1 are always fewer than the blocks.
+    assert!(formats([1, 512], 16, 8, 0) && !formats([1, 512], 16, 9, 0));
+    assert!(formats([3, 128], 16, 14, 0) && !formats([3, 128], 16, 15, 0));
+    assert!(formats([3, 128], 34, 32, 0) && !formats([3, 128], 33, 32, 0));
+    // The blocks of one form are no blocks of the other.
+    assert!(!formats([1, 128], 16, 1, 0) && !formats([3, 512], 16, 1, 0));
 }
 
 #[test]

@@ -295,4 +295,28 @@ mod tests {
             assert_eq!(told(&image[..image.len() / Form::ONE.segments]), [1, 0, 0, 0]);
         }
     }
+    /// The size and the header of the 64-word disk are by its own bounds (02, §11).
+    #[test]
+    fn bounds_of_form_3() {
+        let image = pack(Form::THREE);
+        assert_eq!((image.len(), told(&image)), (2048, [0; 4]));
+        for length in [512 * 16, 2047, 2049, 128 * 15, 128 * 17] {
+            let mut resized = image.clone();
+            resized.resize(length, 0);
+            assert_eq!(told(&resized), [1, 0, 0, 0]);
+        }
+        for (at, value) in [(2, 0), (2, 15), (2, 32), (2, 33), (3, 61), (3, 64), (5, 1), (63, 1)] {
+            let mut changed = image.clone();
+            set_word(&mut changed, at, value);
+            assert_eq!(told(&changed), [2, 0, at, 0]);
+        }
+        let mut largest = vec![0; 128 * 1024];
+        requests::format(&mut largest, 3, 1024, 32, &[]).expect("the arguments are good");
+        assert_eq!(told(&largest), [0; 4]);
+        set_word(&mut largest, 2, 33);
+        assert_eq!(told(&largest), [2, 0, 2, 0]);
+        largest.extend([0; 128]);
+        set_word(&mut largest, 1, 1025);
+        assert_eq!(told(&largest), [2, 0, 1, 0]);
+    }
 }

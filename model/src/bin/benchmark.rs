@@ -459,7 +459,7 @@ fn line_write_60(form: Form, way: Way, times: usize) -> Duration {
     line_write(form, way, times, TEXT)
 }
 
-/// Ten blocks of form 1.
+/// Ten blocks of form 1, and 40 of form 3.
 fn line_write_5100(form: Form, way: Way, times: usize) -> Duration {
     line_write(form, way, times, &TEXT.repeat(85))
 }

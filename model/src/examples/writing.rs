@@ -60,15 +60,21 @@ fn lines_shown_back() {
     }
 }
 
-#[test]
-fn what_no_line_says() {
+/// The records of a line with every part in it, one on each side.
+fn good() -> Vec<u8> {
     let (outputs, inputs, good) = records(b"DT1:FREQ.DAT[23,10]/SW:A1<KB:");
     assert_eq!((outputs, inputs, good.len()), (1, 1, 46));
+    good
+}
+
+fn refused(outputs: usize, inputs: usize, records: &[u8]) {
     let mut buffer = [b'?'; 128];
-    let refused = |outputs, inputs, records: &[u8], buffer: &mut [u8]| {
-        assert_eq!(csi_write(outputs, inputs, records, buffer), Err(Refusal::Argument));
-        assert!(buffer.iter().all(|&byte| byte == b'?'));
-    };
+    assert_eq!(csi_write(outputs, inputs, records, &mut buffer), Err(Refusal::Argument));
+    assert_eq!(buffer, [b'?'; 128]);
+}
+
+#[test]
+fn words_that_no_line_says() {
     let changes = [
         (0, 16 + 15),                 // a bit that does not exist
         (0, 15 - 1),                  // a device word and a unit without a device
@@ -88,18 +94,24 @@ fn what_no_line_says() {
         (9 + 5 + 4, 1),               // a name of KB:, with no bit for it
     ];
     for (word, number) in changes {
-        let mut records = good.clone();
+        let mut records = good();
         records[2 * word..2 * word + 2].copy_from_slice(&(number as u16).to_le_bytes());
-        refused(1, 1, &records, &mut buffer);
+        refused(1, 1, &records);
     }
+}
+
+#[test]
+fn lengths_and_counts_that_no_line_says() {
+    let good = good();
     for length in 0..good.len() {
-        refused(1, 1, &good[..length], &mut buffer);
+        refused(1, 1, &good[..length]);
     }
-    refused(1, 1, &[&good[..], &[0]].concat(), &mut buffer);
-    refused(1, 1, &[&good[..], &[0; 2]].concat(), &mut buffer);
+    refused(1, 1, &[&good[..], &[0]].concat());
+    refused(1, 1, &[&good[..], &[0; 2]].concat());
     for (outputs, inputs) in [(0, 2), (2, 1), (1, 2), (1, 0), (0, 0), (usize::MAX, 1), (1, usize::MAX)] {
-        refused(outputs, inputs, &good, &mut buffer);
+        refused(outputs, inputs, &good);
     }
+    let mut buffer = [b'?'; 128];
     assert_eq!(csi_write(2, 0, &good, &mut buffer), Ok(29));
     assert_eq!(buffer[..30], *b"DT1:FREQ.DAT[23,10]/SW:A1,KB:?");
 }

@@ -30,12 +30,15 @@ pub struct Form {
 }
 
 /// Every form that is known.
-pub const ALL: &[Form] = &[Form::ONE];
+pub const ALL: &[Form] = &[Form::ONE, Form::THREE];
 
 impl Form {
     /// The form of 01: "n, the blocks in all, 16 to 1024", "c, 1 to 8".
     pub const ONE: Form =
         Form { word: 1, segments: 4, system: 1, least_blocks: 16, most_blocks: 1024, most_contents: 8, most_uics: 64 };
+
+    /// The form of the 64-word disk (02, §11): "form 1 with blocks of 64 words", "at most 60 UICs, c to 32".
+    pub const THREE: Form = Form { word: 3, segments: 1, most_contents: 32, most_uics: 60, ..Form::ONE };
 
     /// The form that a number names, which is any at all: nothing is cut to a word.
     pub fn of_word(word: usize) -> Option<Form> {

@@ -2,6 +2,7 @@
 
 use crate::request::Request;
 use model::answers::{code, Answer, LookAnswer, OwnerAnswer, ReadAnswer, SpecificationAnswer, WriteAnswer};
+use model::pack::form::Form;
 use model::requests::File;
 use model::{boundary, command, conversions, requests};
 use std::fmt;
@@ -84,6 +85,14 @@ fn specification(answer: SpecificationAnswer) -> Said {
 }
 
 impl Call {
+    /// The form that a Format names, if it is one.
+    pub fn form(&self) -> Option<Form> {
+        match self.numbers {
+            Numbers::Format { form, .. } => Form::of_word(form),
+            _ => None,
+        }
+    }
+
     /// The mode and the status of a line that was read, or of text that was written.
     pub fn status(&self, answer: &Said) -> Option<(usize, usize)> {
         match self.numbers {

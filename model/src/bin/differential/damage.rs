@@ -4,7 +4,7 @@ use crate::packs::{Seen, UICS};
 use crate::random::Random;
 use crate::wrong::device_block;
 use model::pack::entry::{Entry, CONTIGUOUS};
-use model::pack::form::Form;
+use model::pack::form::{Form, ALL};
 use model::pack::header::FIRST_UIC;
 use model::words::{set_word, word};
 
@@ -31,7 +31,7 @@ pub fn damage(random: &mut Random, image: &mut Vec<u8>) {
 /// Makes a pack longer or shorter, sometimes by a block that the header knows of.
 fn damage_size(random: &mut Random, image: &mut Vec<u8>, seen: &Seen) {
     let block = seen.form.block_bytes();
-    match random.below(6) {
+    match random.below(7) {
         0 => image.truncate(match random.below(4) {
             0 => random.below(6),
             1 => image.len() - block,
@@ -46,10 +46,23 @@ fn damage_size(random: &mut Random, image: &mut Vec<u8>, seen: &Seen) {
             image.extend(random.bytes(block));
             set_word(image, 1, seen.blocks as u16 + 1);
         }
+        5 => damage_form(random, image, seen),
         _ => {
             image.truncate(image.len() - block);
             set_word(image, 1, seen.blocks as u16 - 1);
         }
+    }
+}
+
+/// Says that a pack is of another form, with as many blocks or as many bytes.
+fn damage_form(random: &mut Random, image: &mut Vec<u8>, seen: &Seen) {
+    let form = random.pick(ALL);
+    set_word(image, 0, form.word);
+    if random.chance(1, 2) {
+        image.resize(form.block_bytes() * seen.blocks, 0);
+    } else {
+        let blocks = image.len() / form.block_bytes();
+        set_word(image, 1, blocks as u16);
     }
 }
 
@@ -146,7 +159,10 @@ fn header_edges(seen: &Seen, at: usize) -> Vec<usize> {
     match at {
         0 => vec![0, 1, 2, 3, 257],
         1 => vec![0, least_blocks - 1, least_blocks, most_blocks, most_blocks + 1],
-        2 => vec![0, 1, 2, most_contents, most_contents + 1, most_contents + 2, seen.blocks - system],
+        2 => {
+            let most = seen.blocks - system;
+            vec![0, 1, 2, most_contents, most_contents + 1, most_contents + 2, most - 1, most]
+        }
         3 => vec![0, 1, most_uics - 1, most_uics, most_uics + 1],
         _ => vec![0, 0o11410, 0o5004, 1],
     }

@@ -127,7 +127,7 @@ fn run(calls: u64, seed: u64, report: &mut Report) -> Result<(), (u64, String)> 
 
 /// Makes a call on the pack or on another image, and says if it made a new pack of that; an error is what differed.
 fn one_call(random: &mut Random, pack: &mut Pair, other: &mut Pair, report: &mut Report) -> Result<bool, String> {
-    let form = Form::of_image(pack.model.slice()).expect("the pack is consistent");
+    let form = form_of(pack.model.slice());
     let request = drawing::request(random);
     let drawn = drawing::call(random, request, pack.model.slice());
     let image = match other_image(random, &drawn, pack.model.slice(), report)? {
@@ -138,11 +138,15 @@ fn one_call(random: &mut Random, pack: &mut Pair, other: &mut Pair, report: &mut
         None => &mut *pack,
     };
     let answer = compare(&drawn, image, report)?;
-    report.tally.count(form, &drawn, &answer);
+    report.tally.count(drawn.form().unwrap_or(form), &drawn, &answer);
     if examine(pack.model.slice()).is_err() {
         return Err(format!("{drawn:?}the pack is not consistent any more"));
     }
     Ok(request == Request::Format && answer[0] == 0)
+}
+
+fn form_of(pack: &[u8]) -> Form {
+    Form::of_image(pack).expect("the pack is consistent")
 }
 
 /// The image of a call that is not made on the pack itself: one to be formatted, none, or a damaged copy of the pack.
@@ -160,7 +164,7 @@ fn other_image(random: &mut Random, call: &Call, pack: &[u8], report: &mut Repor
     damage::damage(random, &mut image);
     report.damaged += 1;
     report.damaged_consistent += examine(&image).is_ok() as usize;
-    report.reports.compare(random, &image)?;
+    report.reports.compare(random, form_of(pack), &image)?;
     Ok(Some(image))
 }
 

@@ -1,33 +1,35 @@
-//! Reports on damaged packs, by the library and by the model, and how often each rule was told.
+//! Reports on damaged packs, by the library and by the model, and how often each rule was told of packs of each form.
 
 use crate::damage;
 use crate::lent::Lent;
 use crate::random::Random;
 use model::boundary;
 use model::pack::consistency::examine;
+use model::pack::form::{Form, ALL};
 use model::report::{report, RULES};
 
 #[derive(Default)]
 pub struct Reports {
-    rules: [usize; RULES],
+    /// By form, in the order of all, and rule.
+    rules: [[usize; RULES]; ALL.len()],
 }
 
 impl Reports {
-    /// A damaged pack; and where it is consistent still, it is damaged once more, up to three times.
-    pub fn compare(&mut self, random: &mut Random, image: &[u8]) -> Result<(), String> {
-        self.compare_one(image)?;
+    /// A damaged pack of a form; and where it is consistent still, it is damaged once more, up to three times.
+    pub fn compare(&mut self, random: &mut Random, form: Form, image: &[u8]) -> Result<(), String> {
+        self.compare_one(form, image)?;
         let mut image = image.to_vec();
         for _ in 0..3 {
             if examine(&image).is_err() {
                 break;
             }
             damage::damage(random, &mut image);
-            self.compare_one(&image)?;
+            self.compare_one(form, &image)?;
         }
         Ok(())
     }
 
-    fn compare_one(&mut self, image: &[u8]) -> Result<(), String> {
+    fn compare_one(&mut self, form: Form, image: &[u8]) -> Result<(), String> {
         let (lent, kept) = (Lent::new(image), Lent::new(image));
         let (library, model) = (boundary::report(lent.slice()), report(image));
         if library != model {
@@ -39,20 +41,27 @@ impl Reports {
         if (model.rule == 0) != examine(image).is_ok() {
             return Err(format!("a report on {} bytes is not as the check: {model:?}", image.len()));
         }
-        self.rules[model.rule] += 1;
+        let index = ALL.iter().position(|&other| other == form).expect("it was drawn from all");
+        self.rules[index][model.rule] += 1;
         Ok(())
     }
 
     pub fn print(&self) {
-        print!("{:10} {:8}  rule: times", "Report", self.rules.iter().sum::<usize>());
-        for (rule, times) in self.rules.iter().enumerate() {
-            print!("  {rule}: {times}");
+        for (form, rules) in ALL.iter().zip(&self.rules) {
+            print!("{:10} {:8}  form {}, rule: times", "Report", rules.iter().sum::<usize>(), form.word);
+            for (rule, times) in rules.iter().enumerate() {
+                print!("  {rule}: {times}");
+            }
+            println!();
         }
-        println!();
     }
 
-    /// The rules that were never told.
+    /// The rules that were never told of a pack of a form.
     pub fn missed(&self) -> Vec<String> {
-        (0..RULES).filter(|&rule| self.rules[rule] == 0).map(|rule| format!("rule {rule} of a report")).collect()
+        let of_form = |(form, rules): (&Form, &[usize; RULES])| {
+            let never = (0..RULES).filter(|&rule| rules[rule] == 0);
+            never.map(|rule| format!("rule {rule} of a report in form {}", form.word)).collect::<Vec<_>>()
+        };
+        ALL.iter().zip(&self.rules).flat_map(of_form).collect()
     }
 }

@@ -19,7 +19,7 @@ fn index(request: Request) -> usize {
 }
 
 impl Tally {
-    /// Counts a call that was drawn for a pack of a form.
+    /// Counts a call that was drawn for a pack of a form, or to make one.
     pub fn count(&mut self, form: Form, call: &Call, answer: &Said) {
         let request = index(call.request);
         *self.codes.entry((form.word, request, answer[0])).or_default() += 1;
