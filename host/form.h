@@ -24,7 +24,11 @@ typedef struct {
 static const pack_form forms[] = {
     { ABZ_FORM, ABZ_BLOCK_BYTES, ABZ_PAYLOAD_BYTES, ABZ_BLOCK_SEGMENTS, ABZ_BLOCK_ENTRIES, ABZ_BLOCKS_LEAST,
       ABZ_BLOCKS_MOST, ABZ_CONTENTS_LEAST, ABZ_CONTENTS_MOST, ABZ_UICS_MOST, 1 },
+    { ABZ_FORM_3, ABZ_BLOCK_BYTES_3, ABZ_PAYLOAD_BYTES_3, ABZ_BLOCK_SEGMENTS_3, ABZ_BLOCK_ENTRIES_3, ABZ_BLOCKS_LEAST,
+      ABZ_BLOCKS_MOST, ABZ_CONTENTS_LEAST, ABZ_CONTENTS_MOST_3, ABZ_UICS_MOST_3, 1 },
 };
+
+enum { FORMS = sizeof forms / sizeof *forms };
 
 /* The most of all forms, for the room of what is read or lent. */
 enum {
@@ -39,7 +43,7 @@ enum {
 /* The form of a number; NULL if there is none. */
 static inline const pack_form *form_numbered(size_t number)
 {
-    for (size_t i = 0; i < sizeof forms / sizeof *forms; i++)
+    for (size_t i = 0; i < FORMS; i++)
         if (forms[i].number == number)
             return &forms[i];
     return NULL;

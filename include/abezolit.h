@@ -113,15 +113,18 @@ size_t abz_bin2o(size_t number, uint8_t *chars, size_t chars_len);
  * measures, whoever calls; that of a new pack is an argument of abz_format. Where a block's bytes, a payload's bytes or
  * a bound is told of below, those of the image's form are meant:
  *
- *   form                             1
- *   bytes of a block                 512
- *   bytes of a payload               510          a block's but for its link, in a linked file; a gather buffer's
- *   segments of a block              4            of 64 words; ALLOC counts in them
- *   entries of a block of contents   16
- *   n, blocks                        16 to 1024
- *   c, blocks of contents            1 to 8
- *   u, UICs                          0 to 64
- *   first block of the bodies        c + 1
+ *   form                             1            3
+ *   bytes of a block                 512          128
+ *   bytes of a payload               510          126          a block's but for its link, in a linked file; a gather
+ *                                                              buffer's
+ *   segments of a block              4            1            of 64 words; ALLOC counts in them
+ *   entries of a block of contents   16           4
+ *   n, blocks                        16 to 1024   16 to 1024
+ *   c, blocks of contents            1 to 8       1 to 32      and c + 1 below n
+ *   u, UICs                          0 to 64      0 to 60
+ *   first block of the bodies        c + 1        c + 1
+ *
+ * Form 3 is that of the 64-word disk. A buffer that has the size of the other form is one of a wrong size.
  *
  * The blocks of an image are:
  *
@@ -170,7 +173,7 @@ size_t abz_bin2o(size_t number, uint8_t *chars, size_t chars_len);
  * inconsistent.
  */
 
-/* The measures of form 1. Those of each form stand in the table above; word 0 of an image says which are its. */
+/* The measures of form 1. Word 0 of an image says whether they are its. */
 enum {
     ABZ_FORM           = 1,
     ABZ_BLOCK_BYTES    = 512,
@@ -185,6 +188,17 @@ enum {
     ABZ_UICS_MOST      = 64
 };
 
+/* Those of form 3 that are others. */
+enum {
+    ABZ_FORM_3           = 3,
+    ABZ_BLOCK_BYTES_3    = 128,
+    ABZ_PAYLOAD_BYTES_3  = 126,
+    ABZ_BLOCK_SEGMENTS_3 = 1,
+    ABZ_CONTENTS_MOST_3  = 32,
+    ABZ_BLOCK_ENTRIES_3  = 4,
+    ABZ_UICS_MOST_3      = 60
+};
+
 /* The kinds of files. */
 enum {
     ABZ_CONTIGUOUS = 1,
@@ -195,8 +209,9 @@ enum {
  * Makes an empty pack of an image, whatever that held: block 0 becomes the header with form, n = blocks, c = contents
  * and the UICs in uics, two bytes each, low byte first; blocks 1 to c become 0. All other blocks are free then, and
  * keep their bytes, so what earlier files had there can still be seen in the image.
- *   ABZ_ARGUMENT  form is not 1; blocks or contents are not within the form's bounds, or image_len is not that of so
- *                 many blocks; uics_len is odd, or of more UICs than the form has; a UIC is 0, or is twice in uics.
+ *   ABZ_ARGUMENT  form is neither 1 nor 3; blocks or contents are not within the form's bounds, or no body would be
+ *                 left; image_len is not that of so many blocks; uics_len is odd, or of more UICs than the form has; a
+ *                 UIC is 0, or is twice in uics.
  */
 size_t abz_format(uint8_t *image, size_t image_len, size_t form, size_t blocks, size_t contents,
                   const uint8_t *uics, size_t uics_len);
@@ -240,7 +255,8 @@ abz_owner_answer abz_owner(const uint8_t *image, size_t image_len, size_t block)
 enum {
     ABZ_CONSISTENT   = 0, /* none is broken */
     ABZ_RULE_SIZE    = 1, /* the image is not n blocks long, or has no word 1; one of no form is measured as form 1 */
-    ABZ_RULE_HEADER  = 2, /* word of block 0: of two UICs alike the later */
+    ABZ_RULE_HEADER  = 2, /* word of block 0, by the bounds of the form: 2 also where no body is left; of two UICs alike
+                             the later */
     ABZ_RULE_ENTRY   = 3, /* entry and word: 0 where no legal name begins with it, else 1; 3 a UIC that is not in the list;
                              9 the writer; 10 readers, with the writer */
     ABZ_RULE_NAME    = 4, /* entry, and word 3: an earlier file has all four numbers alike */
@@ -424,9 +440,9 @@ size_t abz_appnd(uint8_t *image, size_t image_len, size_t caller,
  *   ABZ_NO_ROOM       ALLOC only: nowhere are so many blocks free in a row.
  *
  * ALLOC makes a contiguous file that is closed and large enough for so many segments of 64 words: it has as many blocks
- * as have these, segments / 4 rounded up in form 1; any number may be asked for. Of all places where so many blocks are
- * free in a row, it gets the one that starts highest; number is its first block. Every byte of the blocks is then 0,
- * whatever they held.
+ * as have these, segments / 4 rounded up in form 1, and segments in form 3; any number may be asked for. Of all places
+ * where so many blocks are free in a row, it gets the one that starts highest; number is its first block. Every byte of
+ * the blocks is then 0, whatever they held.
  *
  * OPENO makes a linked file that has no block and is open for output: its writer is ABZ_OUTPUT. It needs no free block.
  */

@@ -41,6 +41,7 @@ _abz_argument() {
     DIRECTORY) option=-d ;;
     CALLER) _abz_offer "$(_abz_uics "$abz" "$pack")" ;;
     FILE | OLD | FIRST | SECOND | PATTERN) _abz_offer "$(_abz_files "$abz" "$pack" "$caller")" ;;
+    FORM) _abz_offer $'1\n3' ;;
     MODE) _abz_offer $'update\noutput\nextension\ninput' ;;
     COMMAND) _abz_offer "$(_abz_commands "$abz")" ;;
     esac
@@ -80,7 +81,7 @@ _abz() {
         _abz_offer "$(_abz_commands "$abz")"$'\n--help\n--wait'
         return
     fi
-    # Of a command with several forms the second word says which it is.
+    # Of a command with several variants the second word says which it is.
     while read -r line; do
         if [[ $line != --* ]]; then
             synopsis=$line

@@ -7,7 +7,7 @@
 #define COMMANDS_H
 
 typedef struct {
-    const char *name;     /* a command; or with an option behind it a form of one that takes other arguments */
+    const char *name;     /* a command; or with an option behind it a variant of one that takes other arguments */
     const char *synopsis; /* its options, then its arguments; in brackets what may be left out */
     int least, most;      /* how many arguments it takes */
     int (*run)(char **arguments);

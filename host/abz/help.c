@@ -31,6 +31,8 @@ static const struct {
       "one has what it had." },
     { "MODE", "how a file is open: update, output, extension or input, or 1 to 4" },
     { "SEGMENTS", "decimal; of 128 bytes each" },
+    { "FORM", "how a pack is laid out: 1, or 3 for a disk with blocks of 64 words;\n"
+              "1 if left out" },
     { "BLOCKS, CONTENTS", "decimal" },
     { "HOSTFILE",
       "a file of this computer; - is standard input or standard output.\n"
@@ -112,7 +114,7 @@ int show_help(const command *rows, size_t count, const char *rest)
     return show_end() ? STATUS_DONE : STATUS_FAILED;
 }
 
-/* Whether a form of the command takes it. */
+/* Whether a variant of the command takes it. */
 static bool takes(const command *rows, size_t count, const char *name, const char *names)
 {
     for (size_t i = 0; i < count; i++)

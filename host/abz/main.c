@@ -18,14 +18,15 @@
 
 static int command_help(char **arguments);
 
-/* A form stands behind its command. */
+/* A variant stands behind its command. */
 static const command commands[] = {
-    { "format", "[--force] PACK BLOCKS CONTENTS [UIC]...", 3, INT_MAX, command_format,
+    { "format", "[--form FORM] [--force] PACK BLOCKS CONTENTS [UIC]...", 3, INT_MAX, command_format,
       "make an empty pack in the file PACK, also if there is one already:\n"
       "then all that it held is gone. A file that is no pack is overwritten\n"
       "only with --force. BLOCKS is 16 to 1024, of 512 bytes each. CONTENTS,\n"
-      "1 to 8, is how many of them list the files, 16 in each. Only the UICs\n"
-      "given here can own files." },
+      "1 to 8, is how many of them list the files, 16 in each. With --form 3\n"
+      "blocks have 128 bytes, and CONTENTS is 1 to 32, with 4 files in each.\n"
+      "Only the UICs given here can own files." },
     { "list", "[--opens] [--use] PACK", 1, 1, command_list,
       "how many blocks there are and are free; then each file: its name,\n"
       "C contiguous or L linked, its blocks, owner and protect code. With\n"
@@ -52,8 +53,8 @@ static const command commands[] = {
       "all that the pack says of a file, and how many of its bytes are in\n"
       "use, which are those up to the last that is not NUL" },
     { "alloc", "PACK CALLER FILE SEGMENTS [PROTECT]", 4, 5, command_alloc,
-      "make a contiguous file, of a block for every 4 SEGMENTS; prints its\n"
-      "first block. Its bytes are all 0." },
+      "make a contiguous file, of a block for every 4 SEGMENTS, in form 3 for\n"
+      "every one; prints its first block. Its bytes are all 0." },
     { "delete", "PACK CALLER FILE", 3, 3, command_delete,
       "delete a file" },
     { "rename", "PACK CALLER OLD NEW [PROTECT]", 4, 5, command_rename,
@@ -75,7 +76,7 @@ static const command commands[] = {
       "of MODE goes, or every open where MODE is missing." },
     { "put", "PACK CALLER FILE HOSTFILE [PROTECT]", 4, 5, command_put,
       "make a linked file with the bytes of HOSTFILE. It has 510 bytes in\n"
-      "each block; the last is filled up with NUL." },
+      "each block, in form 3 126; the last is filled up with NUL." },
     { "put --all", "[--protect PROTECT] PACK CALLER HOSTFILE...", 3, INT_MAX, command_put_all,
       "the same for each HOSTFILE, under its own name in capitals, without\n"
       "its directories: all of them, or none. Lists them, as list --use does,\n"
@@ -146,7 +147,7 @@ static int command_help(char **arguments)
                         : show_help(commands, COMMANDS, rest_of_help);
 }
 
-/* The row for these words: that of the form whose option comes first, else the command's own. NULL if there is none. */
+/* The row for these words: that of the variant whose option comes first, else the command's own. NULL if there is none. */
 static const command *row_of(char **words)
 {
     const command *found = NULL;

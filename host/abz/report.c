@@ -52,6 +52,17 @@ static void show_line(const abz_report_answer *report)
 
 /* ---- The words ---- */
 
+/* How many they are, or that no block is left behind them. */
+static void show_contents_words(const pack_form *form)
+{
+    const size_t contents = contents_blocks(pack.image);
+
+    if (contents < form->contents_least || contents > form->contents_most)
+        printf("the blocks of contents are not %zu to %zu", form->contents_least, form->contents_most);
+    else
+        printf("the blocks of contents leave none for files");
+}
+
 static const char *list_words(size_t word)
 {
     if (word < 4 + word_at(pack.image + 2 * 3))
@@ -64,9 +75,9 @@ static void show_header_words(size_t word)
     const pack_form *form = form_of(pack.image);
 
     switch (word) {
-    case 0: printf("the form is not 1"); break;
+    case 0: printf("there is no form of that number"); break;
     case 1: printf("the number of blocks is not %zu to %zu", form->blocks_least, form->blocks_most); break;
-    case 2: printf("the blocks of contents are not %zu to %zu", form->contents_least, form->contents_most); break;
+    case 2: show_contents_words(form); break;
     case 3: printf("there are more than %zu UICs", form->uics_most); break;
     default: printf("%s", list_words(word)); break;
     }

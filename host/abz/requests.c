@@ -57,14 +57,36 @@ static bool read_uics(char **texts, const pack_form *form, uint8_t uics[2 * UICS
     return true;
 }
 
+/* The form of a new pack: that which the option names, else form 1. NULL if there is no such form. */
+static const pack_form *read_form(const char *text)
+{
+    const pack_form *form;
+    size_t number = ABZ_FORM;
+
+    if (text && !read_decimal("FORM", text, 0, SIZE_MAX, &number))
+        return NULL;
+    form = form_numbered(number);
+    if (form == NULL)
+        complain("FORM: '%s': there is no such form", text);
+    return form;
+}
+
+/* How many blocks of contents a pack of so many blocks can have: a body is left. */
+static size_t most_contents(const pack_form *form, size_t blocks)
+{
+    const size_t left = blocks - form->system - 1;
+
+    return left < form->contents_most ? left : form->contents_most;
+}
+
 int command_format(char **arguments)
 {
-    const pack_form *form = form_numbered(ABZ_FORM);
+    const pack_form *form = read_form(option("--form"));
     size_t blocks, contents, length;
     uint8_t uics[2 * UICS_MOST];
 
-    if (!read_decimal("BLOCKS", arguments[1], form->blocks_least, form->blocks_most, &blocks)
-        || !read_decimal("CONTENTS", arguments[2], form->contents_least, form->contents_most, &contents)
+    if (form == NULL || !read_decimal("BLOCKS", arguments[1], form->blocks_least, form->blocks_most, &blocks)
+        || !read_decimal("CONTENTS", arguments[2], form->contents_least, most_contents(form, blocks), &contents)
         || !read_uics(arguments + 3, form, uics, &length))
         return STATUS_USAGE;
     if (!pack_begin(&pack, arguments[0], form, blocks, option("--force")))

@@ -211,21 +211,45 @@ static void causes(void)
     }
 }
 
-/* Every size up to two blocks, and those that are right in their low 16 bits. */
+/* Every size up to two blocks of any form, and those that are right in their low 16 bits. */
 static void sizes(void)
 {
+    enum { END = 2 * BLOCK_MOST };
     const size_t block = tried->block, payload = tried->payload;
     const size_t more[] = { 65535, 65536, 65535 + payload, 65536 + payload, 65535 + block, 65536 + block };
     static uint8_t pack[SMALL_ROOM];
     const size_t length = make_open(pack);
 
     for (size_t what = BLOCK_IN; what < ALLOC; what++)
-        for (size_t i = 0; i <= 2 * block + COUNT(more); i++) {
+        for (size_t i = 0; i <= END + COUNT(more); i++) {
             request it = request_on(pack, what, entry_for(what), 0);
-            const size_t size = i <= 2 * block ? i : more[i - 2 * block - 1], code = size == it.buffer_len ? 0 : 041;
+            const size_t size = i <= END ? i : more[i - END - 1], code = size == it.buffer_len ? 0 : 041;
             it.buffer_len = size;
             memcpy(image, pack, length);
             CHECK_NUMBER(try_request("size", i, length, it), code, "size %zu", size);
+        }
+}
+
+/* Packs of one length in every form: word 0 alone says whose buffers are taken. Those of the other device get 41. */
+static void other_devices(void)
+{
+    enum { BYTES = 32 * BLOCK_MOST };
+    static uint8_t pack[BYTES];
+    const size_t n = BYTES / tried->block, two[] = { n - 5, n - 4 };
+
+    chance_bytes(pack, BYTES);
+    CHECK_NUMBER(make_pack(pack, n, 1, users, COUNT(users)), BYTES, "other devices: length");
+    put_contiguous(pack, EXTENT, key_of("FREQ  ", "DAT", ME), n - 3, 3);
+    put_linked(pack, THREE, key_of("ABCDEF", "999", ME), two, COUNT(two));
+    set_open(pack, EXTENT, 1, 0);
+    set_open(pack, THREE, 3, 1);
+    for (size_t what = BLOCK_IN; what < ALLOC; what++)
+        for (const pack_form *other = forms; other < forms + FORMS; other++) {
+            request it = request_on(pack, what, entry_for(what), 1);
+            it.buffer_len = what <= BLOCK_OUT ? other->block : other->payload;
+            memcpy(image, pack, BYTES);
+            CHECK_NUMBER(try_request("other device", other->number, BYTES, it), other->block == tried->block ? 0 : 041,
+                         "%s: a buffer of form %zu for form %zu", request_names[what], other->number, tried->number);
         }
 }
 
@@ -431,6 +455,7 @@ int main(void)
         protect_codes();
         causes();
         sizes();
+        other_devices();
         places();
         rewriting();
         free_blocks();
@@ -439,6 +464,7 @@ int main(void)
         huge_everywhere();
         chance_requests(BLOCK_IN, ALLOC, 300, 40);
         damaged_images(BLOCK_IN, ALLOC, 60);
+        other_forms(BLOCK_IN, ALLOC);
         large_packs();
         check_given(BLOCK_IN, ALLOC);
     }

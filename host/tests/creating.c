@@ -50,6 +50,22 @@ static void listing_example(void)
     CHECK_NUMBER(image[length - 1], 0, "example: ALLOC of 9, the last byte of its body");
 }
 
+/* On the 64-word disk a segment is a block, written out too. */
+static void segment_example(void)
+{
+    static const uint8_t entry[32] = { 0125, 050, 0100, 0152, 074, 031, 010, 023, 3, 0, 1, 0, 7, 0, 9, 0, 15, 0 };
+    static const uint8_t uics[] = { 010, 023 };
+
+    memset(image, 0xA5, 128 * 16);
+    CHECK_NUMBER(abz_format(image, 128 * 16, 3, 16, 1, uics, sizeof uics), 0, "example: format of form 3");
+    expect_alloc(128 * 16, 15, 042, 0);
+    expect_alloc(128 * 16, 9, 0, 7);
+    CHECK_BYTES(image + 128, entry, sizeof entry, "example: ALLOC of 9 in form 3, entry");
+    CHECK_NUMBER(image[128 * 7 - 1], 0xA5, "example: ALLOC of 9 in form 3, the byte before its body");
+    CHECK_NUMBER(image[128 * 7], 0, "example: ALLOC of 9 in form 3, body");
+    CHECK_NUMBER(image[128 * 16 - 1], 0, "example: ALLOC of 9 in form 3, the last byte of its body");
+}
+
 /* 14 blocks are free, or there is no entry. */
 static void alloc_examples(void)
 {
@@ -268,9 +284,65 @@ static void large_packs(void)
     CHECK_NUMBER(try_request("largest", 0, length, it), 0, "the largest file");
 }
 
+/* A name for each number below 1000. */
+static file_key of_many(size_t number)
+{
+    char name[] = "M000  ";
+
+    for (size_t i = 3; i > 0; i--, number /= 10)
+        name[i] = (char)('0' + number % 10);
+    return key_of(name, "   ", ME);
+}
+
+/* Adds to a linked file until no block is free. Returns how many were added. */
+static size_t add_all(size_t length, file_key key)
+{
+    request it = { .what = LINKED_ADD, .caller = ME, .file = key, .buffer_len = tried->payload };
+    size_t count = 0;
+
+    while (try_request("full pack", count, length, it) == 0)
+        count++;
+    return count;
+}
+
+/* As many blocks, contents and files as there can be, and no block free: a file of 6 blocks in each entry but the last. */
+static void full_pack(void)
+{
+    const size_t n = tried->blocks_most, c = tried->contents_most, files = tried->entries * c;
+    const size_t length = make_empty(image, n, c), bodies = n - first_body(tried, c);
+    request it = { .what = ALLOC, .caller = ME, .segments = 6 * tried->segments };
+
+    CHECK_NUMBER(files, 128, "full pack: files");
+    for (size_t i = 0; i + 1 < files; i++) {
+        it.file = of_many(i);
+        CHECK_NUMBER(try_request("full pack", i, length, it), 0, "full pack: file %zu", i);
+    }
+    it.what = OPENO;
+    it.file = of_many(files - 1);
+    CHECK_NUMBER(try_request("full pack", files, length, it), 0, "full pack: the last file");
+    CHECK_NUMBER(add_all(length, it.file), bodies - 6 * (files - 1), "full pack: blocks of the last file");
+    for (size_t block = 0; block < n; block++)
+        CHECK_NUMBER(abz_owner(image, length, block).kind == ABZ_FREE, false, "full pack: block %zu", block);
+    CHECK_NUMBER(abz_report(image, length).rule, 0, "full pack: report");
+
+    /* No entry, and no room behind that; where one file goes, there is an entry, and its blocks are room. */
+    it.file = of_many(files);
+    CHECK_NUMBER(try_request("full pack", files, length, it), 012, "full pack: OPENO");
+    it.what = ALLOC;
+    CHECK_NUMBER(try_request("full pack", files, length, it), 012, "full pack: ALLOC");
+    request delet = { .what = DELET, .caller = ME, .file = of_many(77) };
+    CHECK_NUMBER(try_request("full pack", 77, length, delet), 0, "full pack: DELET");
+    it.segments++;
+    CHECK_NUMBER(try_request("full pack", files, length, it), 042, "full pack: ALLOC of too much");
+    it.segments--;
+    CHECK_NUMBER(try_request("full pack", files, length, it), 0, "full pack: ALLOC of what went");
+    CHECK_NUMBER(find_below(image, it.file, files), 77, "full pack: its entry");
+}
+
 int main(void)
 {
     listing_example();
+    segment_example();
     EACH_FORM {
         alloc_examples();
         openo_examples();
@@ -282,7 +354,9 @@ int main(void)
         chance_requests(ALLOC, REQUESTS, 200, 20);
         chance_requests(OPENI, REQUESTS, 200, 60);
         damaged_images(ALLOC, REQUESTS, 60);
+        other_forms(ALLOC, REQUESTS);
         large_packs();
+        full_pack();
         check_given(ALLOC, REQUESTS);
     }
     return check_end("creating");

@@ -8,12 +8,13 @@
 
 #include "listing.h"
 
-/* The bytes of the pack, which has 16 blocks. The day is one of form 1. */
+/* The bytes of the pack, which has 16 blocks. */
 static size_t pack;
 
-/* What is written: to the logs, to the table, and to the month's text, a line for each day. */
+/* What is written: to the logs, to the table, and to the month's text, a line for each day up to today. */
 static uint8_t payloads[6][PAYLOAD_MOST], blocks[3][BLOCK_MOST];
 static char lines[30][64];
+static size_t today;
 
 /* ---- What a step is held to ---- */
 
@@ -155,8 +156,9 @@ static void noon(void)
                               "NOON  .LOG L 00002 [023,010] 003\n");
     DONE_UNSEEN(abz_close(image, pack, ME, FILE4(log), ABZ_OUTPUT));
 
-    REFUSED(abz_alloc(image, pack, ME, FILE4(table), 3, 37).code, ABZ_NO_ROOM);
-    const abz_answer answer = abz_alloc(image, pack, ME, FILE4(table), 3, 9);
+    /* Of 9 blocks and a segment more; of 3 blocks, of which the last is asked for one segment. */
+    REFUSED(abz_alloc(image, pack, ME, FILE4(table), 3, 9 * tried->segments + 1).code, ABZ_NO_ROOM);
+    const abz_answer answer = abz_alloc(image, pack, ME, FILE4(table), 3, 2 * tried->segments + 1);
     DONE(answer.code);
     CHECK_NUMBER(answer.number, 8, "%s: first block", part);
     shows("ss......22211000", "BLOCKS 00016 FREE 00006\n"
@@ -213,21 +215,23 @@ static void shows_month(size_t length)
     shows(letters, listing);
 }
 
-/* A text with a line for each day of the month: those that are over, and then today's, which begins another block. */
+/*
+ * A text with a line for each day of the month: those that are over, which fill two blocks and something of a third, and
+ * then today's, which begins another block.
+ */
 static void month(void)
 {
     static uint8_t gather[PAYLOAD_MOST];
     const file_key days = named("MONTH TXT", 0);
-    const size_t today = COUNT(lines) - 1;
     size_t filled = 0, laid = 0;
 
     for (size_t i = 0; i < COUNT(lines); i++)
         sprintf(lines[i], "%02zu NOV 1971\t%zu MB\tWIND SW %zu\tSEA %zu\n", i + 1, 1003 + i, i % 9, i % 7);
     DONE(abz_openo(image, pack, ME, FILE4(days), 3));
-    for (size_t i = 0; i < today; i++) {
+    for (today = 0; laid <= 2 * tried->payload; today++) {
         shows_month(laid / tried->payload);
-        write_line(days, lines[i], gather, &filled);
-        laid += strlen(lines[i]) + 3; /* a RUBOUT behind each TAB */
+        write_line(days, lines[today], gather, &filled);
+        laid += strlen(lines[today]) + 3; /* a RUBOUT behind each TAB */
         CHECK_NUMBER(filled, laid % tried->payload, "%s: filled", part);
     }
     shows_month(2);
@@ -278,7 +282,7 @@ static void reading_lines(void)
     uint8_t byte = '?';
 
     DONE_UNSEEN(abz_openi(image, pack, OTHER, FILE4(days)));
-    for (size_t i = 0; i < COUNT(lines); i++)
+    for (size_t i = 0; i <= today; i++)
         read_line(OTHER, days, lines[i], &position);
 
     const abz_read_answer answer = abz_line_read(image, pack, OTHER, FILE4(days), ABZ_SPECIAL, position, &byte, 1);
@@ -335,10 +339,12 @@ int main(void)
         { "reading", reading }, { "reading lines", reading_lines }, { "night", night },
     };
 
-    pack = tried->block * 16;
-    for (size_t i = 0; i < COUNT(day); i++) {
-        part = day[i].name;
-        day[i].part();
+    EACH_FORM {
+        pack = tried->block * 16;
+        for (size_t i = 0; i < COUNT(day); i++) {
+            part = day[i].name;
+            day[i].part();
+        }
     }
     return check_end("day");
 }

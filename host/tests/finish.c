@@ -191,7 +191,7 @@ static void full_contents(void)
 static void by_chance(void)
 {
     for (size_t i = 0; i < 200; i++) {
-        const size_t c = 1 + chance(8), n = 16 + chance(i % 10 ? 100 : 1000);
+        const size_t c = 1 + chance(tried->contents_most), n = first_body(tried, c) + 14 + chance(i % 10 ? 100 : 900);
         size_t files = chance(tried->entries * c + 1), length;
 
         length = chance_pack(image, n, c, files < 90 ? files : 90);

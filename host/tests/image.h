@@ -17,7 +17,12 @@
 /* A test goes through the forms. */
 static const pack_form *tried = forms;
 
-#define EACH_FORM for (tried = forms; tried < forms + sizeof forms / sizeof *forms; tried++)
+#define EACH_FORM for (tried = forms; tried < forms + FORMS; tried++)
+
+/* What word 0 may say: the number of each form, and such as no form has, also where their low byte is one's. */
+static const size_t form_words[] = { 0, 1, 2, 3, 4, 5, 6, 7, 8, 255, 256, 257, 258, 259, 513, 771, 32769, 65535 };
+
+enum { FORM_WORDS = sizeof form_words / sizeof *form_words };
 
 enum { ENTRY_WORDS = ABZ_ENTRY_BYTES / 2 };
 

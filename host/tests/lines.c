@@ -224,6 +224,7 @@ static void refused_writes(void)
     expect_refused(length, ME, absent, payload, SIZE_MAX, 041);
     expect_refused(length, ME, absent, payload, payload, 041);
     expect_refused(length, ME, absent, payload - 1, payload - 1, 041);
+    expect_refused(length, ME, absent, payload == 126 ? 510 : 126, 0, 041); /* the other device's */
     expect_refused(length, ME, absent, payload, payload - 1, 2);
     expect_refused(length, OTHER, flat, payload, payload - 1, 6);
     expect_refused(length, ME, three, payload, payload - 1, 6);
@@ -395,18 +396,19 @@ static void filled_counts(void)
     }
 }
 
-/* Every size up to two blocks, and those that are right in their low 16 bits. */
+/* Every size up to two blocks of any form, and those that are right in their low 16 bits. */
 static void sizes(void)
 {
+    enum { END = 2 * BLOCK_MOST };
     const size_t block = tried->block, payload = tried->payload;
     const size_t more[] = { 65535, 65536, 65535 + payload, 65536 + payload, 65535 + block, 65536 + block };
     static uint8_t pack[SMALL_ROOM];
     const size_t length = make_open(pack);
 
     for (size_t what = 0; what < CALLS; what++)
-        for (size_t i = 0; i <= 2 * block + COUNT(more); i++) {
+        for (size_t i = 0; i <= END + COUNT(more); i++) {
             line_call it = call_on(pack, what, THREE, i % MODES);
-            it.buffer_len = i <= 2 * block ? i : more[i - 2 * block - 1];
+            it.buffer_len = i <= END ? i : more[i - END - 1];
             it.filled = 7;
             it.text_len = 11;
             memcpy(image, pack, length);
@@ -602,6 +604,24 @@ static void damaged_packs(void)
     }
 }
 
+/* A pack whose word 0 is another number, of no form or of another one: 40, whatever is asked. */
+static void other_form_words(void)
+{
+    static uint8_t sound[SMALL_ROOM];
+    const size_t length = make_open(sound);
+
+    for (size_t what = 0; what < CALLS; what++)
+        for (size_t i = 0; i < FORM_WORDS; i++) {
+            line_call it = chance_call(sound);
+            it.what = what;
+            memcpy(image, sound, length);
+            set_word(image, FORM, form_words[i]);
+            const size_t code = try_line("form", form_words[i], length, it).code;
+            CHECK_NUMBER(code == 040, form_words[i] != tried->number, "%s: form %zu for form %zu", call_names[what],
+                         form_words[i], tried->number);
+        }
+}
+
 /* As many files and blocks as there can be. */
 static void large_packs(void)
 {
@@ -665,6 +685,7 @@ int main(void)
         causes();
         chance_calls();
         damaged_packs();
+        other_form_words();
         large_packs();
     }
     codes_seen();

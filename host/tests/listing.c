@@ -1,32 +1,21 @@
-/* The listing program, run on packs of form 1 that are built here word by word, against texts that are written out. */
+/* The listing program, run on packs of each form that are built word by word, against texts that are written out. */
 #define _POSIX_C_SOURCE 200809L
 
 #include <string.h>
 
-#include "../form.h"
 #include "check.h"
+#include "image.h"
 #include "listing.h"
 
-static const pack_form *const form = forms;
-
 enum {
-    ENTRY = ABZ_ENTRY_BYTES / 2, /* words */
     LONGEST = 65536,
     ROOM = LONGEST + 3 * BLOCK_MOST
 };
 
 #define REFUSED "REFUSED 40\n"
 
-/* ---- Packs ---- */
-
 static uint8_t image[ROOM];
 static size_t length;
-
-static void set_word(size_t at, size_t word)
-{
-    image[2 * at] = (uint8_t)(word % 256);
-    image[2 * at + 1] = (uint8_t)(word / 256);
-}
 
 static size_t uic(size_t group, size_t user)
 {
@@ -36,74 +25,21 @@ static size_t uic(size_t group, size_t user)
 /* Every byte of a body is set, since none is to be looked at but the links of linked files. */
 static void format(size_t blocks, size_t contents, size_t uics, const size_t *list)
 {
-    const size_t bodies = form->block * first_body(form, contents);
-
-    length = form->block * blocks;
-    memset(image, 0, bodies);
-    memset(image + bodies, 0xA5, length - bodies);
-    set_word(0, form->number);
-    set_word(1, blocks);
-    set_word(2, contents);
-    set_word(3, uics);
-    for (size_t i = 0; i < uics; i++)
-        set_word(4 + i, list[i]);
-}
-
-static size_t radix(const char *characters)
-{
-    static const char alphabet[] = " ABCDEFGHIJKLMNOPQRSTUVWXYZ$.?0123456789";
-    size_t word = 0;
-
-    for (int i = 0; i < 3; i++)
-        word = 40 * word + (size_t)(strchr(alphabet, characters[i]) - alphabet);
-    return word;
-}
-
-/* Where the words of an entry begin, and those of a block, of which the first is a link. */
-static size_t entry_at(size_t e)
-{
-    return form->block / 2 + e * ENTRY;
-}
-
-static size_t link_at(size_t block)
-{
-    return form->block / 2 * block;
+    memset(image, 0xA5, tried->block * blocks);
+    length = make_pack(image, blocks, contents, list, uics);
 }
 
 /* A name is nine characters: six, and three of the extension. */
-static void set_entry(size_t e, const char *name, size_t owner, size_t protect, size_t kind, size_t first, size_t count, size_t last)
-{
-    const size_t at = entry_at(e);
-
-    for (size_t i = 0; i < 3; i++)
-        set_word(at + i, radix(name + 3 * i));
-    set_word(at + 3, owner);
-    set_word(at + 4, protect);
-    set_word(at + 5, kind);
-    set_word(at + 6, first);
-    set_word(at + 7, count);
-    set_word(at + 8, last);
-}
-
-static void set_opens(size_t e, size_t writer, size_t readers)
-{
-    set_word(entry_at(e) + 9, writer);
-    set_word(entry_at(e) + 10, readers);
-}
-
 static void set_contiguous(size_t e, const char *name, size_t owner, size_t protect, size_t first, size_t count)
 {
-    set_entry(e, name, owner, protect, 1, first, count, first + count - 1);
+    put_contiguous(image, e, key_of(name, name + 6, owner), first, count);
+    set_field(image, e, PROTECT, protect);
 }
 
-/* The blocks of a linked file end with a 0. */
-static void set_linked(size_t e, const char *name, size_t owner, size_t protect, const size_t *blocks)
+static void set_linked(size_t e, const char *name, size_t owner, size_t protect, const size_t *blocks, size_t count)
 {
-    size_t count = 0;
-
-    for (; blocks[count]; count++)
-        set_word(link_at(blocks[count]), blocks[count + 1]);
-    set_entry(e, name, owner, protect, 2, blocks[0], count, count ? blocks[count - 1] : 0);
+    put_linked(image, e, key_of(name, name + 6, owner), blocks, count);
+    set_field(image, e, PROTECT, protect);
 }
 
 static void try_image(const char *text, const char *name)
@@ -113,7 +49,7 @@ static void try_image(const char *text, const char *name)
 
 /* ---- The tests ---- */
 
-/* "Format with n = 16, c = 1, UIC [23,10]; ALLOC FREQ.DAT, N = 9, protect 3." */
+/* "Format with n = 16, c = 1, UIC [23,10]; ALLOC FREQ.DAT, N = 9, protect 3." In form 3 it is 3 segments. */
 static void build_example(void)
 {
     format(16, 1, 1, (size_t[]){ uic(023, 010) });
@@ -137,78 +73,104 @@ static void empty_pack(void)
     try_image("BLOCKS 00100 FREE 00091\n", "empty pack of 8 blocks of contents");
 }
 
-/* Entries stand apart, in another order than their blocks, and the last in the second block of contents. */
+/* A block of the mixed pack, as form 1 numbers it. */
+static size_t at(size_t block)
+{
+    return block_like(2, block);
+}
+
+/* Entries stand apart, in another order than their blocks, and the last in the last block of contents. */
 static void build_mixed(void)
 {
-    format(20, 2, 3, (size_t[]){ uic(0377, 0377), uic(1, 0), uic(0, 0123) });
-    set_linked(1, "A     9Z ", uic(0377, 0377), 0377, (size_t[]){ 19, 3, 7, 0 });
-    set_contiguous(4, "ZZZZZZ   ", uic(1, 0), 0, 4, 2);
-    set_linked(5, "0X2Y4ZDAT", uic(0, 0123), 0100, (size_t[]){ 0 });
-    set_linked(15, "FREQ  DAT", uic(1, 0), 052, (size_t[]){ 12, 0 });
-    set_contiguous(31, "FREQ  DAT", uic(0377, 0377), 7, 17, 1);
-    set_opens(1, 3, 61);
-    set_opens(4, 1, 0);
-    set_opens(5, 2, 0);
+    format(at(20), contents_like(2), 3, (size_t[]){ uic(0377, 0377), uic(1, 0), uic(0, 0123) });
+    set_linked(1, "A     9Z ", uic(0377, 0377), 0377, (size_t[]){ at(19), at(3), at(7) }, 3);
+    set_contiguous(4, "ZZZZZZ   ", uic(1, 0), 0, at(4), 2);
+    set_linked(5, "0X2Y4ZDAT", uic(0, 0123), 0100, NULL, 0);
+    set_linked(15, "FREQ  DAT", uic(1, 0), 052, (size_t[]){ at(12) }, 1);
+    set_contiguous(31, "FREQ  DAT", uic(0377, 0377), 7, at(17), 1);
+    set_open(image, 1, 3, 61);
+    set_open(image, 4, 1, 0);
+    set_open(image, 5, 2, 0);
 }
 
 static void mixed(void)
 {
+    char text[LISTING_ROOM];
+
     build_mixed();
-    try_image("BLOCKS 00020 FREE 00010\n"
-              "A     .9Z  L 00003 [377,377] 377\n"
-              "ZZZZZZ.    C 00002 [001,000] 000\n"
-              "0X2Y4Z.DAT L 00000 [000,123] 100\n"
-              "FREQ  .DAT L 00001 [001,000] 052\n"
-              "FREQ  .DAT C 00001 [377,377] 007\n",
-              "linked, contiguous and empty files");
+    sprintf(text, "BLOCKS %05zu FREE 00010\n"
+                  "A     .9Z  L 00003 [377,377] 377\n"
+                  "ZZZZZZ.    C 00002 [001,000] 000\n"
+                  "0X2Y4Z.DAT L 00000 [000,123] 100\n"
+                  "FREQ  .DAT L 00001 [001,000] 052\n"
+                  "FREQ  .DAT C 00001 [377,377] 007\n", at(20));
+    try_image(text, "linked, contiguous and empty files");
 }
 
 /* One word of the mixed pack changed, each time another rule broken. */
 static void damaged(void)
 {
+    build_mixed(); /* where a word is goes by its form */
+#define ENTRY(e, word) entry_word(image, e, word)
+#define LINK(block) link_word(image, at(block))
     const struct {
         const char *rule;
-        size_t at, word;
+        size_t word, value;
     } changes[] = {
-        { "form", 0, 2 },
-        { "fewer blocks than the image has", 1, 19 },
-        { "no contents", 2, 0 },
-        { "a UIC twice", 5, 0177777 },
-        { "a UIC 0", 6, 0 },
-        { "rest of block 0", entry_at(0) - 1, 1 },
-        { "a name with a code of no character", entry_at(1), 29 },
-        { "a name that begins with a blank", entry_at(1), 1 },
-        { "an extension with a period", entry_at(4) + 2, 28 },
-        { "a UIC that is not listed", entry_at(4) + 3, 0401 },
-        { "protect code", entry_at(4) + 4, 256 },
-        { "kind", entry_at(4) + 5, 3 },
-        { "a linked file as a contiguous one", entry_at(1) + 5, 1 },
-        { "first block in the contents", entry_at(31) + 6, 2 },
-        { "length", entry_at(4) + 7, 3 },
-        { "last block", entry_at(1) + 8, 3 },
-        { "writer", entry_at(1) + 9, 1 },
-        { "62 readers and a writer", entry_at(1) + 10, 62 },
-        { "word 15 of an entry", entry_at(31) + 15, 1 },
-        { "an entry that is not all zero", entry_at(2) + 4, 1 },
-        { "a chain that loops", link_at(7), 19 },
-        { "a chain that leaves the pack", link_at(3), 20 },
-        { "a chain that is too short", link_at(3), 0 },
-        { "a chain that is too long", link_at(7), 8 },
-        { "a chain into another file", link_at(3), 4 },
-        { "two files of one name, extension and UIC", entry_at(31) + 3, 0400 },
+        { "fewer blocks than the image has", BLOCKS, at(19) },
+        { "no contents", CONTENTS, 0 },
+        { "a UIC twice", UIC_LIST + 1, 0177777 },
+        { "a UIC 0", UIC_LIST + 2, 0 },
+        { "rest of block 0", ENTRY(0, NAME1) - 1, 1 },
+        { "a name with a code of no character", ENTRY(1, NAME1), 29 },
+        { "a name that begins with a blank", ENTRY(1, NAME1), 1 },
+        { "an extension with a period", ENTRY(4, EXTENSION), 28 },
+        { "a UIC that is not listed", ENTRY(4, UIC), 0401 },
+        { "protect code", ENTRY(4, PROTECT), 256 },
+        { "kind", ENTRY(4, KIND), 3 },
+        { "a linked file as a contiguous one", ENTRY(1, KIND), 1 },
+        { "first block in the contents", ENTRY(31, FIRST), 2 },
+        { "length", ENTRY(4, LENGTH), 3 },
+        { "last block", ENTRY(1, LAST), at(3) },
+        { "writer", ENTRY(1, WRITER), 1 },
+        { "62 readers and a writer", ENTRY(1, READERS), 62 },
+        { "word 15 of an entry", ENTRY(31, 15), 1 },
+        { "an entry that is not all zero", ENTRY(2, PROTECT), 1 },
+        { "a chain that loops", LINK(7), at(19) },
+        { "a chain that leaves the pack", LINK(3), at(20) },
+        { "a chain that is too short", LINK(3), 0 },
+        { "a chain that is too long", LINK(7), at(8) },
+        { "a chain into another file", LINK(3), at(4) },
+        { "two files of one name, extension and UIC", ENTRY(31, UIC), 0400 },
     };
 
     for (size_t i = 0; i < sizeof changes / sizeof *changes; i++) {
         build_mixed();
-        set_word(changes[i].at, changes[i].word);
+        set_word(image, changes[i].word, changes[i].value);
         try_image(REFUSED, changes[i].rule);
+    }
+#undef LINK
+#undef ENTRY
+}
+
+/* Another number in word 0: of no form, or of one with other measures. */
+static void other_forms(void)
+{
+    for (size_t i = 0; i < FORM_WORDS; i++) {
+        char name[64];
+
+        build_mixed();
+        set_word(image, FORM, form_words[i]);
+        sprintf(name, "form %zu for form %zu", form_words[i], tried->number);
+        if (form_words[i] != tried->number)
+            try_image(REFUSED, name);
     }
 }
 
 /* Nothing at all, parts of a pack, and bytes behind it. */
 static void other_lengths(void)
 {
-    const size_t block = form->block, whole = 16 * block;
+    const size_t block = tried->block, whole = 16 * block;
     const size_t lengths[] = { 0, 1, 2, 3, 7, 8, 9, block - 1, block, block + 1, 2 * block - 1, 2 * block, 4 * block,
                                whole - 2, whole - 1, whole + 1, whole + block, LONGEST };
 
@@ -229,19 +191,19 @@ static void other_lengths(void)
  */
 static void build_largest(size_t blocks, char *text)
 {
-    const size_t files = form->entries * form->contents_most, held = files - first_body(form, form->contents_most);
+    const size_t files = tried->entries * tried->contents_most, held = files - first_body(tried, tried->contents_most);
 
-    format(blocks, form->contents_most, 1, (size_t[]){ uic(2, 3) });
+    format(blocks, tried->contents_most, 1, (size_t[]){ uic(2, 3) });
     text += sprintf(text, "BLOCKS %05zu FREE %05zu\n", blocks, blocks - files);
     for (size_t e = 0; e < files; e++) {
-        char name[16];
+        char name[32];
 
         sprintf(name, "N%05zuEXT", e);
         if (e < held) {
             set_contiguous(e, name, uic(2, 3), 0, files - 1 - e, 1);
             text += sprintf(text, "%.6s.EXT C 00001 [002,003] 000\n", name);
         } else {
-            set_linked(e, name, uic(2, 3), 0, (size_t[]){ 0 });
+            set_linked(e, name, uic(2, 3), 0, NULL, 0);
             text += sprintf(text, "%.6s.EXT L 00000 [002,003] 000\n", name);
         }
     }
@@ -252,11 +214,11 @@ static void largest(void)
 {
     static const char parts[] = "(head -c 1 " LISTED "; sleep 0.1; tail -c +2 " LISTED ") 2>/dev/null | " LISTING;
     static char text[LISTING_ROOM];
-    const size_t blocks = LONGEST / form->block;
+    const size_t blocks = LONGEST / tried->block;
 
     build_largest(blocks, text);
     CHECK_NUMBER(length, LONGEST, "largest: length");
-    CHECK_NUMBER(strlen(text), 24 + form->entries * form->contents_most * 33, "largest: length of the text");
+    CHECK_NUMBER(strlen(text), 24 + 128 * 33, "largest: length of the text");
     try_image(text, "largest");
     try_command(parts, text, "largest, from a pipe");
 
@@ -272,11 +234,14 @@ static void largest(void)
 
 int main(void)
 {
-    example();
-    empty_pack();
-    mixed();
-    damaged();
-    other_lengths();
-    largest();
+    EACH_FORM {
+        example();
+        empty_pack();
+        mixed();
+        damaged();
+        other_forms();
+        other_lengths();
+        largest();
+    }
     return check_end("listing");
 }

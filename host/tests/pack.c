@@ -18,7 +18,8 @@ enum {
 static const size_t huge[] = {
     65535, 65536, 65537, 65536 + 16, UINT32_MAX, (size_t)UINT32_MAX + 1, (size_t)UINT32_MAX + 2,
     (size_t)UINT32_MAX + 17, SIZE_MAX / BLOCK_MOST, SIZE_MAX / BLOCK_MOST + 1, SIZE_MAX / BLOCK_MOST + 2,
-    SIZE_MAX / BLOCK_MOST + 17, SIZE_MAX / ABZ_ENTRY_BYTES + 1, SIZE_MAX / ABZ_ENTRY_BYTES + 17, SIZE_MAX / 2,
+    SIZE_MAX / BLOCK_MOST + 17, SIZE_MAX / ABZ_BLOCK_BYTES_3 + 1, SIZE_MAX / ABZ_BLOCK_BYTES_3 + 17,
+    SIZE_MAX / ABZ_ENTRY_BYTES + 1, SIZE_MAX / ABZ_ENTRY_BYTES + 17, SIZE_MAX / 2,
     SIZE_MAX / 2 + 1, SIZE_MAX - 1, SIZE_MAX
 };
 
@@ -331,6 +332,30 @@ static void format_uics(void)
     }
 }
 
+/* The bounds of the 64-word disk, written out; the sizes of the other one; and forms that are not there. */
+static void format_examples(void)
+{
+    static const struct {
+        size_t length, form, blocks, contents, uics_len, code;
+    } formats[] = {
+        { 128 * 16, 3, 16, 1, 2, 0 },       { 128 * 16, 3, 16, 14, 0, 0 },      { 128 * 34, 3, 34, 32, 120, 0 },
+        { 128 * 1024, 3, 1024, 32, 120, 0 },
+
+        { 128 * 15, 3, 15, 1, 2, 041 },     { 128 * 1025, 3, 1025, 1, 2, 041 }, { 128 * 64, 3, 64, 33, 2, 041 },
+        { 128 * 64, 3, 64, 0, 2, 041 },     { 128 * 16, 3, 16, 15, 2, 041 },    { 128 * 33, 3, 33, 32, 2, 041 },
+        { 128 * 16, 3, 16, 1, 122, 041 },   { 128 * 16, 3, 16, 1, 1, 041 },     { 128 * 16, 3, 16, 1, 119, 041 },
+        { 128 * 16 + 1, 3, 16, 1, 2, 041 }, { 128 * 16 - 1, 3, 16, 1, 2, 041 }, { 512 * 16, 3, 16, 1, 2, 041 },
+        { 128 * 16, 1, 16, 1, 2, 041 },     { 128 * 64, 1, 64, 1, 2, 041 },     { 512 * 64, 1, 64, 9, 2, 041 },
+        { 512 * 16, 0, 16, 1, 2, 041 },     { 512 * 16, 2, 16, 1, 2, 041 },     { 128 * 16, 2, 16, 1, 2, 041 },
+        { 512 * 16, 4, 16, 1, 2, 041 },     { 128 * 16, 4, 16, 1, 2, 041 },     { 128 * 16, 259, 16, 1, 2, 041 },
+    };
+
+    fill_uics(66);
+    for (size_t i = 0; i < COUNT(formats); i++)
+        CHECK_NUMBER(try_format(formats[i].length, formats[i].form, formats[i].blocks, formats[i].contents,
+                                formats[i].uics_len) ? 0 : 041, formats[i].code, "example: format %zu", i);
+}
+
 /* One, two or all three numbers. */
 static void format_huge(void)
 {
@@ -475,6 +500,11 @@ static void headers(void)
     for (size_t c = 0, most = tried->contents_most; c <= most + 12; c++) {
         call_it("empty pack with contents", c);
         expect_verdict(make_pack(image, most + 13, c, users, 1), c >= tried->contents_least && c <= most);
+    }
+    for (size_t c = 0, least = tried->blocks_least; c <= tried->contents_most + 2; c++) {
+        call_it("empty pack of the fewest blocks with contents", c);
+        expect_verdict(make_pack(image, least, c, users, 1),
+                       c >= tried->contents_least && c <= tried->contents_most && first_body(tried, c) < least);
     }
     for (size_t u = 0; u <= COUNT(users); u++) {
         call_it("empty pack with UICs", u);
@@ -708,6 +738,17 @@ static void known_files(void)
         put_file(image, 3, freq, files[i].kind, like(files[i].first), files[i].length, like(files[i].last));
         call_it("known file", i);
         expect_image(length, files[i].consistent);
+    }
+}
+
+/* A pack of each form with another number in word 0: of none, or of one whose measures are others. */
+static void other_forms(void)
+{
+    for (size_t i = 0; i < FORM_WORDS; i++) {
+        const size_t length = make_small();
+        set_word(image, FORM, form_words[i]);
+        call_it("small pack of form", form_words[i]);
+        expect_image(length, form_words[i] == tried->number);
     }
 }
 
@@ -1035,7 +1076,7 @@ static void large_packs(void)
     }
 }
 
-/* The measures that the header names are the numbers of document 01. */
+/* The measures that the header names are the numbers of document 01, and of 02 §11. */
 static void header_numbers(void)
 {
     static const struct {
@@ -1044,6 +1085,10 @@ static void header_numbers(void)
         { ABZ_FORM, 1 },           { ABZ_BLOCK_BYTES, 512 },   { ABZ_PAYLOAD_BYTES, 510 }, { ABZ_BLOCK_SEGMENTS, 4 },
         { ABZ_BLOCKS_LEAST, 16 },  { ABZ_BLOCKS_MOST, 1024 },  { ABZ_CONTENTS_LEAST, 1 },  { ABZ_CONTENTS_MOST, 8 },
         { ABZ_BLOCK_ENTRIES, 16 }, { ABZ_ENTRY_BYTES, 32 },    { ABZ_UICS_MOST, 64 },
+
+        { ABZ_FORM_3, 3 },            { ABZ_BLOCK_BYTES_3, 128 },   { ABZ_PAYLOAD_BYTES_3, 126 },
+        { ABZ_BLOCK_SEGMENTS_3, 1 },  { ABZ_CONTENTS_MOST_3, 32 },  { ABZ_BLOCK_ENTRIES_3, 4 },
+        { ABZ_UICS_MOST_3, 60 },
     };
 
     for (size_t i = 0; i < COUNT(numbers); i++)
@@ -1053,19 +1098,24 @@ static void header_numbers(void)
 /* And so are those of each form; no form has more than the most of all. */
 static void form_numbers(void)
 {
-    static const pack_form numbers[] = { { 1, 512, 510, 4, 16, 16, 1024, 1, 8, 64, 1 } };
+    static const pack_form numbers[] = {
+        { 1, 512, 510, 4, 16, 16, 1024, 1, 8, 64, 1 },
+        { 3, 128, 126, 1, 4, 16, 1024, 1, 32, 60, 1 },
+    };
 
     CHECK_NUMBER(COUNT(forms), COUNT(numbers), "forms");
     for (size_t i = 0; i < COUNT(numbers); i++) {
         const pack_form *const form = &forms[i];
-        CHECK_BYTES((const uint8_t *)form, (const uint8_t *)&numbers[i], sizeof *form, "numbers of form %zu", i + 1);
+        CHECK_BYTES((const uint8_t *)form, (const uint8_t *)&numbers[i], sizeof *form, "numbers of form %zu",
+                    form->number);
         CHECK_NUMBER(form_numbered(form->number) == form, true, "form %zu", form->number);
         CHECK_NUMBER(form->block <= BLOCK_MOST && form->payload <= PAYLOAD_MOST && form->blocks_most <= BLOCKS_MOST
                          && form->block * form->blocks_most <= IMAGE_MOST
                          && form->entries * form->contents_most <= ENTRIES_MOST && form->uics_most <= UICS_MOST,
                      true, "the most of form %zu", form->number);
     }
-    CHECK_NUMBER(form_numbered(0) == NULL, true, "form 0");
+    for (size_t number = 0; number <= 4; number++)
+        CHECK_NUMBER(form_numbered(number) != NULL, number == 1 || number == 3, "whether there is form %zu", number);
 }
 
 int main(void)
@@ -1076,6 +1126,7 @@ int main(void)
     header_numbers();
     form_numbers();
     example();
+    format_examples();
     EACH_FORM {
         format_sizes();
         format_counts();
@@ -1090,6 +1141,7 @@ int main(void)
         made_packs();
         known_changes();
         known_files();
+        other_forms();
         word_changes();
         damaged_packs();
         large_packs();

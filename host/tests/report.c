@@ -113,7 +113,8 @@ static void try_sizes(void)
 /* Each word of block 0 with several values: below, above, 0, and as another. */
 static void try_header(void)
 {
-    static const size_t values[] = { 0, 1, 2, 3, 4, 8, 9, 15, 16, 32, 64, 65, ME, OTHER, 1024, 1025, 65535 };
+    static const size_t values[] = { 0,  1,  2,  3,  4,  8,  9,     15,   16,   32,
+                                     33, 60, 61, 64, 65, ME, OTHER, 1024, 1025, 65535 };
     const size_t length = sample();
 
     for (size_t word = 0; word < tried->block / 2; word++) {
@@ -143,6 +144,36 @@ static void try_header(void)
     sample();
     set_word(image, tried->block / 2 - 1, 1);
     expect(length, 2, 0, tried->block / 2 - 1, 0, "last word of block 0");
+}
+
+/* Packs without files of every number of blocks of contents, also such that no body is left. */
+static void try_contents(void)
+{
+    static const size_t uics[] = { ME };
+
+    for (size_t c = 0; c <= tried->contents_most + 2; c++)
+        for (size_t n = tried->blocks_least; n <= tried->contents_most + 4; n++) {
+            const bool right = c >= tried->contents_least && c <= tried->contents_most && first_body(tried, c) < n;
+            expect(make_pack(image, n, c, uics, 1), right ? 0 : 2, 0, right ? 0 : CONTENTS, 0, "contents");
+        }
+}
+
+/* The size by the form that word 0 names, written out: of one length a pack of one form, and none of the other. */
+static void try_forms(void)
+{
+    static const struct { size_t form, blocks, length, rule, word; } images[] = {
+        { 1, 16, 8192, 0, 0 }, { 1, 64, 8192, 1, 0 }, { 3, 64, 8192, 0, 0 }, { 3, 16, 8192, 1, 0 }, { 3, 16, 2048, 0, 0 },
+        { 1, 16, 2048, 1, 0 }, { 0, 16, 8192, 2, 0 }, { 2, 16, 8192, 2, 0 }, { 2, 64, 8192, 1, 0 }, { 4, 16, 8192, 2, 0 },
+        { 4, 16, 2048, 1, 0 }, { 259, 64, 8192, 1, 0 }, { 3, 15, 1920, 2, 1 }, { 3, 1025, 131200, 2, 1 },
+    };
+
+    for (size_t i = 0; i < sizeof images / sizeof *images; i++) {
+        memset(image, 0, images[i].length);
+        set_word(image, FORM, images[i].form);
+        set_word(image, BLOCKS, images[i].blocks);
+        set_word(image, CONTENTS, 1);
+        expect(images[i].length, images[i].rule, 0, images[i].word, 0, "form and length");
+    }
 }
 
 /* Each word of each entry with several values; then what each is told as. */
@@ -326,7 +357,8 @@ static void copy_entry(size_t to, size_t from)
 static void try_chance(void)
 {
     for (int round = 0; round < 3000; round++) {
-        const size_t c = 1 + chance(8), n = tried->blocks_least + chance(64), entries = tried->entries * c;
+        const size_t c = 1 + chance(tried->contents_most), first = first_body(tried, c), entries = tried->entries * c;
+        const size_t n = first + 14 + chance(64);
         const size_t files = chance(entries + 1);
         const size_t length = chance_pack(image, n, c, files);
 
@@ -336,7 +368,7 @@ static void try_chance(void)
             switch (chance(5)) {
             case 0: image[chance(length)] ^= (uint8_t)(1 << chance(8)); break;
             case 1: set_field(image, entry, chance(ENTRY_WORDS), chance(n + 2)); break;
-            case 2: set_link(image, first_body(tried, c) + chance(n - first_body(tried, c)), chance(n + 1)); break;
+            case 2: set_link(image, first + chance(n - first), chance(n + 1)); break;
             case 3: set_field(image, chance(entries), FIRST + chance(3), near); break;
             default: copy_entry(entry, chance(entries)); break;
             }
@@ -352,9 +384,11 @@ static void try_chance(void)
 
 int main(void)
 {
+    try_forms();
     EACH_FORM {
         try_sizes();
         try_header();
+        try_contents();
         try_entries();
         try_links();
         try_shared();

@@ -47,51 +47,66 @@ static void expect(size_t length, const char *line)
     try_image(length, line);
 }
 
+/* A line that ends with a number. */
+static void expect_number(size_t length, const char *words, size_t number)
+{
+    char line[64];
+
+    sprintf(line, "%s %05zu\n", words, number);
+    expect(length, line);
+}
+
+/* A block of the sample, as form 1 numbers it. */
+static size_t at(size_t block)
+{
+    return block_like(2, block);
+}
+
 static size_t sample(void)
 {
-    static const size_t uics[] = { ME }, chain[] = { 20, 9, 31, 3 };
+    static const size_t uics[] = { ME };
+    const size_t chain[] = { at(20), at(9), at(31), at(3) };
 
-    memset(image, 0x77, tried->block * N);
-    const size_t length = make_pack(image, N, 2, uics, 1);
-    put_contiguous(image, 0, key_of("FREQ  ", "DAT", ME), 4, 3);
+    memset(image, 0x77, tried->block * at(N));
+    const size_t length = make_pack(image, at(N), contents_like(2), uics, 1);
+    put_contiguous(image, 0, key_of("FREQ  ", "DAT", ME), at(4), 3);
     put_linked(image, 3, key_of("LINKED", "   ", ME), chain, 4);
-    put_contiguous(image, 12, key_of("Z     ", "999", ME), 14, 1);
+    put_contiguous(image, 12, key_of("Z     ", "999", ME), at(14), 1);
     return length;
 }
 
-/* Written out for form 1. */
 static void lines(void)
 {
-    const size_t length = sample();
+    const size_t length = sample(), last = tried->block / 2 - 1;
 
     expect(length, "CONSISTENT\n");
     expect(length - 1, "FAULT SIZE\n");
     expect(0, "FAULT SIZE\n");
     expect(3, "FAULT SIZE\n");
-    set_word(image, 255, 1);
-    expect(length, "FAULT HEADER WORD 00255\n");
+    set_word(image, last, 1);
+    expect_number(length, "FAULT HEADER WORD", last);
     set_word(image, 3, 70);
     expect(length, "FAULT HEADER WORD 00003\n");
     sample();
     set_field(image, 12, PROTECT, 256);
     expect(length, "FAULT ENTRY 00012 WORD 00004\n");
     sample();
-    put_contiguous(image, 7, key_of("FREQ  ", "DAT", ME), 16, 1);
+    put_contiguous(image, 7, key_of("FREQ  ", "DAT", ME), at(16), 1);
     expect(length, "FAULT NAME ENTRY 00007 WORD 00003\n");
     sample();
     set_field(image, 0, LENGTH, 0);
     expect(length, "FAULT EXTENT ENTRY 00000 WORD 00007\n");
     sample();
-    set_link(image, 9, 0);
-    expect(length, "FAULT LINK ENTRY 00003 BLOCK 00009\n");
-    set_link(image, 9, 20);
-    expect(length, "FAULT LOOP ENTRY 00003 BLOCK 00020\n");
+    set_link(image, at(9), 0);
+    expect_number(length, "FAULT LINK ENTRY 00003 BLOCK", at(9));
+    set_link(image, at(9), at(20));
+    expect_number(length, "FAULT LOOP ENTRY 00003 BLOCK", at(20));
     sample();
-    set_link(image, 3, 20);
-    expect(length, "FAULT END ENTRY 00003 BLOCK 00003\n");
+    set_link(image, at(3), at(20));
+    expect_number(length, "FAULT END ENTRY 00003 BLOCK", at(3));
     sample();
-    put_contiguous(image, 12, key_of("Z     ", "999", ME), 31, 1);
-    expect(length, "FAULT SHARED ENTRY 00012 BLOCK 00031\n");
+    put_contiguous(image, 12, key_of("Z     ", "999", ME), at(31), 1);
+    expect_number(length, "FAULT SHARED ENTRY 00012 BLOCK", at(31));
 }
 
 /* Up to 65536 bytes; longer input is refused, a consistent pack too. */
@@ -117,7 +132,7 @@ static void lengths(void)
 static void changed(void)
 {
     for (int round = 0; round < 200; round++) {
-        const size_t c = 1 + chance(8), n = tried->blocks_least + chance(32);
+        const size_t c = 1 + chance(tried->contents_most), n = first_body(tried, c) + 14 + chance(32);
         const size_t length = chance_pack(image, n, c, chance(tried->entries * c + 1));
 
         for (int change = 0; change < 2; change++)
@@ -128,8 +143,8 @@ static void changed(void)
 
 int main(void)
 {
-    lines();
     EACH_FORM {
+        lines();
         lengths();
         changed();
     }

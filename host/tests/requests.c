@@ -192,6 +192,7 @@ int main(void)
         huge_everywhere();
         chance_requests(OPENI, BLOCK_IN, 400, 40);
         damaged_images(OPENI, BLOCK_IN, 60);
+        other_forms(OPENI, BLOCK_IN);
         large_packs();
     }
     for (size_t i = 0; i < COUNT(joined); i++)

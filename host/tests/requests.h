@@ -42,7 +42,8 @@ typedef struct {
 /* Among them numbers that are in order in their low 16 or 32 bits, or when multiplied by a measure of the pack. */
 static const size_t huge[] = {
     65535, 65536, 65537, 65536 + 16, UINT32_MAX, (size_t)UINT32_MAX + 1, (size_t)UINT32_MAX + 2,
-    SIZE_MAX / BLOCK_MOST + 1, SIZE_MAX / BLOCK_MOST + 17, SIZE_MAX / ABZ_ENTRY_BYTES + 1,
+    SIZE_MAX / BLOCK_MOST + 1, SIZE_MAX / BLOCK_MOST + 17, SIZE_MAX / ABZ_BLOCK_BYTES_3 + 1,
+    SIZE_MAX / ABZ_BLOCK_BYTES_3 + 17, SIZE_MAX / ABZ_ENTRY_BYTES + 1,
     SIZE_MAX / ABZ_BLOCK_SEGMENTS, SIZE_MAX / ABZ_BLOCK_SEGMENTS + 1, SIZE_MAX / ABZ_BLOCK_SEGMENTS + 2,
     SIZE_MAX / 2, SIZE_MAX / 2 + 1, SIZE_MAX - 3, SIZE_MAX - 2, SIZE_MAX - 1, SIZE_MAX
 };
@@ -679,6 +680,23 @@ static inline void damaged_images(size_t from, size_t end, size_t packs)
             request it = chance_request(what, sound);
             memcpy(image, sound, tried->block * get_word(sound, BLOCKS));
             CHECK_NUMBER(try_request("short image", what, short_len, it), 040, "short image of %zu", short_len);
+        }
+}
+
+/* A pack whose word 0 is another number, of no form or of another one: 40, whatever is asked. */
+static inline void other_forms(size_t from, size_t end)
+{
+    static uint8_t sound[SMALL_ROOM];
+    const size_t length = make_closed(sound);
+
+    for (size_t what = from; what < end; what++)
+        for (size_t i = 0; i < FORM_WORDS; i++) {
+            request it = chance_request(what, sound);
+            memcpy(image, sound, length);
+            set_word(image, FORM, form_words[i]);
+            const size_t code = try_request("form", form_words[i], length, it);
+            CHECK_NUMBER(code == 040, form_words[i] != tried->number, "%s: form %zu for form %zu", request_names[what],
+                         form_words[i], tried->number);
         }
 }
 
