@@ -86,13 +86,23 @@ unfolding geometryOf
 payload-most img = omega (arith, segments-few (wordAt img 0))
 
 -- so many NULs of more
-pub nuls-front : (count most : ℕ) → count ≤ most → take {A = ℕ} count (replicate {A = ℕ} most 0) ≡ replicate {A = ℕ} count 0
+nuls-front : (count most : ℕ) → count ≤ most → take {A = ℕ} count (replicate {A = ℕ} most 0) ≡ replicate {A = ℕ} count 0
 nuls-front zero most few = refl
 nuls-front (suc count) zero few = absurd (omega arith)
 nuls-front (suc count) (suc most) few = ap (λ (s : List ℕ). 0 ∷ s) (nuls-front count most (omega arith))
 
 pub nuls-counted : (count most : ℕ) → count ≤ most → count ≡ length (take {A = ℕ} count (replicate {A = ℕ} most 0))
 nuls-counted count most few = sym (ap length (nuls-front count most few) ∙ length-replicate {A = ℕ} count 0)
+
+-- a front of an array of NULs is laid as so many NULs are
+module _ {img map gather : List ℕ} {g : Geometry} {e : ℕ} {start : Filling} (count most : ℕ) (few : count ≤ most) where
+  pub nuls-begun : Writable img map g e gather start (replicate count 0) → Writable img map g e gather start (take {A = ℕ} count (replicate {A = ℕ} most 0))
+  nuls-begun = subst (Writable img map g e gather start) (sym (nuls-front count most few))
+
+  pub nuls-laid : {img′ map′ gather′ : List ℕ} {at : Filling}
+      → Laying g e img map gather start (take {A = ℕ} count (replicate {A = ℕ} most 0)) img′ map′ gather′ at []
+      → Laying g e img map gather start (replicate count 0) img′ map′ gather′ at []
+  nuls-laid {img′} {map′} {gather′} {at} = subst (λ (s : List ℕ). Laying g e img map gather start s img′ map′ gather′ at []) (nuls-front count most few)
 
 -- the NULs that the code counted
 module _ (img : List ℕ) {size : ℕ} (stated : size ≡ payloadBytes (geometryOf img)) (filled : ℕ) (some : filled ≡ 0 → ⊥) where
@@ -124,20 +134,18 @@ module _ (img : List ℕ) (key : Key) (caller : ℕ) (gather : List ℕ) (filled
     unfolding lineEnd
     end-denied told = let d = write-denied img key caller false gather filled (nulsFor img filled) [] ending told in (d .0, d .1 .1)
 
-    -- `bytes` is what the code lays
-    module _ {g : Geometry} {e : ℕ} {x : Entry} (told : asked ≡ File g e x) (map : List ℕ) (mapped : MappedIf map img)
-        {bytes : List ℕ} (front : bytes ≡ replicate nuls 0) where
-      pub end-begun : Writable img map g e gather (fromStart g filled) bytes
+    module _ {g : Geometry} {e : ℕ} {x : Entry} (told : asked ≡ File g e x) (map : List ℕ) (mapped : MappedIf map img) where
+      pub end-begun : Writable img map g e gather (fromStart g filled) (replicate nuls 0)
       end-begun =
-          subst (Writable img map g e gather (fromStart g filled)) (counted ∙ sym front)
+          subst (Writable img map g e gather (fromStart g filled)) counted
           (write-begun img key caller false gather filled (nulsFor img filled) [] ending told map mapped)
 
-      pub end-done : {img′ map′ gather′ : List ℕ} {at : Filling} → Laying g e img map gather (fromStart g filled) bytes img′ map′ gather′ at []
+      pub end-done : {img′ map′ gather′ : List ℕ} {at : Filling} → Laying g e img map gather (fromStart g filled) (replicate nuls 0) img′ map′ gather′ at []
           → (0 ≡ ended .code) × ((img′ ≡ ended .image) × ((gather′ ≡ ended .buffer) × MappedIf map′ img′))
       unfolding lineEnd
       end-done {img′} {map′} {gather′} {at} laying =
           let own-laying : Laying g e img map gather (fromStart g filled) (nulsFor img filled) img′ map′ gather′ at [] =
-          subst (λ (s : List ℕ). Laying g e img map gather (fromStart g filled) s img′ map′ gather′ at []) (sym (counted ∙ sym front)) laying in
+          subst (λ (s : List ℕ). Laying g e img map gather (fromStart g filled) s img′ map′ gather′ at []) (sym counted) laying in
           let d = write-done img key caller false gather filled (nulsFor img filled) [] ending told map mapped own-laying in
           let behind : Mapped map′ img′ = write-mapped img key caller false gather filled (nulsFor img filled) [] ending told map mapped own-laying in
           (d .0, (d .1 .1 .0, (d .1 .1 .1, λ right. behind)))

@@ -278,6 +278,24 @@ fn nuls_for(img: &[u8], filled: usize) -> usize
 // No payload has more bytes.
 const MOST_NULS: usize = 128 * pack::MOST_SEGMENTS;
 
+fn lay_nuls(
+    img: &mut [u8],
+    map: &mut [u8],
+    g: Geometry,
+    e: usize,
+    gather: &mut [u8],
+    start: Filling,
+    count: usize,
+) -> Filling
+    requires { ⌜ Writable (now img) (now map) g e (now gather) start (replicate count 0) ⌝ }
+    requires { ⌜ count ≤ segmentBytes mostSegments ⌝ }
+    ensures { λ r. ⌜ Laying g e (now (img .entry)) (now (map .entry)) (now (gather .entry)) start (replicate count 0)
+        (now (img .exit)) (now (map .exit)) (now (gather .exit)) r [] ⌝ }
+{
+    let nuls = [characters::NUL; MOST_NULS];
+    stream::lay_all(img, map, g, e, gather, start, &nuls[..count])
+}
+
 pub fn line_end(img: &mut [u8], key: Key, caller: usize, gather: &mut [u8], filled: usize) -> usize
     ensures { λ r. ⌜ r ≡ lineEnd (now (img .entry)) key caller (now (gather .entry)) filled .code ⌝ }
     ensures { λ r. ⌜ now (img .exit) ≡ lineEnd (now (img .entry)) key caller (now (gather .entry)) filled .image ⌝ }
@@ -335,8 +353,7 @@ pub fn line_end_opened(
                 filled,
                 from: BlockNo(g.blocks),
             };
-            let nuls = [characters::NUL; MOST_NULS];
-            stream::lay_all(img, map, g, e, gather, start, &nuls[..count]);
+            lay_nuls(img, map, g, e, gather, start, count);
             0
         }
     }

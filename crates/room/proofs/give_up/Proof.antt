@@ -22,10 +22,10 @@ loop-holds c = let start = c .before .before .before in (refl, giving-start (sta
 give-up-block-requires : tie.Need-give-up-block-requires Inv-loop μ-loop
 give-up-block-requires c κs =
     let giving = c .before .before .loop .inv .1 in
-    omega (arith, giving-block giving (c .before .loop-test .taken), giving .long)
+    omega (arith, giving-block giving (omega (arith, c .before .loop-test .taken)), giving .long)
 
 next-block-requires : tie.Need-next-block-requires Inv-loop μ-loop
-next-block-requires c κs = (c .before .before .before .before .before .before .before .before .before .pre .0, giving-block (c .before .before .before .before .before .loop .inv .1) (c .before .before .before .before .loop-test .taken))
+next-block-requires c κs = (c .before .before .before .before .before .before .before .before .before .pre .0, giving-block (c .before .before .before .before .before .loop .inv .1) (omega (arith, c .before .before .before .before .loop-test .taken)))
 
 sub-more : tie.Need-sub-more Inv-loop μ-loop
 sub-more c = search needs
@@ -37,14 +37,14 @@ loop-again : tie.Need-loop-again Inv-loop μ-loop
 loop-again c =
     let here = c .before .before .before .before .before .before .loop .inv in
     let given = c .before .before .before .give-up-block in
-    (given .kept .0 ∙ here .0, giving-next (here .1) (c .before .before .before .before .before .loop-test .taken) _ (given .ensures) _ (c .next-block .ensures .0))
+    (given .kept .0 ∙ here .0, giving-next (here .1) (omega (arith, c .before .before .before .before .before .loop-test .taken)) _ (given .ensures) _ (c .next-block .ensures .0))
 
 same-length : tie.Need-same-length Inv-loop μ-loop
 same-length c = search needs
 
 returns : tie.Need-returns Inv-loop μ-loop
 unfolding blocksOf
-returns c = giving-end (c .before .loop .inv .1) (c .loop-test .left)
+returns c = giving-end (c .before .loop .inv .1) (omega (arith, c .loop-test .left))
 
 pub give-up-spec : {M : Type 1} → statement M
 give-up-spec =

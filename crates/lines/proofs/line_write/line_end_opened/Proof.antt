@@ -1,6 +1,6 @@
 -- Rests on `LineWritingAnswers`: a file that the stage gives has room for the block that the NULs fill.
 use borrow.Author.Needs.{needs}
-use Rattle.lines.proofs.LineWritingAnswers.{nuls-front, nuls-counted, end-denied, end-begun, end-done}
+use Rattle.lines.proofs.LineWritingAnswers.{end-denied, end-begun, end-done}
 use Rattle.lines.proofs.line_write.line_end_opened.Statement.{statement}
 use Rattle.lines.proofs.line_write.line_end_opened.Tie as tie
 
@@ -19,21 +19,15 @@ enum-known-code c = search needs
 enum-known-g : tie.Need-enum-known-g
 enum-known-g c = search needs
 
-array-share-prefix-nuls : tie.Need-array-share-prefix-nuls
-array-share-prefix-nuls c = search needs
-
-slice-aggregate-lay-all : tie.Need-slice-aggregate-lay-all
-slice-aggregate-lay-all c = nuls-counted _ _ (c .before .before .before .before .before .before .before .before .before .before .before .before .nuls-for .ensures .1)
-
-lay-all-requires : tie.Need-lay-all-requires
-lay-all-requires c κs =
-    let s = c .before .before .before .before .before .before .before .before .before .before .before .before .before .before .before .before .before in
+lay-nuls-requires : tie.Need-lay-nuls-requires
+lay-nuls-requires c κs =
+    let s = c .before .before .before .before .before .before .before .before .before .before .before .before .before .before .before .before in
     let a = s .args in
-    let counted = c .before .before .before .before .before .before .before .before .before .before .before .before .nuls-for .ensures in
-    let full = c .before .before .before .before .before .before .before .before .before .before .before .full-blocks .ensures .0 in
-    let asked = c .before .before .before .before .before .before .before .ask-write .ensures in
-    let told = c .before .before .before .before .before .g .given .1 in
-    end-begun (a .img .now) (a .key) (a .caller) (a .gather .now) (a .filled) _ (counted .0) full asked told _ (s .pre .1) (nuls-front _ _ (counted .1))
+    let counted = c .before .before .before .before .before .before .before .before .before .before .before .nuls-for .ensures in
+    let full = c .before .before .before .before .before .before .before .before .before .before .full-blocks .ensures .0 in
+    let asked = c .before .before .before .before .before .before .ask-write .ensures in
+    let told = c .before .before .before .before .g .given .1 in
+    (end-begun (a .img .now) (a .key) (a .caller) (a .gather .now) (a .filled) _ (counted .0) full asked told _ (s .pre .1), counted .1)
 
 same-length : tie.Need-same-length
 same-length c = search needs
@@ -66,14 +60,13 @@ same-length-6 c = search needs
 
 returns-2 : tie.Need-returns-2
 returns-2 c =
-    let s = c .before .before .before .before .before .before .before .before .before .before .before .before .before .before .before .before .before .before .before .before .before .before .before .before in
+    let s = c .before .before .before .before .before .before .before .before .before .before .before .before .before .before .before .before .before .before .before .before .before .before .before in
     let a = s .args in
-    let counted = c .before .before .before .before .before .before .before .before .before .before .before .before .before .before .before .before .before .before .before .nuls-for .ensures in
-    let full = c .before .before .before .before .before .before .before .before .before .before .before .before .before .before .before .before .before .before .full-blocks .ensures .0 in
-    let asked = c .before .before .before .before .before .before .before .before .before .before .before .before .before .before .ask-write .ensures in
-    let told = c .before .before .before .before .before .before .before .before .before .before .before .before .g .given .1 in
-    end-done (a .img .now) (a .key) (a .caller) (a .gather .now) (a .filled) _ (counted .0) full asked told _ (s .pre .1) (nuls-front _ _ (counted .1))
-    (c .before .before .before .before .before .before .lay-all .ensures)
+    let counted = c .before .before .before .before .before .before .before .before .before .before .before .before .before .before .before .before .before .before .nuls-for .ensures .0 in
+    let full = c .before .before .before .before .before .before .before .before .before .before .before .before .before .before .before .before .before .full-blocks .ensures .0 in
+    let asked = c .before .before .before .before .before .before .before .before .before .before .before .before .before .ask-write .ensures in
+    let told = c .before .before .before .before .before .before .before .before .before .before .before .g .given .1 in
+    end-done (a .img .now) (a .key) (a .caller) (a .gather .now) (a .filled) _ counted full asked told _ (s .pre .1) (c .before .before .before .before .before .before .lay-nuls .ensures)
 
 pub line-end-opened-spec : {M : Type 1} → statement M
 line-end-opened-spec =
@@ -84,9 +77,7 @@ line-end-opened-spec =
     ask-write-requires
     enum-known-code
     enum-known-g
-    array-share-prefix-nuls
-    slice-aggregate-lay-all
-    lay-all-requires
+    lay-nuls-requires
     same-length
     same-length-2
     same-length-3
