@@ -3,16 +3,13 @@ use Prim.Native.Nat.{ℕ, _/_, _%_}
 use mathlib.Core.Path.{_≡_, refl, sym, ap, _∙_}
 use mathlib.Core.Bool.{Bool, true, false, cond}
 use mathlib.Core.List.{List, [], _∷_, _++_, append-assoc, append-nil}
-use mathlib.Core.Option.{none}
 use native.Mathlib.Omega.{arith}
 use lib.Dec.{eqb}
 use lib.ListN.{length}
 use Rattle.words.specs.Word.{wordBytes}
 use Rattle.command_cursor.specs.FilledWord.{firstWord, secondWord}
 use Rattle.command_grammar.specs.Parsed.{Switch, Specification}
-use Rattle.command_grammar.specs.Grammar.{IsSpecification, IsSide}
 use Rattle.command_grammar.specs.Grammar as G
-use Rattle.command_grammar.specs.Bounded.{BoundedSpecification, BoundedSide}
 use Rattle.command_grammar.specs.Bounded as B
 use Rattle.command_grammar.specs.Reading.{Reading, Reads, reads, inputOf, sideOf}
 use Rattle.command_parts.specs.declared.Numbers.{Numbers}
@@ -160,35 +157,10 @@ sides-known r q output input side = by (eqb side 0) (eqb side 1)
     by false true = input
     by false false = refl
 
--- Records tell specifications of the grammar apart: those of one, of a side, of both.
-
+-- records tell the readings of lines apart
 reading-known : (line other : List ℕ) (r q : Reading) → Reads line r → Reads other q → knownOf (r .output) ≡ knownOf (q .output)
     → knownOf (inputOf (r .input)) ≡ knownOf (inputOf (q .input)) → r ≡ q
 reading-known line other r q read read′ output input = known-reading line other r q read read′ (sides-known r q output input)
-
-abbrev alone : List Specification → Reading
-alone vs = record { output = vs; input = none }
-
-pub side-single : (s t : List ℕ) (vs ws : List Specification) → IsSide s vs → BoundedSide vs → IsSide t ws → BoundedSide ws → length vs ≡ length ws
-    → (rest behind : List ℕ) → recordsOf vs ++ rest ≡ recordsOf ws ++ behind → (vs ≡ ws) × (rest ≡ behind)
-side-single s t vs ws is bounds is′ bounds′ long rest behind same =
-    let known = records-known vs ws rest behind long same in
-    let one : alone vs ≡ alone ws =
-    reading-known s t (alone vs) (alone ws)
-    (reads (G.Command.output is) (record { output = bounds; input = B.BoundedInput.absent }))
-    (reads (G.Command.output is′) (record { output = bounds′; input = B.BoundedInput.absent }))
-    (known .0) refl in
-    (ap (λ (r : Reading). r .output) one, known .1)
-
-pub record-single : (s t : List ℕ) (v w : Specification) → IsSpecification s v → BoundedSpecification v → IsSpecification t w → BoundedSpecification w
-    → (rest behind : List ℕ) → recordOf v ++ rest ≡ recordOf w ++ behind → (v ≡ w) × (rest ≡ behind)
-unfolding recordsOf
-record-single s t v w is bounds is′ bounds′ rest behind same =
-    let both = side-single s t (v ∷ []) (w ∷ []) (G.IsSide.one is) (B.BoundedSide.more bounds B.BoundedSide.end)
-    (G.IsSide.one is′) (B.BoundedSide.more bounds′ B.BoundedSide.end) refl rest behind
-    (append-assoc (recordOf v) [] rest ∙ same ∙ sym (append-assoc (recordOf w) [] behind)) in
-    let front : v ∷ [] ≡ w ∷ [] = both .0 in
-    (cc, both .1)
 
 gives-single : (line other : List ℕ) (r q : Reading) (outputs inputs : ℕ) (records : List ℕ) → Reads line r → Reads other q
     → Gives r outputs inputs records → Gives q outputs inputs records → r ≡ q

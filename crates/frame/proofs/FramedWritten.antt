@@ -17,7 +17,7 @@ use Rattle.pack.proofs.GeometryRoom.{block-room}
 use Rattle.frame.specs.Framed.{Kept}
 use Rattle.frame.specs.Framed.Within.{entry, block}
 use Rattle.frame.proofs.EntrySame.{word-same}
-use Rattle.frame.proofs.ChangesWritten.{replaced-other, changes-word, changes-words, changes-part}
+use Rattle.frame.proofs.ChangesWritten.{replaced-other, changes-word, changes-words}
 
 -- a word of an entry, and several in a row
 pub kept-entry-word : {Named Written : ℕ → Type 0} {g : Geometry} (img : List ℕ) (x i word : ℕ) → Named x → x < slots g → i < 16
@@ -31,16 +31,10 @@ words-kept words img g e i named within fits = changes-words words img g e i (λ
 pub clear-kept : {Named Written : ℕ → Type 0} {g : Geometry} (img : List ℕ) (y : ℕ) → Named y → y < slots g → Kept Named Written img (clearEntry img g y) g
 clear-kept {g = g} img y named within = words-kept (replicate 16 0) img g y 0 named within (omega arith)
 
--- the link of a block, and a run of its bytes
+-- the link of a block
 pub kept-link : {Named Written : ℕ → Type 0} {g : Geometry} (img : List ℕ) (z word : ℕ) → Written z → g .contents < z → 0 < g .segments .0
     → Kept Named Written img (setWord img (blockAt g z) word) g
 kept-link img z word written above some = changes-word img _ word (block z written above (omega arith, omega arith))
-
-pub kept-replaced : {Named Written : ℕ → Type 0} {g : Geometry} (img put : List ℕ) (z from : ℕ) → Written z → g .contents < z → from + length put ≤ blockBytes g
-    → z * blockBytes g + from + length put ≤ length img
-    → Kept Named Written img (take (z * blockBytes g + from) img ++ (put ++ drop (z * blockBytes g + from + length put) img)) g
-kept-replaced {g = g} img put z from written above small fits =
-    changes-part img put (z * blockBytes g + from) fits (λ w low high. block z written above (omega arith, omega arith))
 
 -- a run behind the link leaves the link
 pub replaced-link : (g : Geometry) (img put : List ℕ) (z from : ℕ) → 2 ≤ from → from + length put ≤ blockBytes g → z * blockBytes g + from + length put ≤ length img

@@ -26,7 +26,8 @@ use Rattle.bodies.specs.Payloads.{payloadsOf}
 use Rattle.stream.specs.declared.Spot.{Spot}
 use Rattle.stream.specs.Spot.{mostBytes, bytesFrom}
 use Rattle.stream.specs.BytesReading.{bytesBehind}
-use Rattle.stream.proofs.BytesReadingStage.{reading-ordered, reading-clear, reading-unasked, reading-counted, few-bytes, bytes-left, reading-beyond, reading-given, reading-located, bytes-here, bytes-few}
+use Rattle.stream.proofs.BytesReadingStage.{reading-ordered, reading-clear, reading-unasked, reading-counted, few-bytes, bytes-left}
+use Rattle.stream.proofs.BytesReadingStage.{reading-beyond, reading-given, reading-located, bytes-here, bytes-few}
 use Rattle.lines.specs.declared.LineMode.{LineMode}
 use Rattle.lines.specs.declared.line_read.Reader.{Reader}
 use Rattle.lines.specs.LineRead.{lineFound}

@@ -1,5 +1,5 @@
 -- What writing a line promises: the order of its codes, when it is refused with 42, what a refusal keeps, the file and the gather buffer that it leaves, what stays as it was.
-use Prim.Native.Nat.{ℕ, _+_, _/_, _%_, _<_}
+use Prim.Native.Nat.{ℕ, _+_, _%_, _<_}
 use mathlib.Core.Path.{_≡_}
 use mathlib.Core.Logic.{_↔_}
 use mathlib.Core.Bool.{true, not, _||_}
@@ -22,7 +22,7 @@ use Rattle.asking.specs.Access.{accessRows}
 use Rattle.bodies.specs.Payloads.{payloadsOf}
 use Rattle.adding.specs.LinkedAddRows.{openForAdding}
 use Rattle.stream.specs.Gather.{Gathered, lastOr}
-use Rattle.stream.specs.AddedAll.{addedAll, takenBlocks}
+use Rattle.stream.specs.AddedAll.{takenBlocks}
 use Rattle.lines.specs.LineWrite.{putAll, takenOf, writtenStatus}
 use Rattle.lines.specs.LineReading.{modeOf}
 use Rattle.stream.specs.BytesWriting.{wrongGather, gatheredIn, writingRows}
@@ -41,10 +41,6 @@ module _ (img : List ℕ) (key : Key) (caller mode : ℕ) (text gather : List �
 
   abbrev outcome : Outcome
   outcome = lineWrite img key caller mode text gather filled
-
-  pub line-write-rows : outcome .code ≡ firstOf (writingRows img key caller (ltb 1 mode) gather filled (putAll line))
-  unfolding lineWrite
-  line-write-rows = W.write-code img key caller (ltb 1 mode) gather filled (putAll line) answer
 
   pub line-write-ordered : inOrder tableOrder 0 (writingRows img key caller (ltb 1 mode) gather filled (putAll line)) ≡ true
   line-write-ordered = W.write-ordered img key caller (ltb 1 mode) gather filled (putAll line) answer
@@ -69,20 +65,12 @@ module _ (img : List ℕ) (key : Key) (caller mode : ℕ) (text gather : List �
     unfolding lineWrite
     line-write-numbers = W.write-numbers img key caller (ltb 1 mode) gather filled (putAll line) answer success
 
-    pub line-write-image : outcome .image ≡ addedAll img key caller (after .full)
-    unfolding lineWrite
-    line-write-image = W.write-image img key caller (ltb 1 mode) gather filled (putAll line) answer success
-
     pub line-write-payloads : payloadsOf (outcome .image) (geometryOf img) (blocksAt (outcome .image) (geometryOf img) (entryNo img key))
         ≡ payloadsOf img (geometryOf img) (blocksAt img (geometryOf img) (entryNo img key)) ++ flatten (after .full)
     unfolding lineWrite
     line-write-payloads = W.write-payloads img key caller (ltb 1 mode) gather filled (putAll line) answer success
 
-    -- how many blocks become full, and the gather buffer: no byte is lost or added, where the next will lie, and what stays
-    pub line-write-full : length (after .full) ≡ (filled + length (putAll line)) / payloadBytes (geometryOf img)
-    unfolding lineWrite
-    line-write-full = W.write-full img key caller (ltb 1 mode) gather filled (putAll line) answer success
-
+    -- the gather buffer: no byte is lost or added, where the next will lie, and what stays
     pub line-write-gathered : flatten (after .full) ++ take (after .filled) (outcome .buffer) ≡ take filled gather ++ putAll line
     unfolding lineWrite
     line-write-gathered = W.write-gathered img key caller (ltb 1 mode) gather filled (putAll line) answer success

@@ -1,7 +1,7 @@
 -- Which form is known, its numbers, and what the numbers of any form are bounded by: the only laws that open a form's numbers.
 use Prim.Native.Nat.{ℕ, _+_, _*_, _≤_, _<_}
 use mathlib.Core.Bool.{Bool, true, false, cond}
-use mathlib.Core.Path.{_≡_, refl, ap}
+use mathlib.Core.Path.{_≡_, refl}
 use native.Mathlib.Omega.{arith}
 use lib.Dec.{eqb}
 use borrow.Author.Tests.{eqb-true}
@@ -27,21 +27,9 @@ pub document-segments : segmentsOf 1 ≡ 4
 unfolding segmentsOf
 document-segments = refl
 
-pub document-blocks : mostBlocksOf 1 ≡ 1024
-unfolding mostBlocksOf
-document-blocks = refl
-
-pub document-contents : mostContentsOf 1 ≡ 8
-unfolding mostContentsOf
-document-contents = refl
-
 pub document-uics : mostUicsOf 1 ≡ 64
 unfolding mostUicsOf
 document-uics = refl
-
-pub document-bodies : (contents : ℕ) → bodiesOf 1 contents ≡ contents + 1
-unfolding bodiesOf
-document-bodies contents = refl
 
 -- those of the 64-word disk (02 §11)
 pub disk-segments : segmentsOf 3 ≡ 1

@@ -57,7 +57,8 @@ held-front {map} {from} {middle} front is back = record {
 
 -- downwards: one block more, and a free block is not among them
 pub held-down : {map : List ℕ} {b end next : ℕ} → HeldFrom map (b + 1) end → (getD map b 0 ≡ 0 → ⊥) → next ≡ b → HeldFrom map next end
-held-down {map} {b} {end} {next} held here is = held-front {middle = next + 1} (held-more (held-none refl) (subst (λ (x : ℕ). getD map x 0 ≡ 0 → ⊥) (sym is) here) refl) (omega (arith, is)) held
+held-down {map} {b} {end} {next} held here is =
+    held-front {middle = next + 1} (held-more (held-none refl) (subst (λ (x : ℕ). getD map x 0 ≡ 0 → ⊥) (sym is) here) refl) (omega (arith, is)) held
 
 free-below : {map : List ℕ} {from end z : ℕ} → HeldFrom map from end → getD map z 0 ≡ 0 → z < end → z < from
 free-below {map} {from} {end} {z} held nobody below = by (decLt z from)

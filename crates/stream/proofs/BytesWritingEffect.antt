@@ -1,5 +1,5 @@
 -- What a request that writes bytes promises: when it is refused with 42, what a refusal keeps, the file and the gather buffer that it leaves, what stays as it was.
-use Prim.Native.Nat.{ℕ, _+_, _/_, _%_, _≤_, _<_}
+use Prim.Native.Nat.{ℕ, _+_, _%_, _≤_, _<_}
 use mathlib.Core.Path.{_≡_, refl, sym, ap, _∙_}
 use mathlib.Core.Logic.{_↔_}
 use mathlib.Core.Bool.{Bool, true, not, _||_}
@@ -32,7 +32,7 @@ use Rattle.adding.specs.LinkedAddRows.{openForAdding, linkedAddRows}
 use Rattle.adding.proofs.LinkedAddStage.{linked-add-ordered, linked-add-rows-last, linked-add-clear}
 use Rattle.stream.specs.Gather.{lastOr}
 use Rattle.stream.specs.AddedAll.{addedAll, takenBlocks, EachAdded}
-use Rattle.stream.proofs.Gather.{Gathering, gathered-holds, gathered-bytes, gathered-count, gathered-filled}
+use Rattle.stream.proofs.Gather.{Gathering, gathered-holds, gathered-bytes, gathered-filled}
 use Rattle.stream.proofs.AddedAll.{added-accepted, added-consistent, added-untouched, added-owner, added-payloads}
 use Rattle.stream.specs.BytesWriting.{wrongGather, gatheredIn, writingRows, bytesWritten}
 use Rattle.stream.proofs.BytesWritingStage.{Fitting}
@@ -133,9 +133,6 @@ module _ (img : List ℕ) (key : Key) (caller : ℕ) (wrong : Bool) (gather : Li
     write-payloads = rw write-image (added-payloads key caller (geometryOf img) (entryNo img key) img full write-added refl refl)
 
     -- how many blocks become full, and the gather buffer: what it holds behind them, where the next byte will lie, and what was not laid over
-    pub write-full : length full ≡ (filled + length put) / payloadBytes (geometryOf img)
-    write-full = gathered-count (payloadBytes (geometryOf img)) gather filled (fits passed .room) (fits passed .whole) put
-
     pub write-buffer : outcome .buffer ≡ gatheredIn img gather filled put .buffer
     write-buffer = ap (λ (p : Outcome). p .buffer) done
 

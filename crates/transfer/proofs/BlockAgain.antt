@@ -29,7 +29,8 @@ use Rattle.transfer.specs.BlockRows.{openForInput}
 use Rattle.transfer.specs.Block.{blockAtPlace, blockIn, blockOut}
 use Rattle.transfer.proofs.BlockStage.{BlockAsked}
 use Rattle.transfer.proofs.BlockIn.{block-in-given}
-use Rattle.transfer.proofs.BlockWritten.{blockWritten, written-consistent, written-measures, entry-written, block-out-access, block-out-within, block-out-asked, block-out-fits, block-out-image}
+use Rattle.transfer.proofs.BlockWritten.{blockWritten, written-consistent, written-measures, entry-written}
+use Rattle.transfer.proofs.BlockWritten.{block-out-access, block-out-within, block-out-asked, block-out-fits, block-out-image}
 
 -- a file whose writer is 1 is open for input too
 writer-serves : (x : Entry) → eqb (x .writer) 1 ≡ true → not (openForInput x) ≡ false

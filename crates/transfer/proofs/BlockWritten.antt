@@ -26,7 +26,7 @@ use Rattle.frame.specs.Framing.Distinct.{known}
 use Rattle.frame.specs.Described.{Described, Description}
 use Rattle.frame.proofs.FramedStays.{geometry-framed, listed-framed}
 use Rattle.frame.proofs.FramedCompose.{entry-kept, entries-kept}
-use Rattle.frame.proofs.FramedHeld.{framed-one, held-one}
+use Rattle.frame.proofs.FramedHeld.{framed-one}
 use Rattle.frame.proofs.Described.{next-extent, used-description, described-blocks, consistent-described}
 use Rattle.frame.proofs.UntouchedFramed.{untouched-refl, untouched-framed}
 use Rattle.frame.proofs.OwnerFramed.{owner-framed}
@@ -122,14 +122,6 @@ module _ {img : List ℕ} {key : Key} {wrong : Bool} {g : Geometry} {e : ℕ} {x
       owner-framed (sym (asked .file .measures)) (asked .file .right) written-framed (λ i. ℕ-discrete i e) b
       (λ i inside is. ap (placeFrom b 0) (subst (λ (j : ℕ). blocksAt (blockWritten img g x place buffer) g j ≡ blocksAt img g j) (sym is) (described-blocks written-described)))
 
-  written-held : (b : ℕ) → held (blockWritten img g x place buffer) b ≡ held img b
-  written-held b =
-      omega (
-        arith,
-        held-one (sym (asked .file .measures)) (asked .file .right) written-framed (asked .file .inside) b,
-        ap (count b) (described-blocks written-described),
-      )
-
   pub written-outside : (k : ℕ) → Outside (blockStart g (blockAtPlace x place)) (blockBytes g) k
       → getD (blockWritten img g x place buffer) k 0 ≡ getD img k 0
   written-outside k (inl low) = replaced-other img buffer (blockStart g (blockAtPlace x place)) within k (inl low)
@@ -187,9 +179,6 @@ module _ (img : List ℕ) (key : Key) (caller place : ℕ) (buffer : List ℕ) w
 
   pub block-out-owner : (b : ℕ) → ownerOf (blockOut img key caller place buffer .image) b ≡ ownerOf img b
   block-out-owner b = by-code (λ (after : List ℕ). ownerOf after b ≡ ownerOf img b) refl (λ success. written-owner (block-out-asked success) buffer (block-out-fits success) b)
-
-  pub block-out-held : Consistent img → (b : ℕ) → held (blockOut img key caller place buffer .image) b ≡ held img b
-  block-out-held consistent b = by-code (λ (after : List ℕ). held after b ≡ held img b) refl (λ success. written-held (block-out-asked success) buffer (block-out-fits success) b)
 
   -- no other byte changes
   pub block-out-outside : (k : ℕ) → Outside (blockStart (geometryOf img) (blockAtPlace (fileOf img key) place)) (blockBytes (geometryOf img)) k

@@ -43,9 +43,11 @@ put-head-requires c κs = search needs
 
 put-lines-requires : tie.Need-put-lines-requires
 put-lines-requires c κs =
-    let opened = sym (c .before .before .before .before .before .before .before .before .before .before .before .before .open-mapped .ensures .0) ∙ c .before .before .before .before .before .before .before .before .g .given .1 in (
+    let known = c .before .before .before .before .before .before .before .before in
+    let mapped = known .before .before .before .before in
+    let opened = sym (mapped .open-mapped .ensures .0) ∙ known .g .given .1 in (
       opened-good _ _ opened .2,
-      omega (arith, few-entries _ opened, c .before .before .before .put-head .ensures .1, c .before .before .before .before .before .before .before .before .before .before .before .before .before .before .before .before .before .pre .0),
+      omega (arith, few-entries _ opened, c .before .before .before .put-head .ensures .1, mapped .before .before .before .before .before .pre .0),
     )
 
 same-length-3 : tie.Need-same-length-3
@@ -56,11 +58,13 @@ same-length-4 c = search needs
 
 returns-2 : tie.Need-returns-2
 returns-2 c =
-    let mapped = c .before .before .before .before .before .before .before .before .before .before .before .before .before .before .before .open-mapped in
+    let at = c .before .before .before .before .before .before .before .before .before .before .before .before .before .before .before in
+    let mapped = at .open-mapped in
+    let free = c .before .before .before .before .before .before .before .free-count .ensures in
     let opened = sym (mapped .ensures .0) ∙ c .before .before .before .before .before .before .before .before .before .before .before .g .given .1 in
     let head = c .before .before .before .before .before .before .put-head .ensures in
     let lines = c .before .before .put-lines .ensures in (
-      put-text (listed _ opened (c .before .before .before .before .before .before .before .before .before .before .before .before .before .before .before .before .before .before .before .before .pre .1 .1) _ (mapped .ensures .1) (c .before .before .before .before .before .before .before .free-count .ensures)) (put-then (head .0) (lines .0)),
+      put-text (listed _ opened (at .before .before .before .before .before .pre .1 .1) _ (mapped .ensures .1) free) (put-then (head .0) (lines .0)),
       omega (arith, few-entries _ opened, head .1, lines .1),
     )
 

@@ -25,7 +25,9 @@ give-up-block-requires c κs =
     omega (arith, giving-block giving (omega (arith, c .before .loop-test .taken)), giving .long)
 
 next-block-requires : tie.Need-next-block-requires Inv-loop μ-loop
-next-block-requires c κs = (c .before .before .before .before .before .before .before .before .before .pre .0, giving-block (c .before .before .before .before .before .loop .inv .1) (omega (arith, c .before .before .before .before .loop-test .taken)))
+next-block-requires c κs =
+    let at = c .before .before .before .before .before in
+    (at .before .before .before .before .pre .0, giving-block (at .loop .inv .1) (omega (arith, c .before .before .before .before .loop-test .taken)))
 
 sub-more : tie.Need-sub-more Inv-loop μ-loop
 sub-more c = search needs

@@ -24,7 +24,9 @@ enum-known-code c = search needs
 
 returns-2 : tie.Need-returns-2
 returns-2 c =
-    adding-crowded _ _ _ _ _ (c .before .before .before .before .before .before .before .ask-open .ensures) _ _ _ (c .before .before .before .before .before .asked .given .1) _ (c .before .before .before .before .before .before .before .before .before .before .pre .1) _ _ (c .before .before .before .judge-room .ensures) _
+    adding-crowded _ _ _ _ _ (c .before .before .before .before .before .before .before .ask-open .ensures) _ _ _
+    (c .before .before .before .before .before .asked .given .1) _
+    (c .before .before .before .before .before .before .before .before .before .before .pre .1) _ _ (c .before .before .before .judge-room .ensures) _
     (c .before .code .given .1)
 
 enum-told-2 : tie.Need-enum-told-2
@@ -32,7 +34,9 @@ enum-told-2 c = search needs
 
 returns-3 : tie.Need-returns-3
 returns-3 c =
-    adding-given _ _ _ _ _ (c .before .before .before .before .before .before .ask-open .ensures) _ _ _ (c .before .before .before .before .asked .given .1) _ (c .before .before .before .before .before .before .before .before .before .pre .1) _ _ (c .before .before .judge-room .ensures)
+    adding-given _ _ _ _ _ (c .before .before .before .before .before .before .ask-open .ensures) _ _ _
+    (c .before .before .before .before .asked .given .1) _ (c .before .before .before .before .before .before .before .before .before .pre .1) _ _
+    (c .before .before .judge-room .ensures)
     (c .enum-told2 .given .1)
 
 pub ask-add-spec : {M : Type 1} → statement M

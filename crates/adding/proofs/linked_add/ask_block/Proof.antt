@@ -24,7 +24,9 @@ enum-told c = search needs
 
 returns : tie.Need-returns
 returns c =
-    block-nowhere _ _ _ _ _ (c .before .before .before .before .before .before .ask-open .ensures) _ _ _ (c .before .before .before .before .g .given .1) _ (c .before .before .before .before .before .before .before .before .before .pre .1) _ (c .before .before .highest-run .ensures)
+    block-nowhere _ _ _ _ _ (c .before .before .before .before .before .before .ask-open .ensures) _ _ _
+    (c .before .before .before .before .g .given .1) _ (c .before .before .before .before .before .before .before .before .before .pre .1) _
+    (c .before .before .highest-run .ensures)
     (c .enum-told .given .1)
 
 returns-2 : tie.Need-returns-2
@@ -32,7 +34,9 @@ returns-2 c = block-unasked _ _ _ _ _ (c .before .before .before .ask-open .ensu
 
 returns-3 : tie.Need-returns-3
 returns-3 c =
-    block-found _ _ _ _ _ (c .before .before .before .before .before .before .before .ask-open .ensures) _ _ _ (c .before .before .before .before .before .g .given .1) _ (c .before .before .before .before .before .before .before .before .before .before .pre .1) _ (c .before .before .before .highest-run .ensures) _
+    block-found _ _ _ _ _ (c .before .before .before .before .before .before .before .ask-open .ensures) _ _ _
+    (c .before .before .before .before .before .g .given .1) _
+    (c .before .before .before .before .before .before .before .before .before .before .pre .1) _ (c .before .before .before .highest-run .ensures) _
     (c .before .b .given .1)
 
 pub ask-block-spec : {M : Type 1} → statement M

@@ -34,7 +34,8 @@ same-length-2 c = search needs
 
 returns : tie.Need-returns
 returns c =
-    let denied = linked-add-denied _ _ _ _ _ (c .before .before .before .before .before .before .payload-bytes-of .ensures) _ (c .before .before .before .ask-block .ensures) _ (c .before .code .given .1) in
+    let bytes = c .before .before .before .before .before .before .payload-bytes-of .ensures in
+    let denied = linked-add-denied _ _ _ _ _ bytes _ (c .before .before .before .ask-block .ensures) _ (c .before .code .given .1) in
     (denied .0, (denied .1 .0, (denied .1 .1, c .before .before .before .before .before .before .before .before .before .before .before .pre .1)))
 
 same-length-3 : tie.Need-same-length-3

@@ -8,7 +8,10 @@ take-block-requires : tie.Need-take-block-requires
 take-block-requires c κs = let s = c .before .before .before .before .before in take-ready (s .pre .0) (s .pre .1)
 
 add-block-requires : tie.Need-add-block-requires
-add-block-requires c κs = let s = c .before .before .before .before .before .before .before .before .before .before .before in block-addable (s .pre .0) (s .pre .1) _ (c .before .before .before .before .before .take-block .ensures .0)
+add-block-requires c κs =
+    let taken = c .before .before .before .before .before in
+    let s = taken .before .before .before .before .before .before in
+    block-addable (s .pre .0) (s .pre .1) _ (taken .take-block .ensures .0)
 
 same-length : tie.Need-same-length
 same-length c = search needs

@@ -30,7 +30,8 @@ take-run-requires : tie.Need-take-run-requires
 take-run-requires c κs =
     let at-enter = c .before .before .before .before in
     let at-g = at-enter .before .before .before .before .before in
-    alloc-run _ _ _ _ _ _ (at-g .before .before .decide-alloc .ensures) _ _ _ _ (at-g .g .given .1) _ (at-g .before .before .before .before .before .before .before .pre .1) _ (at-enter .enter .kept .0)
+    alloc-run _ _ _ _ _ _ (at-g .before .before .decide-alloc .ensures) _ _ _ _ (at-g .g .given .1) _
+    (at-g .before .before .before .before .before .before .before .pre .1) _ (at-enter .enter .kept .0)
 
 same-length : tie.Need-same-length
 same-length c = search needs

@@ -21,7 +21,9 @@ is-legal-requires : tie.Need-is-legal-requires
 is-legal-requires c κs = search needs
 
 returns-2 : tie.Need-returns-2
-returns-2 c = creating-15 _ _ _ _ _ (sym (c .before .before .before .before .before .before .pre) ∙ c .before .before .before .opened .given .1) (sym (c .before .is-legal .ensures) ∙ not-true _ (c .if1 .taken))
+returns-2 c =
+    creating-15 _ _ _ _ _ (sym (c .before .before .before .before .before .before .pre) ∙ c .before .before .before .opened .given .1)
+    (sym (c .before .is-legal .ensures) ∙ not-true _ (c .if1 .taken))
 
 returns-3 : tie.Need-returns-3
 returns-3 c =
@@ -47,7 +49,9 @@ returns-5 c =
     (at-if3 .before .if2 .left) (at-if3 .if3 .left) (sym (c .before .is-listed .ensures) ∙ not-true _ (c .if4 .taken))
 
 find-requires : tie.Need-find-requires
-find-requires c κs = opened-good _ _ (sym (c .before .before .before .before .before .before .before .before .before .before .pre) ∙ c .before .before .before .before .before .before .before .opened .given .1) .2
+find-requires c κs =
+    let at = c .before .before .before .before .before .before .before in
+    opened-good _ _ (sym (at .before .before .before .pre) ∙ at .opened .given .1) .2
 
 enum-told-2 : tie.Need-enum-told-2
 enum-told-2 c = search needs
@@ -80,7 +84,8 @@ returns-7 c =
 
 lowest-empty-requires : tie.Need-lowest-empty-requires
 lowest-empty-requires c κs =
-    let opened = opened-good _ _ (sym (c .before .before .before .before .before .before .before .before .before .before .before .before .before .before .before .pre) ∙ c .before .before .before .before .before .before .before .before .before .before .before .before .opened .given .1) in
+    let at = c .before .before .before .before .before .before .before .before .before .before .before .before in
+    let opened = opened-good _ _ (sym (at .before .before .before .pre) ∙ at .opened .given .1) in
     (opened .2, entries-at _ _ (sym (opened .1)) (opened .0))
 
 enum-known-e : tie.Need-enum-known-e

@@ -77,7 +77,8 @@ returns-5 c =
     let at-named = at-old .before .before .before in
     let at-opened = at-named .before .before .before .before in
     old-asked _ _ _ _ _ (at-opened .before .before .before .pre) _ (at-opened .opened .given .1) _ (at-named .before .before .judge-names .ensures)
-    (at-named .enum-told2 .given .1) _ (at-old .before .before .find .ensures) _ (at-old .e .given .1) _ (c .before .before .before .find2 .ensures) (c .before .enum-told4 .given .1) _ (c .read-entry .ensures .0)
+    (at-named .enum-told2 .given .1) _ (at-old .before .before .find .ensures) _ (at-old .e .given .1) _ (c .before .before .before .find2 .ensures)
+    (c .before .enum-told4 .given .1) _ (c .read-entry .ensures .0)
 
 pub ask-old-spec : {M : Type 1} → statement M
 ask-old-spec =

@@ -23,13 +23,17 @@ enum-known-code : tie.Need-enum-known-code
 enum-known-code c = search needs
 
 returns-2 : tie.Need-returns-2
-returns-2 c = decide-stopped _ _ _ _ _ _ (c .before .before .before .before .before .before .before .ask-old .ensures) _ _ _ (c .before .before .before .before .before .asked .given .1) _ (c .before .before .before .judge-permit .ensures) _ (c .before .code .given .1)
+returns-2 c =
+    decide-stopped _ _ _ _ _ _ (c .before .before .before .before .before .before .before .ask-old .ensures) _ _ _
+    (c .before .before .before .before .before .asked .given .1) _ (c .before .before .before .judge-permit .ensures) _ (c .before .code .given .1)
 
 enum-told-2 : tie.Need-enum-told-2
 enum-told-2 c = search needs
 
 returns-3 : tie.Need-returns-3
-returns-3 c = decide-passed _ _ _ _ _ _ (c .before .before .before .before .before .before .ask-old .ensures) _ _ _ (c .before .before .before .before .asked .given .1) _ (c .before .before .judge-permit .ensures) (c .enum-told2 .given .1)
+returns-3 c =
+    decide-passed _ _ _ _ _ _ (c .before .before .before .before .before .before .ask-old .ensures) _ _ _
+    (c .before .before .before .before .asked .given .1) _ (c .before .before .judge-permit .ensures) (c .enum-told2 .given .1)
 
 pub decide-renam-spec : {M : Type 1} → statement M
 decide-renam-spec =

@@ -17,10 +17,14 @@ returns-2 : tie.Need-returns-2
 returns-2 c = new-illegal _ _ _ _ (c .before .before .before .is-legal .ensures) (c .before .before .if1 .left) _ (c .before .is-legal2 .ensures) (c .if2 .taken)
 
 returns-3 : tie.Need-returns-3
-returns-3 c = argument-wrong _ _ _ _ (c .before .before .before .before .is-legal .ensures) (c .before .before .before .if1 .left) _ (c .before .before .is-legal2 .ensures) (c .before .if2 .left) (c .if3 .taken)
+returns-3 c =
+    argument-wrong _ _ _ _ (c .before .before .before .before .is-legal .ensures) (c .before .before .before .if1 .left) _
+    (c .before .before .is-legal2 .ensures) (c .before .if2 .left) (c .if3 .taken)
 
 returns-4 : tie.Need-returns-4
-returns-4 c = names-clear _ _ _ _ (c .before .before .before .before .is-legal .ensures) (c .before .before .before .if1 .left) _ (c .before .before .is-legal2 .ensures) (c .before .if2 .left) (c .if3 .left)
+returns-4 c =
+    names-clear _ _ _ _ (c .before .before .before .before .is-legal .ensures) (c .before .before .before .if1 .left) _
+    (c .before .before .is-legal2 .ensures) (c .before .if2 .left) (c .if3 .left)
 
 pub judge-names-spec : {M : Type 1} → statement M
 judge-names-spec =

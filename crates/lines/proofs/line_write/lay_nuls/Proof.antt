@@ -23,7 +23,9 @@ same-length-3 : tie.Need-same-length-3
 same-length-3 c = search needs
 
 returns : tie.Need-returns
-returns c = nuls-laid _ _ (c .before .before .before .before .before .before .before .before .before .before .before .before .before .before .pre .1) (c .before .before .before .before .before .before .lay-all .ensures)
+returns c =
+    let laid = c .before .before .before .before .before .before in
+    nuls-laid _ _ (laid .before .before .before .before .before .before .before .before .pre .1) (laid .lay-all .ensures)
 
 pub lay-nuls-spec : {M : Type 1} → statement M
 lay-nuls-spec =

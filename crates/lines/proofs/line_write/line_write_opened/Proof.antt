@@ -68,12 +68,13 @@ same-length-6 c = search needs
 
 returns-2 : tie.Need-returns-2
 returns-2 c =
-    let s = c .before .before .before .before .before .before .before .before .before .before .before .before .before .before .before .before .before .before .before .before .before .before .before .before .before in
+    let at = c .before .before .before .before .before .before .before .before .before .before .before .before in
+    let s = at .before .before .before .before .before .before .before .before .before .before .before .before .before in
     let a = s .args in
-    let count = c .before .before .before .before .before .before .before .before .before .before .before .before .before .before .before .before .before .before .before .before .count-taken .ensures in
+    let count = at .before .before .before .before .before .before .before .before .count-taken .ensures in
     let full = c .before .before .before .before .before .before .before .before .before .before .before .before .before .before .before .before .before .before .text-blocks .ensures .0 in
     let asked = c .before .before .before .before .before .before .before .before .before .before .before .before .before .before .ask-write .ensures in
-    let told = c .before .before .before .before .before .before .before .before .before .before .before .before .g .given .1 in
+    let told = at .g .given .1 in
     line-done (a .img .now) (a .key) (a .caller) (a .mode) (a .text .now) (a .gather .now) (a .filled) count full asked told _ (s .pre .1)
     (c .before .before .before .before .before .before .before .lay-text .ensures) (c .status-of .ensures)
 
