@@ -11,6 +11,7 @@ use lib.ListN.{length, set}
 use Rattle.answers.specs.Refusals.{Row}
 use Rattle.pack.specs.declared.Geometry.{Geometry}
 use Rattle.pack.specs.declared.BlockNo.{BlockNo}
+use Rattle.pack.specs.declared.Entry.{Entry}
 use Rattle.pack.specs.declared.Key.{Key}
 use Rattle.pack.specs.GeometrySized.{Sized}
 use Rattle.pack.specs.Geometry.{geometryOf, payloadBytes, slots}
@@ -29,7 +30,7 @@ use Rattle.asking.specs.AskedStage.{stageOf}
 use Rattle.asking.proofs.Outcome.{done-answer, refused-answer}
 use Rattle.asking.proofs.AskedStage.{Given, stage-is-refused, stage-is-file}
 use Rattle.room.specs.RoomMap.{Says, FreeOn, SomeBelow, NoneFrom, runOn}
-use Rattle.room.specs.Cleared.{cleared}
+use Rattle.room.specs.Cleared.{taken}
 use Rattle.room.proofs.RoomMapRun.{one-from, run-is}
 use Rattle.room.proofs.RoomMapTaken.{free-on}
 use Rattle.bodies.specs.BufferSizes.{wrongPayload}
@@ -38,11 +39,11 @@ use Rattle.bodies.proofs.EntryChainLinked.{last-body}
 use Rattle.adding.specs.declared.linked_add.Adding.{Adding}
 use Rattle.adding.specs.declared.linked_add.Adding.the-variants.{Block, Refused as Denied}
 use Rattle.adding.specs.LinkedAddRows.{linkedAddRows}
-use Rattle.adding.specs.LinkedAdd.{addedBlock, added, linkedAdd}
+use Rattle.adding.specs.LinkedAdd.{addedBlock, added, enlargedBy, linkedAdd}
 use Rattle.adding.specs.LinkedAddStage.{blockIn, addingOf, Addable, Ready}
 use Rattle.adding.proofs.LinkedAddStage.{Admitted, admitted, free-block, block-free}
 use Rattle.adding.proofs.LinkedAddMap.{map-enlarged, none-enlarged}
-use Rattle.adding.proofs.LinkedAddTaken.{taken-added, taken-addable}
+use Rattle.adding.proofs.LinkedAddTaken.{taken-entry, taken-addable}
 
 -- what an answer with the block in it says of the stage
 refused-in : (b : ℕ) {code : ℕ} (asked : Asked) → blockIn b asked ≡ Denied code → asked ≡ Refused code
@@ -131,21 +132,24 @@ module _ {img map : List ℕ} {g : Geometry} {e : ℕ} {payload : List ℕ} (rea
     pub take-ready : Sized img g × ((g .blocks ≤ length map) × FreeOn map g b)
     take-ready = (before .sized, (ready .long, free-on (ready .says) (ready .measures) block-own))
 
-    -- the block was taken: it is cleared, and what is added is the same
-    pub block-addable : (img′ : List ℕ) → img′ ≡ cleared img g b 1 → Addable img′ g e b payload
-    block-addable img′ taken = taken-addable (before .sized) (before .body) (before .below) taken before
+    -- the block was taken: then it can be joined, and the map is right again
+    pub block-addable : (img′ : List ℕ) → img′ ≡ taken img g b 1 → Addable img′ g e b payload
+    block-addable img′ is = rw is (taken-addable (before .sized) b (before .body) (before .below) before)
 
-    pub block-done : (img′ : List ℕ) → img′ ≡ cleared img g b 1 → (img″ : List ℕ) → img″ ≡ added img′ g e (entryOf img′ g e) b payload
-        → (map′ : List ℕ) → map′ ≡ set map b 1 → (img″ ≡ added img g e (entryOf img g e) (addedBlock img) payload) × Says map′ img″
-    block-done img′ taken img″ written map′ marked =
-        let image : img″ ≡ added img g e (entryOf img g e) (addedBlock img) payload =
-        written ∙ taken-added (before .sized) (before .body) (before .below) taken payload (before .whole) e (before .entry)
-        ∙ ap (λ (z : ℕ). added img g e (entryOf img g e) z payload) block in
-        let says : Says map′ (added img g e (entryOf img g e) (addedBlock img) payload) = rw (marked, block) (map-enlarged ready (addedBlock img) own-free) in
+    pub block-done : (img′ : List ℕ) → img′ ≡ taken img g b 1 → (img″ : List ℕ) → img″ ≡ added img′ g e (entryOf img′ g e) b payload
+        → (map′ : List ℕ) → map′ ≡ set map b 1 → (img″ ≡ enlargedBy img g e (entryOf img g e) (addedBlock img) payload) × Says map′ img″
+    unfolding enlargedBy
+    block-done img′ is img″ written map′ marked =
+        let image : img″ ≡ enlargedBy img g e (entryOf img g e) (addedBlock img) payload =
+        written
+        ∙ (ap (λ (i : List ℕ). added i g e (entryOf i g e) b payload) is
+        ∙ (ap (λ (x : Entry). added (taken img g b 1) g e x b payload) (taken-entry (before .sized) b (before .body) (before .below) e (before .entry))
+        ∙ ap (λ (z : ℕ). added (taken img g z 1) g e (entryOf img g e) z payload) block)) in
+        let says : Says map′ (enlargedBy img g e (entryOf img g e) (addedBlock img) payload) = rw (marked, block) (map-enlarged ready (addedBlock img) own-free) in
         (image, rw image says)
 
     -- from it on none is free then
-    pub none-left : {img′ map′ : List ℕ} → img′ ≡ added img g e (entryOf img g e) (addedBlock img) payload → Says map′ img′ → NoneFrom map′ g b
+    pub none-left : {img′ map′ : List ℕ} → img′ ≡ enlargedBy img g e (entryOf img g e) (addedBlock img) payload → Says map′ img′ → NoneFrom map′ g b
     none-left {img′} {map′} image says = rw block (none-enlarged ready map′ (subst (Says map′) image says))
 
 -- what the stage's two answers say; `size` is what the payload's length is compared to
@@ -192,7 +196,7 @@ module _ (img : List ℕ) (key : Key) (caller : ℕ) (payload : List ℕ) (size 
           says = held-on .says;
         }
 
-    pub linked-add-done : (img′ : List ℕ) → img′ ≡ added img g e (entryOf img g e) (addedBlock img) payload
+    pub linked-add-done : (img′ : List ℕ) → img′ ≡ enlargedBy img g e (entryOf img g e) (addedBlock img) payload
         → (0 ≡ linkedAdd img key caller payload .code)
         × (((b .0 ∷ []) ≡ linkedAdd img key caller payload .numbers)
         × (img′ ≡ linkedAdd img key caller payload .image))
@@ -203,5 +207,5 @@ module _ (img : List ℕ) (key : Key) (caller : ℕ) (payload : List ℕ) (size 
         done-answer rows img payload _ (given .clear) (b .0 ∷ []) img′ (ap (λ (z : ℕ). z ∷ []) block-is)
         (written
         ∙ (λ i.
-        added img (sym (given .measures) i) (sym (given .number) i) (entryOf img (sym (given .measures) i) (sym (given .number) i)) (addedBlock img) payload)) in
+        enlargedBy img (sym (given .measures) i) (sym (given .number) i) (entryOf img (sym (given .measures) i) (sym (given .number) i)) (addedBlock img) payload)) in
         (d .0, (d .1, d .2))

@@ -1,19 +1,20 @@
 -- What linked add promises: when it is refused with 42, what a refusal keeps, the block that it takes, the file that it leaves, and what stays as it was.
-use Prim.Native.Nat.{ℕ, _≤_, _<_}
+use Prim.Native.Nat.{ℕ, _+_, _≤_, _<_}
 use mathlib.Core.Path.{_≡_, refl, sym, ap, subst, _∙_}
 use mathlib.Core.Logic.{_↔_}
 use mathlib.Core.Bool.{not}
 use mathlib.Core.List.{List, [], _∷_, _++_}
 use native.Mathlib.Omega.{arith}
 use native.Mathlib.Decide.{decLt}
-use lib.Dec.{ltb}
+use lib.Dec.{eqb, ltb}
 use borrow.Author.Tests.{lt-ltb, le-ltb}
 use Rattle.answers.specs.Refusals.{row, firstOf}
 use Rattle.answers.proofs.Refusals.{refuse, pass, clear as no-rows}
 use Rattle.words.specs.Word.{wordAt}
 use Rattle.pack.specs.declared.Key.{Key}
 use Rattle.pack.specs.Geometry.{geometryOf, blockWords}
-use Rattle.pack.specs.File.{linkOf, count}
+use Rattle.pack.specs.File.{linkOf, one, count}
+use Rattle.pack.specs.Map.{HasMap, mapBits, mapBit}
 use Rattle.pack.specs.Entry.{entryOf, blocksAt}
 use Rattle.pack.specs.Consistent.{Consistent}
 use Rattle.pack.specs.Owner.{freeCount, FreeBlock}
@@ -32,12 +33,12 @@ use Rattle.asking.proofs.AccessStage.{Reached}
 use Rattle.pack.proofs.KeySame.{key-single}
 use Rattle.frame.specs.Framed.{ChangesOnly, Only}
 use Rattle.frame.specs.Framing.{Framed}
-use Rattle.frame.proofs.EntrySame.{right-bodies}
+use Rattle.pack.proofs.FileCount.{count-one}
+use Rattle.pack.proofs.ConsistentHeld.{right-bodies, consistent-says}
 use Rattle.frame.proofs.FramedHeld.{held-none}
 use Rattle.frame.proofs.UntouchedFramed.{untouched-framed, untouched-refl}
 use Rattle.frame.proofs.FramedCompose.{header-kept}
 use Rattle.frame.proofs.ChangesWritten.{changes-nothing}
-use Rattle.frame.proofs.FramedStays.{bodies-behind}
 use Rattle.frame.proofs.GrowthConsistent.{grown-framed, grown-blocks, grown-consistent}
 use Rattle.room.proofs.RoomNeeds.{none-free}
 use Rattle.bodies.specs.BlockBytes.{payloadOf}
@@ -46,7 +47,7 @@ use Rattle.bodies.specs.Payloads.{payloadsOf}
 use Rattle.bodies.proofs.BufferSizes.{payload-fits}
 use Rattle.bodies.proofs.Payloads.{payloads-one, payloads-append, payloads-same}
 use Rattle.adding.specs.LinkedAddRows.{openForAdding, linkedAddRows}
-use Rattle.adding.specs.LinkedAdd.{AddWords, addedBlock, added, linkedAdd}
+use Rattle.adding.specs.LinkedAdd.{AddWords, addedBlock, enlargedBy, linkedAdd}
 use Rattle.adding.proofs.LinkedAddStage.{Admitted, admitted, linked-add-rows-last, block-free, block-highest}
 use Rattle.adding.proofs.LinkedAddEnlarged.{Touched, Enlarged, added-changes, enlarged}
 
@@ -98,7 +99,7 @@ module _ (img : List ℕ) (key : Key) (caller : ℕ) (payload : List ℕ) where
 
   -- the image with the block, where nothing speaks against it
   abbrev after : List ℕ
-  after = added img (geometryOf img) (entryNo img key) (entryOf img (geometryOf img) (entryNo img key)) (addedBlock img) payload
+  after = enlargedBy img (geometryOf img) (entryNo img key) (entryOf img (geometryOf img) (entryNo img key)) (addedBlock img) payload
 
   free-of : Admitted img key (wrongPayload img payload) → FreeBlock img (addedBlock img)
   free-of a = block-free (a .file .right) (a .more)
@@ -125,7 +126,7 @@ module _ (img : List ℕ) (key : Key) (caller : ℕ) (payload : List ℕ) where
         payloads-same img after (geometryOf img) (larger .grown .kept .long) (blocksAt img (geometryOf img) (entryNo img key))
         (λ b reached i behind small.
         let body = right-bodies img (geometryOf img) (entryNo img key) b (a .file .right .entries (entryNo img key) (a .file .inside)) reached in
-        larger .others b i (not-held b reached) (omega (arith, body .0, bodies-behind img (geometryOf img) refl)) behind small)
+        larger .others b i (not-held b reached) (body .0) behind small)
       where
         not-held : (b : ℕ) → 0 < count b (blocksAt img (geometryOf img) (entryNo img key)) → b ≡ addedBlock img → ⊥
         not-held b reached is =
@@ -196,6 +197,17 @@ module _ (img : List ℕ) (key : Key) (caller : ℕ) (payload : List ℕ) where
     pub linked-add-link : linkOf (linkedAdd img key caller payload .image) (geometryOf img) (addedBlock img) ≡ 0
     linked-add-link = linked-add-enlarged .grown .end
 
+    -- 02 §7: on the map the bit of the block is 1 then, and any other as it was
+    pub linked-add-bits : HasMap (geometryOf img) → (z : ℕ) → z < mapBits (geometryOf img)
+        → mapBit (linkedAdd img key caller payload .image) (geometryOf img) z ≡ mapBit img (geometryOf img) z + one (eqb z (addedBlock img))
+    linked-add-bits there z within =
+        omega (
+          arith,
+          linked-add-enlarged .grown .map .is there z within,
+          consistent-says img (geometryOf img) refl (linked-add-admitted .file .right) .is there z within,
+          count-one z (addedBlock img),
+        )
+
   -- refused or not
   always : (P : List ℕ → Type 0) → P img → ((a : Admitted img key (wrongPayload img payload)) → P after) → P (linkedAdd img key caller payload .image)
   unfolding linkedAdd fileOf
@@ -219,5 +231,5 @@ module _ (img : List ℕ) (key : Key) (caller : ℕ) (payload : List ℕ) where
   unfolding fileOf
   linked-add-changes =
       always (ChangesOnly (AddWords (geometryOf img) (entryNo img key) (entryOf img (geometryOf img) (entryNo img key)) (addedBlock img)) img) changes-nothing
-      (λ a. added-changes img (geometryOf img) (addedBlock img) payload (header-sized img (a .file .right .header)) (free-of a .below)
+      (λ a. added-changes img (geometryOf img) (addedBlock img) payload (header-sized img (a .file .right .header)) (free-of a .body) (free-of a .below)
       (payload-fits img payload (geometryOf img) (a .file .argument) refl) _ _)

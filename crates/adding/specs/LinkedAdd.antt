@@ -14,8 +14,9 @@ use Rattle.pack.specs.declared.Key.{Key}
 use Rattle.pack.specs.Geometry.{geometryOf, blockAt}
 use Rattle.asking.specs.Outcome.{Outcome, settled}
 use Rattle.asking.specs.Asked.{entryNo, fileOf}
-use Rattle.frame.specs.Framed.{InWords, InBlock}
+use Rattle.frame.specs.Framed.{InWords, InBlock, MapWord}
 use Rattle.room.specs.RoomTest.{highestRun}
+use Rattle.room.specs.Cleared.{taken}
 use Rattle.bodies.specs.BlockBytes.{payloadStart, withPart}
 use Rattle.bodies.specs.BufferSizes.{wrongPayload}
 use Rattle.bodies.specs.EntryChain.{resized}
@@ -41,9 +42,14 @@ added img g e x b payload =
 abbrev pub addedBlock : List ℕ → ℕ
 addedBlock img = orElse 0 (highestFree img)
 
--- what may change: words 6 to 8 of the entry, the new block, and the link of the last block of a file that has one (`linked-add-changes`)
+-- what may change: words 6 to 8 of the entry, the new block, the link of the last block of a file that has one, and the word of the map that has the
+-- new block's bit (`linked-add-changes`)
 abbrev pub AddWords : Geometry → ℕ → Entry → ℕ → ℕ → Type 0
-AddWords g e x b w = InWords g e 6 8 w ⊎ (InBlock g b w ⊎ ((0 < x .length) × (w ≡ blockAt g (x .last .0))))
+AddWords g e x b w = InWords g e 6 8 w ⊎ (InBlock g b w ⊎ (((0 < x .length) × (w ≡ blockAt g (x .last .0))) ⊎ MapWord g b w))
+
+-- one block more for the file of an entry: 02 §2, "taking a block for any use shall promise that it is cleared before use", and then it is joined
+unfoldable pub enlargedBy : List ℕ → Geometry → ℕ → Entry → ℕ → List ℕ → List ℕ
+enlargedBy img g e x b payload = added (taken img g b 1) g e x b payload
 
 -- "ALLOC and linked add also return the first or added block"; one block is needed
 unfoldable pub linkedAdd : List ℕ → Key → ℕ → List ℕ → Outcome
@@ -52,6 +58,6 @@ linkedAdd img key caller payload =
     (record {
       code = 0;
       numbers = addedBlock img ∷ [];
-      image = added img (geometryOf img) (entryNo img key) (fileOf img key) (addedBlock img) payload;
+      image = enlargedBy img (geometryOf img) (entryNo img key) (fileOf img key) (addedBlock img) payload;
       buffer = payload;
     })

@@ -14,7 +14,7 @@ ghost use Rattle.asking.specs.AskedStage.{stageOf};
 ghost use Rattle.asking.specs.AccessStage.{accessedOf};
 ghost use Rattle.room.specs.RoomMap.{Says, NoneFrom};
 ghost use Rattle.adding.specs.LinkedAddRows.{openForAdding, linkedAddRows};
-ghost use Rattle.adding.specs.LinkedAdd.{blockWith, added, addedBlock, linkedAdd};
+ghost use Rattle.adding.specs.LinkedAdd.{blockWith, added, enlargedBy, addedBlock, linkedAdd};
 ghost use Rattle.adding.specs.LinkedAddStage.{addingOf, Addable, Ready};
 use answers::Answer;
 use answers::Verdict;
@@ -131,7 +131,7 @@ fn add_block(img: &mut [u8], g: Geometry, e: usize, b: BlockNo, payload: &[u8])
 fn take_and_add(img: &mut [u8], map: &mut [u8], g: Geometry, e: usize, b: BlockNo, payload: &[u8])
     requires { ⌜ Ready (now img) (now map) g e (now payload) ⌝ }
     requires { ⌜ b .0 ≡ addedBlock (now img) ⌝ }
-    ensures { λ r. ⌜ now (img .exit) ≡ added (now (img .entry)) g e (entryOf (now (img .entry)) g e) (addedBlock (now (img .entry))) (now (payload .entry)) ⌝ }
+    ensures { λ r. ⌜ now (img .exit) ≡ enlargedBy (now (img .entry)) g e (entryOf (now (img .entry)) g e) (addedBlock (now (img .entry))) (now (payload .entry)) ⌝ }
     ensures { λ r. ⌜ Says (now (map .exit)) (now (img .exit)) ⌝ }
 {
     room::take_block(img, map, g, b);
@@ -150,7 +150,7 @@ pub fn add_below(
     requires { ⌜ Ready (now img) (now map) g e (now payload) ⌝ }
     requires { ⌜ NoneFrom (now map) g (from .0) ⌝ }
     ensures { λ r. ⌜ r .0 ≡ addedBlock (now (img .entry)) ⌝ }
-    ensures { λ r. ⌜ now (img .exit) ≡ added (now (img .entry)) g e (entryOf (now (img .entry)) g e) (addedBlock (now (img .entry))) (now (payload .entry)) ⌝ }
+    ensures { λ r. ⌜ now (img .exit) ≡ enlargedBy (now (img .entry)) g e (entryOf (now (img .entry)) g e) (addedBlock (now (img .entry))) (now (payload .entry)) ⌝ }
     ensures { λ r. ⌜ Says (now (map .exit)) (now (img .exit)) ⌝ }
     ensures { λ r. ⌜ NoneFrom (now (map .exit)) g (r .0) ⌝ }
 {
@@ -166,6 +166,10 @@ pub fn linked_add(img: &mut [u8], key: Key, caller: usize, payload: &[u8]) -> An
 {
     if img.len() <= consistency::FEW_BYTES {
         let mut map = [0u8; consistency::FEW_BLOCKS];
+        return linked_add_lent(img, &mut map, key, caller, payload);
+    }
+    if img.len() <= consistency::MANY_BYTES {
+        let mut map = [0u8; consistency::MANY_BLOCKS];
         return linked_add_lent(img, &mut map, key, caller, payload);
     }
     let mut map = [0u8; pack::MOST_BLOCKS];

@@ -27,7 +27,7 @@ use Rattle.asking.proofs.Outcome.{refusal-keeps}
 use Rattle.pack.proofs.KeySame.{key-single}
 use Rattle.frame.specs.Framing.{Either, Framed}
 use Rattle.frame.specs.Growth.{Joined}
-use Rattle.frame.proofs.EntrySame.{right-bodies}
+use Rattle.pack.proofs.ConsistentHeld.{right-bodies}
 use Rattle.frame.proofs.UntouchedFramed.{untouched-framed, untouched-refl}
 use Rattle.frame.proofs.FramedCompose.{header-kept}
 use Rattle.frame.proofs.FramedHeld.{held-two}

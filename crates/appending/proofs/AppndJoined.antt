@@ -17,7 +17,7 @@ use Rattle.frame.specs.Framed.{Only, Never, Kept}
 use Rattle.frame.specs.Growth.{Joined}
 use Rattle.frame.proofs.FramedCompose.{kept-widen, entry-kept, link-kept, entries-kept, block-kept}
 use Rattle.frame.proofs.FramedStays.{entries-at}
-use Rattle.frame.proofs.EntrySame.{right-bodies}
+use Rattle.pack.proofs.ConsistentHeld.{right-bodies}
 use Rattle.frame.proofs.FramedHeld.{held-apart}
 use Rattle.frame.proofs.GrowthChain.{ended-last}
 use Rattle.frame.proofs.GrowthResized.{linked-ended}

@@ -18,7 +18,7 @@ use Rattle.frame.specs.Framed.{Only, Never, Kept}
 use Rattle.frame.specs.Growth.{EndedChain, Resized}
 use Rattle.frame.proofs.FramedCompose.{link-kept, block-kept}
 use Rattle.frame.proofs.FramedStays.{entries-at}
-use Rattle.frame.proofs.EntrySame.{right-bodies}
+use Rattle.pack.proofs.ConsistentHeld.{right-bodies}
 use Rattle.frame.proofs.FramedWritten.{kept-link, link-set-same, link-set-entry}
 use Rattle.frame.proofs.GrowthChain.{ended-first, ended-last}
 use Rattle.frame.proofs.GrowthResized.{linked-ended}

@@ -17,7 +17,7 @@ use Rattle.pack.specs.Consistent.{Consistent}
 use Rattle.answers.proofs.RefusalsTests.{true-not-false}
 use Rattle.frame.specs.Growth.{EndedChain}
 use Rattle.frame.proofs.FramedStays.{entries-at}
-use Rattle.frame.proofs.EntrySame.{right-bodies}
+use Rattle.pack.proofs.ConsistentHeld.{right-bodies}
 use Rattle.frame.proofs.FileChainWays.{first-in}
 use Rattle.frame.proofs.GrowthChain.{ended-first, ended-final, ended-last}
 use Rattle.frame.proofs.GrowthResized.{linked-ended}

@@ -11,21 +11,23 @@ use Rattle.pack.specs.declared.Geometry.{Geometry}
 use Rattle.pack.specs.GeometrySized.{Sized}
 use Rattle.pack.specs.Geometry.{geometryOf, slots}
 use Rattle.pack.specs.HeaderTest.{headerTest}
-use Rattle.pack.specs.File.{count}
-use Rattle.pack.specs.Entry.{entryWord, entryOf, blocksAt, Empty, RightEntry}
+use Rattle.pack.specs.Entry.{entryWord, entryOf, Empty, RightEntry}
 use Rattle.pack.specs.Key.{keyIn, SameKey}
-use Rattle.pack.specs.Consistent.{heldIn, held, Consistent}
+use Rattle.pack.specs.Consistent.{heldIn, held, MapAgrees, Consistent}
+use Rattle.pack.specs.MapSays.{marking}
 use Rattle.answers.proofs.RefusalsTests.{and-left, and-right, and-both}
 use Rattle.pack.proofs.HeaderTestWhole.{header-iff}
 use Rattle.pack.proofs.HeaderRules.{header-sized}
-use Rattle.pack.proofs.ConsistentTotal.{total-same, total-each}
 use Rattle.radix.proofs.Names.{name-not-zero}
 use Rattle.consistency.specs.declared.Opened.the-variants.{Good, Bad}
 use Rattle.consistency.specs.Walk.{systemSet}
-use Rattle.consistency.specs.ConsistentTest.{scanTest, markAll, emptyMap, systemMap, entriesTest, consistent, openedOf}
+use Rattle.consistency.specs.ConsistentTest.{scanTest, markAll, emptyMap, systemMap, entriesTest, filesTest, consistent, openedOf}
+use Rattle.consistency.specs.MapTest.{mapTest}
+use Rattle.consistency.proofs.MapTest.{map-test-iff}
 use Rattle.consistency.proofs.DifferTest.{differ-iff}
 use Rattle.consistency.proofs.WalkSystem.{system-length, system-own, system-others}
-use Rattle.consistency.proofs.ConsistentTestScan.{right-range, scan-fine, fine-scan, scan-counts, marks-length}
+use Rattle.pack.proofs.ConsistentHeld.{system-free, map-iff}
+use Rattle.consistency.proofs.ConsistentTestScan.{scan-fine, fine-scan, scan-counts, marks-length}
 
 pub empty-long : (long : ℕ) → length (emptyMap long) ≡ long
 empty-long long = length-replicate {A = ℕ} long 0
@@ -50,18 +52,6 @@ module _ (img : List ℕ) (g : Geometry) where
   named e (inl empty) used is = used empty
   named e (inr u) used is = name-not-zero _ _ (u .name) is
 
-  -- no file holds a block of the system
-  system-held : ((e : ℕ) → e < slots g → RightEntry img g e) → (b : ℕ) → b < g .bodies .0 → heldIn img g b ≡ 0
-  system-held right b own =
-      total-same (λ e. count b (blocksAt img g e)) (λ e. 0) 0 (slots g) (λ e low high. none e (right e (omega arith)))
-      ∙ (total-each 0 0 (slots g) ∙ omega arith)
-    where
-      none : (e : ℕ) → RightEntry img g e → count b (blocksAt img g e) ≡ 0
-      none e is = elim (decLt 0 (count b (blocksAt img g e))) [
-        | yes some ↦ absurd (omega (arith, right-range img g e is b some))
-        | no free ↦ omega (arith, free)
-      ]
-
   -- on a map with a place for each block
   module _ (sized : Sized img g) (places : ℕ) (enough : g .blocks ≤ places) where
     pub system-long : length (systemMap places g) ≡ places
@@ -71,10 +61,10 @@ module _ (img : List ℕ) (g : Geometry) where
     long = omega (arith, system-long, enough)
 
     -- the system's map has 1 at each of the system's blocks and 0 elsewhere
-    system-one : (b : ℕ) → b < g .bodies .0 → getD (systemMap places g) b 0 ≡ 1
+    pub system-one : (b : ℕ) → b < g .bodies .0 → getD (systemMap places g) b 0 ≡ 1
     system-one b own = system-own (emptyMap places) 1 b (g .bodies .0) (omega (arith, empty-long places, enough, sized .bodies)) own
 
-    system-zero : (b : ℕ) → g .bodies .0 ≤ b → getD (systemMap places g) b 0 ≡ 0
+    pub system-zero : (b : ℕ) → g .bodies .0 ≤ b → getD (systemMap places g) b 0 ≡ 0
     system-zero b from = system-others (emptyMap places) 1 b (g .bodies .0) from ∙ empty-zero places b
 
     flags : (b : ℕ) → getD (systemMap places g) b 0 ≤ 1
@@ -82,7 +72,7 @@ module _ (img : List ℕ) (g : Geometry) where
 
     once-with : ((e : ℕ) → e < slots g → RightEntry img g e) → ((b : ℕ) → heldIn img g b ≤ 1) → (b : ℕ) → getD (systemMap places g) b 0 + heldIn img g b ≤ 1
     once-with right once b = elim (decLt b (g .bodies .0)) [
-      | yes own ↦ omega (arith, system-one b own, system-held right b own)
+      | yes own ↦ omega (arith, system-one b own, system-free img g right b own)
       | no other ↦ omega (arith, once b, system-zero b (omega (arith, other)))
     ]
 
@@ -116,7 +106,7 @@ module _ (img : List ℕ) (g : Geometry) where
         elim (decLt b (g .bodies .0)) [
           | yes own ↦
               system-own marks 0 b (g .bodies .0) (omega (arith, marks-length img g (systemMap places g) 0 (slots g), system-long, enough, sized .bodies)) own
-              ∙ sym (system-held (entries-means test .entries) b own)
+              ∙ sym (system-free img g (entries-means test .entries) b own)
           | no other ↦ omega (arith, system-others marks 0 b (g .bodies .0) (omega (arith, other)), counts, system-zero b (omega (arith, other)))
         ]
 
@@ -129,21 +119,37 @@ same-tests false false one two = refl
 pub entries-any : (img : List ℕ) (g : Geometry) → Sized img g → (places : ℕ) → g .blocks ≤ places → entriesTest places img g ≡ entriesTest (g .blocks) img g
 entries-any img g sized places enough = same-tests _ _ (entries-iff img g sized places enough) (entries-iff img g sized (g .blocks) (omega arith))
 
+-- behind the header: the entries, and the map
+pub files-iff : (img : List ℕ) (g : Geometry) → Sized img g → filesTest img g ≡ true ↔ (Entries img g × MapAgrees img g)
+unfolding filesTest
+files-iff img g sized = (means, tested)
+  where
+    entries : entriesTest (g .blocks) img g ≡ true ↔ Entries img g
+    entries = entries-iff img g sized (g .blocks) (omega arith)
+
+    means : (entriesTest (g .blocks) img g && mapTest img g (marking img g)) ≡ true → Entries img g × MapAgrees img g
+    means test =
+        let h = entries .0 (and-left (entriesTest (g .blocks) img g) _ test) in
+        (h, map-iff img g (h .entries) (h .once) .1 (map-test-iff img g (marking img g) .0 (and-right (entriesTest (g .blocks) img g) _ test)))
+
+    tested : Entries img g × MapAgrees img g → (entriesTest (g .blocks) img g && mapTest img g (marking img g)) ≡ true
+    tested (h, agrees) = and-both (entries .1 h) (map-test-iff img g (marking img g) .1 (map-iff img g (h .entries) (h .once) .0 agrees))
+
 -- the check says exactly whether the image is consistent
 pub consistent-iff : (img : List ℕ) → consistent img ≡ true ↔ Consistent img
 unfolding consistent held
 consistent-iff img = (means, tested)
   where
-    means : (headerTest img && entriesTest (geometryOf img .blocks) img (geometryOf img)) ≡ true → Consistent img
+    means : (headerTest img && filesTest img (geometryOf img)) ≡ true → Consistent img
     means test =
         let header = header-iff img .0 (and-left (headerTest img) _ test) in
-        let h = entries-iff img (geometryOf img) (header-sized img header) (geometryOf img .blocks) (omega arith) .0 (and-right (headerTest img) _ test) in
-        record { header = header; entries = h .entries; differ = h .differ; once = h .once }
+        let h = files-iff img (geometryOf img) (header-sized img header) .0 (and-right (headerTest img) _ test) in
+        record { header = header; entries = h .0 .entries; differ = h .0 .differ; once = h .0 .once; map = h .1 }
 
-    tested : Consistent img → (headerTest img && entriesTest (geometryOf img .blocks) img (geometryOf img)) ≡ true
+    tested : Consistent img → (headerTest img && filesTest img (geometryOf img)) ≡ true
     tested h =
         and-both (header-iff img .1 (h .header))
-        (entries-iff img (geometryOf img) (header-sized img (h .header)) (geometryOf img .blocks) (omega arith) .1 (record { entries = h .entries; differ = h .differ; once = h .once }))
+        (files-iff img (geometryOf img) (header-sized img (h .header)) .1 (record { entries = h .entries; differ = h .differ; once = h .once }, h .map))
 
 -- what the answer of a pack opened says
 by-good : (test : Bool) (g h : Geometry) → cond test (Good g) Bad ≡ Good h → (test ≡ true) × (g ≡ h)

@@ -1,7 +1,7 @@
 -- The answers of the code that opens a pack: what each has to show, from the tests that led to it.
-use Prim.Native.Nat.{ℕ, _≤_}
+use Prim.Native.Nat.{ℕ, _%_, _≤_}
 use mathlib.Core.Path.{_≡_, refl, sym, ap, subst, _∙_}
-use mathlib.Core.Bool.{Bool, true, false, cond, _&&_}
+use mathlib.Core.Bool.{Bool, true, false, cond}
 use mathlib.Core.List.{List}
 use native.Mathlib.Omega.{arith}
 use lib.ListN.{length, getD}
@@ -13,16 +13,15 @@ use Rattle.pack.specs.GeometrySized.{Sized}
 use Rattle.pack.specs.Header.{RightHeader}
 use Rattle.pack.specs.HeaderTest.{headerTest, headerOf}
 use Rattle.pack.specs.Consistent.{heldIn, held}
-use Rattle.answers.proofs.RefusalsTests.{go-on, stop, true-not-false}
+use Rattle.answers.proofs.RefusalsTests.{and-left, go-on, stop, true-not-false}
 use Rattle.pack.proofs.HeaderTestWhole.{header-iff}
 use Rattle.pack.proofs.HeaderRules.{header-sized}
 use Rattle.consistency.specs.declared.Opened.{Opened}
 use Rattle.consistency.specs.declared.Opened.the-variants.{Good, Bad}
-use Rattle.consistency.specs.DifferTest.{differTest}
-use Rattle.consistency.specs.Walk.{systemSet, SystemTaken}
-use Rattle.consistency.specs.ConsistentTest.{scanTest, markAll, systemMap, entriesTest, consistent, openedOf}
+use Rattle.consistency.specs.Walk.{systemSet}
+use Rattle.consistency.specs.ConsistentTest.{markAll, systemMap, entriesTest, filesTest, consistent, openedOf}
 use Rattle.consistency.specs.Mapped.{Lent, MappedIf}
-use Rattle.consistency.proofs.WalkSystem.{system-length, system-taken}
+use Rattle.consistency.proofs.WalkSystem.{system-length}
 use Rattle.consistency.proofs.ConsistentTestScan.{marks-length}
 use Rattle.consistency.proofs.ConsistentTestIff.{system-long, entries-any, entries-held}
 
@@ -45,7 +44,7 @@ by-wrong false g is = refl
 module _ (img : List ℕ) (r : Header) (is : r ≡ headerOf img) where
   pub open-wrong : {A : Type 0} → r ≡ Wrong → Refused img A
   unfolding headerOf consistent
-  open-wrong wrong = refused img (sym (stop (headerTest img) (entriesTest (geometryOf img .blocks) img (geometryOf img)) (by-wrong _ _ (sym is ∙ wrong))))
+  open-wrong wrong = refused img (sym (stop (headerTest img) (filesTest img (geometryOf img)) (by-wrong _ _ (sym is ∙ wrong))))
 
   module _ (g : Geometry) (right : r ≡ Right g) where
     passed : (headerTest img ≡ true) × (geometryOf img ≡ g)
@@ -58,9 +57,9 @@ module _ (img : List ℕ) (r : Header) (is : r ≡ headerOf img) where
     pub open-sized : Sized img g
     open-sized = subst (Sized img) (passed .1) (header-sized img open-header)
 
-    by-entries : consistent img ≡ entriesTest (g .blocks) img g
+    by-files : consistent img ≡ filesTest img g
     unfolding consistent
-    by-entries = sym (go-on (passed .0) refl) ∙ ap (λ (h : Geometry). entriesTest (h .blocks) img h) (passed .1)
+    by-files = sym (go-on (passed .0) refl) ∙ ap (filesTest img) (passed .1)
 
     open-enough : {lent : List ℕ} → Lent lent img → g .blocks ≤ length lent
     open-enough l = omega (arith, l .enough open-header, ap (λ (h : Geometry). h .blocks) (passed .1))
@@ -73,29 +72,27 @@ module _ (img : List ℕ) (r : Header) (is : r ≡ headerOf img) where
       is-map : map ≡ systemMap (length lent) g
       is-map = is-system ∙ ap (λ (m : List ℕ). systemSet m (g .bodies .0) 1) (l .empty)
 
-      on-map : entriesTest (length lent) img g ≡ consistent img
-      on-map = entries-any img g open-sized (length lent) (open-enough l) ∙ sym by-entries
+      pub open-map : map ≡ systemMap (length map) g
+      open-map = is-map ∙ ap (λ (n : ℕ). systemMap n g) (sym (ap length is-map ∙ system-long img g open-sized (length lent) (open-enough l)))
+
+      pub open-whole : length map % 16 ≡ 0
+      open-whole = omega (arith, l .whole, ap length is-map, system-long img g open-sized (length lent) (open-enough l))
 
       pub open-long : g .blocks ≤ length map
       open-long = omega (arith, ap length is-map, system-long img g open-sized (length lent) (open-enough l), open-enough l)
 
-      pub open-system : SystemTaken map g
-      open-system = system-taken lent g (open-room l) map is-system
+      pub open-files : {A : Type 0} → filesTest img g ≡ false → Refused img A
+      open-files wrong = refused img (by-files ∙ wrong)
 
-      pub open-entries : {A : Type 0} → (scanTest img g map 0 (slots g) && differTest img g 0 (slots g)) ≡ false → Refused img A
-      unfolding entriesTest
-      open-entries wrong = refused img (sym on-map ∙ (rw is-map at wrong))
+      right-entries : filesTest img g ≡ true → entriesTest (length lent) img g ≡ true
+      unfolding filesTest
+      right-entries test = entries-any img g open-sized (length lent) (open-enough l) ∙ and-left (entriesTest (g .blocks) img g) _ test
 
-      all-right : (scanTest img g map 0 (slots g) && differTest img g 0 (slots g)) ≡ true → entriesTest (length lent) img g ≡ true
-      unfolding entriesTest
-      all-right right = rw is-map at right
-
-      pub open-good : (marks left : List ℕ) → (scanTest img g map 0 (slots g) && differTest img g 0 (slots g)) ≡ true
-          → marks ≡ markAll img g map 0 (slots g) → left ≡ systemSet marks (g .bodies .0) 0
+      pub open-good : (marks left : List ℕ) → filesTest img g ≡ true → marks ≡ markAll img g map 0 (slots g) → left ≡ systemSet marks (g .bodies .0) 0
           → (Good g ≡ openedOf img) × MappedIf left img
       unfolding openedOf held
       open-good marks left right marked given =
-          let good = sym on-map ∙ all-right right in
+          let good = by-files ∙ right in
           let whole : left ≡ systemSet (markAll img g (systemMap (length lent) g) 0 (slots g)) (g .bodies .0) 0 =
           given ∙ ap (λ (m : List ℕ). systemSet m (g .bodies .0) 0) (marked ∙ ap (λ (m : List ℕ). markAll img g m 0 (slots g)) is-map) in
           let long : length left ≡ length map =
@@ -104,7 +101,7 @@ module _ (img : List ℕ) (r : Header) (is : r ≡ headerOf img) where
             λ test. record {
               enough = omega (arith, open-long, long, ap (λ (h : Geometry). h .blocks) (passed .1));
               says = λ b. ap (λ (m : List ℕ). getD m b 0) whole
-                  ∙ (entries-held img g open-sized (length lent) (open-enough l) (all-right right) b ∙ ap (λ (h : Geometry). heldIn img h b) (sym (passed .1)));
+                  ∙ (entries-held img g open-sized (length lent) (open-enough l) (right-entries right) b ∙ ap (λ (h : Geometry). heldIn img h b) (sym (passed .1)));
             },
           )
 

@@ -13,7 +13,7 @@ use Rattle.pack.specs.Entry.{blocksAt, Empty, RightEntry}
 use Rattle.pack.specs.Geometry.{slots}
 use Rattle.pack.specs.Consistent.{total}
 use Rattle.answers.proofs.RefusalsTests.{and-left, and-right, and-both, first-fails, second-fails, either-fails}
-use Rattle.pack.proofs.FileCount.{count-nil}
+use Rattle.pack.proofs.ConsistentHeld.{right-bodies}
 use Rattle.pack.proofs.EntryRead.{empty-blocks}
 use Rattle.consistency.specs.Walk.{mark}
 use Rattle.consistency.specs.EntryTest.{entryTest}
@@ -27,11 +27,6 @@ module _ (img : List ℕ) (g : Geometry) where
   -- how often the `k` entries from e on hold block b
   abbrev pub heldBy : ℕ → ℕ → ℕ → ℕ
   heldBy b e k = total (λ i. count b (blocksAt img g i)) e k
-
-  -- the blocks of a right entry are bodies
-  pub right-range : (e : ℕ) → RightEntry img g e → (b : ℕ) → 0 < count b (blocksAt img g e) → (g .bodies .0 ≤ b) × (b < g .blocks)
-  right-range e (inl empty) b some = absurd (omega (arith, some, count-nil b, ap (count b) (empty-blocks img g e empty)))
-  right-range e (inr u) b some = u .bodies b some
 
   -- what the scan of the `k` entries from e on decides, on a map
   pub record Fine (map : List ℕ) (e k : ℕ) : Type 0 where
@@ -56,7 +51,7 @@ module _ (img : List ℕ) (g : Geometry) where
   fine-scan map e zero long fine = refl
   fine-scan map e (suc k) long fine =
       let first = fine .right e (omega arith) (omega arith) in
-      let taken = takes-all (g .bodies .0) (g .blocks) map (blocksAt img g e) long (right-range e first) (λ b. omega (arith, fine .once b)) in
+      let taken = takes-all (g .bodies .0) (g .blocks) map (blocksAt img g e) long (λ b. right-bodies img g e b first) (λ b. omega (arith, fine .once b)) in
       let counts = mark-count (g .bodies .0) (g .blocks) map (blocksAt img g e) long taken in
       and-both (right-entry img g map e first taken)
       (fine-scan (mark map (blocksAt img g e)) (e + 1) k (rw mark-length long)

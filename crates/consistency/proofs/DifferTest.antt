@@ -1,10 +1,11 @@
 -- That files differ: each test of pairs is true exactly if no two entries have one name, extension and UIC; and the tests step by step.
-use Prim.Native.Nat.{ℕ, suc, zero, _+_, _-_, _%_, _≤_, _<_}
+use Prim.Native.Nat.{ℕ, suc, zero, _+_, _-_, _*_, _/_, _%_, _^_, _≤_, _<_}
 use mathlib.Core.Path.{_≡_, refl, sym, ap, subst, _∙_}
 use mathlib.Core.Bool.{Bool, true, false, not}
 use mathlib.Core.List.{List}
 use mathlib.Core.Logic.{_↔_}
 use native.Mathlib.Omega.{arith}
+use native.Mathlib.Nat.{pow-le-pow-right}
 use native.Mathlib.Decide.{ℕ-discrete}
 use lib.ListN.{length, getD, set, length-set}
 use lib.Seq.{getD-set-same, getD-set-other}
@@ -12,9 +13,55 @@ use borrow.Author.Tests.{eq-eqb, ne-eqb, not-true}
 use Rattle.pack.specs.declared.Geometry.{Geometry}
 use Rattle.pack.specs.Entry.{entryWord, entryOf}
 use Rattle.pack.specs.Key.{keyIn, SameKey}
+use Rattle.pack.specs.Map.{bitOf, withBit}
 use Rattle.pack.proofs.KeySame.{same-key-iff}
+use Rattle.pack.proofs.MapBits.{bit-own, bit-other, with-small, shift-bit}
 use Rattle.answers.proofs.RefusalsTests.{and-left, and-right, and-both, true-not-false}
-use Rattle.consistency.specs.DifferTest.{sameTest, remainders, keyRemainder, apartTest, newTest, differTest, Marked}
+use Rattle.consistency.specs.DifferTest.{sameTest, keyRemainder, TableSize, few, many, markBit, markSet, apartTest, newTest, differTest, Marked}
+
+-- a number marked, and the others as they were
+mark-long : (marks : List ℕ) (at : ℕ) → length (markSet marks at) ≡ length marks
+unfolding markSet
+mark-long marks at = length-set marks (at / 8) _
+
+module _ (marks : List ℕ) (at : ℕ) (inside : at < 8 * length marks) where
+  mark-own : markBit (markSet marks at) at ≡ 1
+  unfolding markBit markSet
+  mark-own =
+      ap (λ (byte : ℕ). (byte / 2 ^ (at % 8)) % 2) (getD-set-same marks (at / 8) _ 0 (omega (arith, inside)))
+      ∙ bit-own (getD marks (at / 8) 0) (at % 8) 1 (omega arith)
+
+  mark-other : (r : ℕ) → (r ≡ at → ⊥) → markBit (markSet marks at) r ≡ markBit marks r
+  unfolding markBit markSet
+  mark-other r other = by (ℕ-discrete (r / 8) (at / 8))
+    where
+      new : ℕ
+      new = withBit (getD marks (at / 8) 0) (at % 8) 1
+
+      by : Dec (r / 8 ≡ at / 8) → (getD (set marks (at / 8) new) (r / 8) 0 / 2 ^ (r % 8)) % 2 ≡ (getD marks (r / 8) 0 / 2 ^ (r % 8)) % 2
+      by (yes same) =
+          ap (λ (k : ℕ). (getD (set marks (at / 8) new) k 0 / 2 ^ (r % 8)) % 2) same
+          ∙ ap (λ (byte : ℕ). (byte / 2 ^ (r % 8)) % 2) (getD-set-same marks (at / 8) new 0 (omega (arith, inside)))
+          ∙ bit-other (getD marks (at / 8) 0) (at % 8) (r % 8) 1 (omega arith) (λ is. other (omega (arith, is, same)))
+          ∙ ap (λ (k : ℕ). (getD marks k 0 / 2 ^ (r % 8)) % 2) (sym same)
+      by (no apart) = ap (λ (byte : ℕ). (byte / 2 ^ (r % 8)) % 2) (getD-set-other marks (at / 8) (r / 8) new 0 apart)
+
+-- the same as the code shifts it: a bit that is 0 made 1 is a power more
+module _ (byte i : ℕ) (place : i < 8) (small : byte < 256) where
+  pub mark-fits : 1 * 2 ^ i % 18446744073709551616 ≤ 128
+  mark-fits = omega (arith, shift-bit i 1 (omega (arith, place)) (omega arith), pow-le-pow-right {n = 2} (omega arith) (let less : i ≤ 7 = omega (arith, place) in less))
+
+  pub mark-made : bitOf byte i ≡ 0 → byte + 1 * 2 ^ i % 18446744073709551616 ≡ withBit byte i 1
+  unfolding withBit
+  mark-made none = omega (arith, shift-bit i 1 (omega (arith, place)) (omega arith), ap (λ (v : ℕ). 2 ^ i * v) none)
+
+  pub mark-byte : withBit byte i 1 < 256
+  mark-byte = with-small 8 byte i 1 place small (omega arith)
+
+-- the larger of the two sizes
+pub table-many : {long : ℕ} → TableSize long → (long ≡ 256 → ⊥) → long ≡ 2048
+table-many few other = absurd (other refl)
+table-many many other = refl
 
 -- entries left to count from e on
 pub left-of : (e end : ℕ) → e < end → end - e ≡ suc (end - (e + 1))
@@ -137,47 +184,64 @@ module _ (img : List ℕ) (g : Geometry) where
   differ-empty e k empty = each-tested e k (λ j low high. new-empty j (empty j low high))
 
   -- the remainder of what was read
-  pub remainder-of : (e : ℕ) {w₀ w₁ w₂ w₃ : ℕ} → w₀ ≡ entryWord img g e 0 → w₁ ≡ entryWord img g e 1 → w₂ ≡ entryWord img g e 2 → w₃ ≡ entryWord img g e 3
-      → (w₀ + w₁ + (w₂ + w₃)) % remainders ≡ keyRemainder img g e
+  pub remainder-of : (size e : ℕ) {w₀ w₁ w₂ w₃ : ℕ} → w₀ ≡ entryWord img g e 0 → w₁ ≡ entryWord img g e 1 → w₂ ≡ entryWord img g e 2 → w₃ ≡ entryWord img g e 3
+      → (w₀ + w₁ + (w₂ + w₃)) % size ≡ keyRemainder size img g e
   unfolding keyRemainder
-  remainder-of e is₀ is₁ is₂ is₃ = rw (is₀, is₁, is₂, is₃)
+  remainder-of size e is₀ is₁ is₂ is₃ = rw (is₀, is₁, is₂, is₃)
 
-  same-remainder : (e f : ℕ) → Same e f → keyRemainder img g e ≡ keyRemainder img g f
+  same-remainder : (size e f : ℕ) → Same e f → keyRemainder size img g e ≡ keyRemainder size img g f
   unfolding keyRemainder entryOf
-  same-remainder e f same = rw (same .name1, same .name2, same .extension, same .uic)
+  same-remainder size e f same = rw (same .name1, same .name2, same .extension, same .uic)
 
-  pub marked-none : (marks : List ℕ) → length marks ≡ remainders → Marked img g marks 0
-  marked-none marks long = record { long = long; marked = λ i low used none. absurd (omega arith) }
+  pub marked-none : (marks : List ℕ) → TableSize (length marks) → Marked img g marks 0
+  marked-none marks size = record { size = size; marked = λ i low used none. absurd (omega arith) }
 
   -- an empty entry has no file to mark
   pub marked-empty : (marks : List ℕ) (e : ℕ) → entryWord img g e 0 ≡ 0 → Marked img g marks e → Marked img g marks (e + 1)
   marked-empty marks e empty before =
       record {
-        long = before .long;
+        size = before .size;
         marked = λ i low used none. elim (ℕ-discrete i e) [
           | yes is ↦ used (ap (λ (n : ℕ). entryWord img g n 0) is ∙ empty)
           | no other ↦ before .marked i (omega (arith, other)) used none
         ];
       }
 
-  module _ (marks : List ℕ) (e at : ℕ) (is : at ≡ keyRemainder img g e) (before : Marked img g marks e) where
-    pub marked-more : at < remainders → Marked img g (set marks at 1) (e + 1)
-    marked-more few =
+  module _ (marks : List ℕ) (e at : ℕ) (is : at ≡ keyRemainder (8 * length marks) img g e) (before : Marked img g marks e) where
+    earlier : (i : ℕ) → i < e + 1 → (keyRemainder (8 * length marks) img g i ≡ at → ⊥) → i < e
+    earlier i low other = elim (ℕ-discrete i e) [
+      | yes here ↦ absurd (other (ap (keyRemainder (8 * length marks) img g) here ∙ sym is))
+      | no another ↦ omega (arith, another)
+    ]
+
+    -- marked now, or before by another file
+    pub marked-more : at < 8 * length marks → {marks′ : List ℕ} → marks′ ≡ markSet marks at → Marked img g marks′ (e + 1)
+    marked-more inside {marks′} set =
+        let long : length marks′ ≡ length marks = ap length set ∙ mark-long marks at in
+        let size = before .size in
         record {
-          long = length-set marks at 1 ∙ before .long;
-          marked = λ i low used none. elim (ℕ-discrete (keyRemainder img g i) at) [
-            | yes same ↦ omega (arith, none, ap (λ (n : ℕ). getD (set marks at 1) n 0) same, getD-set-same marks at 1 0 (omega (arith, few, before .long)))
-            | no other ↦ before .marked i (earlier i low other) used (sym (getD-set-other marks at (keyRemainder img g i) 1 0 other) ∙ none)
+          size = subst TableSize (sym long) size;
+          marked = λ i low used none.
+              let unmarked : markBit (markSet marks at) (keyRemainder (8 * length marks) img g i) ≡ 0 =
+              ap (λ (m : List ℕ). markBit m (keyRemainder (8 * length marks) img g i)) (sym set)
+              ∙ (ap (λ (n : ℕ). markBit marks′ (keyRemainder (8 * n) img g i)) (sym long) ∙ none) in
+              elim (ℕ-discrete (keyRemainder (8 * length marks) img g i) at) [
+                | yes same ↦ omega (arith, unmarked, ap (markBit (markSet marks at)) same, mark-own marks at inside)
+                | no other ↦ before .marked i (earlier i low other) used (sym (mark-other marks at inside (keyRemainder (8 * length marks) img g i) other) ∙ unmarked)
+              ];
+        }
+
+    pub marked-again : (markBit marks at ≡ 0 → ⊥) → Marked img g marks (e + 1)
+    marked-again there =
+        record {
+          size = before .size;
+          marked = λ i low used none. elim (ℕ-discrete (keyRemainder (8 * length marks) img g i) at) [
+            | yes same ↦ there (ap (markBit marks) (sym same) ∙ none)
+            | no other ↦ before .marked i (earlier i low other) used none
           ];
         }
-      where
-        earlier : (i : ℕ) → i < e + 1 → (keyRemainder img g i ≡ at → ⊥) → i < e
-        earlier i low other = elim (ℕ-discrete i e) [
-          | yes here ↦ absurd (other (ap (keyRemainder img g) here ∙ sym is))
-          | no another ↦ omega (arith, another)
-        ]
 
     -- where the remainder of e is not marked, no file before it is the same
-    pub unmarked-new : getD marks at 0 ≡ 0 → (entryWord img g e 0 ≡ 0 → ⊥) → true ≡ newTest img g e
+    pub unmarked-new : markBit marks at ≡ 0 → (entryWord img g e 0 ≡ 0 → ⊥) → true ≡ newTest img g e
     unmarked-new free used = sym (new-tested e (λ _ i low high same.
-        before .marked i (omega arith) (used-same e i same used) (ap (λ (n : ℕ). getD marks n 0) (sym (is ∙ same-remainder e i same)) ∙ free)))
+        before .marked i (omega arith) (used-same e i same used) (ap (markBit marks) (sym (is ∙ same-remainder (8 * length marks) e i same)) ∙ free)))

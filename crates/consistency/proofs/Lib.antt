@@ -7,6 +7,9 @@ pub mod EntryTestWhole
 pub mod DifferTest
 pub mod ConsistentTestScan
 pub mod EntryTestAnswers
+pub mod MapTestBits
+pub mod MapTest
 pub mod ConsistentTestIff
+pub mod ConsistentTestFiles
 pub mod ConsistentTestOpened
 pub mod MappedLent

@@ -7,11 +7,13 @@ use Rattle.pack.specs.declared.Geometry.{Geometry}
 use Rattle.pack.specs.Geometry.{geometryOf, slots}
 use Rattle.pack.specs.HeaderTest.{headerTest}
 use Rattle.pack.specs.Entry.{blocksAt, Empty}
+use Rattle.pack.specs.MapSays.{marking}
 use Rattle.consistency.specs.declared.Opened.{Opened}
 use Rattle.consistency.specs.declared.Opened.the-variants.{Good, Bad}
 use Rattle.consistency.specs.Walk.{mark, systemSet}
 use Rattle.consistency.specs.EntryTest.{entryTest}
 use Rattle.consistency.specs.DifferTest.{differTest}
+use Rattle.consistency.specs.MapTest.{mapTest}
 
 -- the `k` entries from e on are right, each with its blocks taken on the map that those before it left
 unfoldable pub scanTest : List ℕ → Geometry → List ℕ → ℕ → ℕ → Bool
@@ -39,8 +41,12 @@ pub record UsedEnd (img : List ℕ) (g : Geometry) (end : ℕ) : Type 0 where
 unfoldable pub entriesTest : ℕ → List ℕ → Geometry → Bool
 entriesTest long img g = scanTest img g (systemMap long g) 0 (slots g) && differTest img g 0 (slots g)
 
+-- what is judged behind the header: the entries, and "that the map agrees, checked last"
+unfoldable pub filesTest : List ℕ → Geometry → Bool
+filesTest img g = entriesTest (g .blocks) img g && mapTest img g (marking img g)
+
 unfoldable pub consistent : List ℕ → Bool
-consistent img = headerTest img && entriesTest (geometryOf img .blocks) img (geometryOf img)
+consistent img = headerTest img && filesTest img (geometryOf img)
 
 unfoldable pub openedOf : List ℕ → Opened
 openedOf img = cond (consistent img) (Good (geometryOf img)) Bad

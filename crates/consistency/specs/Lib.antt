@@ -2,5 +2,6 @@
 pub mod Walk
 pub mod EntryTest
 pub mod DifferTest
+pub mod MapTest
 pub mod ConsistentTest
 pub mod Mapped

@@ -1,5 +1,5 @@
 -- Means: the map of a pack's blocks on which an image is checked, as it is lent and as the check leaves it.
-use Prim.Native.Nat.{ℕ, _≤_}
+use Prim.Native.Nat.{ℕ, _%_, _≤_}
 use mathlib.Core.Path.{_≡_}
 use mathlib.Core.Bool.{true}
 use mathlib.Core.List.{List}
@@ -16,10 +16,18 @@ fewBytes = 8192
 abbrev pub fewBlocks : ℕ
 fewBlocks = 64
 
--- a map lent for the check of an image: nothing is marked on it, and it has a place for each block
+-- so has one of at most so many bytes at most so many blocks: in forms 1 and 2 by its blocks of 512 bytes, in form 3 by its bound
+abbrev pub manyBytes : ℕ
+manyBytes = 524288
+
+abbrev pub manyBlocks : ℕ
+manyBlocks = 1024
+
+-- a map lent for the check of an image: nothing is marked on it, and it has a place for each block; it is read sixteen at a time
 pub record Lent (map img : List ℕ) : Type 0 where
   pub empty : map ≡ emptyMap (length map)
   pub enough : RightHeader img → geometryOf img .blocks ≤ length map
+  pub whole : length map % 16 ≡ 0
 
 -- what the check leaves on it: how often each block is held
 pub record Mapped (map img : List ℕ) : Type 0 where

@@ -1,9 +1,10 @@
 // The check of a whole image: its header, then each entry, with its blocks taken on a map and its file unlike those before it.
 mod differing;
+mod mapping;
 
 ghost use mathlib.Core.Path.{_≡_};
 ghost use mathlib.Core.Bool.{true, _&&_};
-ghost use Prim.Native.Nat.{_+_, _<_, _≤_};
+ghost use Prim.Native.Nat.{_+_, _%_, _<_, _≤_};
 ghost use lib.ListN.{length};
 ghost use Rattle.radix.specs.NamesTest.{legalName};
 ghost use Rattle.pack.specs.GeometrySized.{Sized};
@@ -13,8 +14,8 @@ ghost use Rattle.pack.specs.File.{blocksOf};
 ghost use Rattle.pack.specs.Entry.{entryWord, entryOf, blocksAt};
 ghost use Rattle.consistency.specs.Walk.{mark, blocksFrom, walkOf, ended, systemSet, SystemTaken};
 ghost use Rattle.consistency.specs.EntryTest.{keyTest, writerTest, kindTest, opensTest, fieldsTest, bodyTest, restTest, entryTest};
-ghost use Rattle.consistency.specs.DifferTest.{remainders, newTest, differTest, Marked};
-ghost use Rattle.consistency.specs.ConsistentTest.{scanTest, markAll, UsedEnd, openedOf};
+ghost use Rattle.consistency.specs.DifferTest.{TableSize, newTest, differTest, Marked};
+ghost use Rattle.consistency.specs.ConsistentTest.{scanTest, markAll, systemMap, UsedEnd, filesTest, openedOf};
 ghost use Rattle.consistency.specs.Mapped.{Lent, MappedIf};
 use pack::BlockNo;
 use pack::Entry;
@@ -26,6 +27,11 @@ use radix::Radix50;
 pub const FEW_BYTES: usize = 8192;
 
 pub const FEW_BLOCKS: usize = 64;
+
+// Of at most so many bytes, at most so many.
+pub const MANY_BYTES: usize = 524288;
+
+pub const MANY_BLOCKS: usize = 1024;
 
 // What a walk over the blocks of a file finds: its last block and the number behind it, or a block that cannot be taken.
 enum Walked {
@@ -275,7 +281,7 @@ fn used_end(img: &[u8], g: Geometry) -> usize
 fn are_entries_right(img: &[u8], map: &mut [u8], marks: &mut [u8], g: Geometry) -> bool
     requires { ⌜ Sized (now img) g ⌝ }
     requires { ⌜ RightHeader (now img) ⌝ }
-    requires { ⌜ (g .blocks ≤ length (now map)) × SystemTaken (now map) g × (length (now marks) ≡ remainders) ⌝ }
+    requires { ⌜ (g .blocks ≤ length (now map)) × SystemTaken (now map) g × TableSize (length (now marks)) ⌝ }
     ensures { λ r. ⌜ r ≡ (scanTest (now (img .entry)) g (now (map .entry)) 0 (slots g) && differTest (now (img .entry)) g 0 (slots g)) ⌝ }
     ensures { λ r. ⌜ (r ≡ true → now (map .exit) ≡ markAll (now (img .entry)) g (now (map .entry)) 0 (slots g)) ⌝ }
 {
@@ -290,6 +296,36 @@ fn are_entries_right(img: &[u8], map: &mut [u8], marks: &mut [u8], g: Geometry) 
     true
 }
 
+// With few entries a small table of marks will do, and costs less to clear.
+fn are_entries_marked(img: &[u8], map: &mut [u8], g: Geometry) -> bool
+    requires { ⌜ Sized (now img) g ⌝ }
+    requires { ⌜ RightHeader (now img) ⌝ }
+    requires { ⌜ (g .blocks ≤ length (now map)) × SystemTaken (now map) g ⌝ }
+    ensures { λ r. ⌜ r ≡ (scanTest (now (img .entry)) g (now (map .entry)) 0 (slots g) && differTest (now (img .entry)) g 0 (slots g)) ⌝ }
+    ensures { λ r. ⌜ (r ≡ true → now (map .exit) ≡ markAll (now (img .entry)) g (now (map .entry)) 0 (slots g)) ⌝ }
+{
+    if pack::slot_count(g) <= 128 {
+        let mut marks = [0u8; differing::FEW_MARKS];
+        return are_entries_right(img, map, &mut marks, g);
+    }
+    let mut marks = [0u8; differing::MANY_MARKS];
+    are_entries_right(img, map, &mut marks, g)
+}
+
+// Behind the header: the entries, and then the map, which must have a bit for each block that is taken on the lent one.
+fn are_files_right(img: &[u8], map: &mut [u8], g: Geometry) -> bool
+    requires { ⌜ Sized (now img) g ⌝ }
+    requires { ⌜ RightHeader (now img) ⌝ }
+    requires { ⌜ (now map ≡ systemMap (length (now map)) g) × (g .blocks ≤ length (now map)) × (length (now map) % 16 ≡ 0) ⌝ }
+    ensures { λ r. ⌜ r ≡ filesTest (now (img .entry)) g ⌝ }
+    ensures { λ r. ⌜ (r ≡ true → now (map .exit) ≡ markAll (now (img .entry)) g (now (map .entry)) 0 (slots g)) ⌝ }
+{
+    if !are_entries_marked(img, map, g) {
+        return false;
+    }
+    mapping::is_map_right(img, map, g)
+}
+
 // On a lent map, which says how often each block is held where the pack is consistent.
 pub fn open_mapped(img: &[u8], map: &mut [u8]) -> Opened
     requires { ⌜ Lent (now map) (now img) ⌝ }
@@ -300,8 +336,7 @@ pub fn open_mapped(img: &[u8], map: &mut [u8]) -> Opened
         return Opened::Bad;
     };
     set_system(map, g, 1);
-    let mut marks = [0u8; differing::REMAINDERS];
-    if !are_entries_right(img, map, &mut marks, g) {
+    if !are_files_right(img, map, g) {
         return Opened::Bad;
     }
     set_system(map, g, 0);
@@ -314,6 +349,10 @@ pub fn open_pack(img: &[u8]) -> Opened
 {
     if img.len() <= FEW_BYTES {
         let mut map = [0u8; FEW_BLOCKS];
+        return open_mapped(img, &mut map);
+    }
+    if img.len() <= MANY_BYTES {
+        let mut map = [0u8; MANY_BLOCKS];
         return open_mapped(img, &mut map);
     }
     let mut map = [0u8; pack::MOST_BLOCKS];

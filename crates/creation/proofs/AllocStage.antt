@@ -22,7 +22,7 @@ use Rattle.room.specs.declared.Blocks.{Blocks}
 use Rattle.room.specs.RoomTest.{highestRun}
 use Rattle.room.specs.Room.{HighestRun, InRun}
 use Rattle.room.specs.RoomMap.{Says, FreeOn, markedFrom}
-use Rattle.room.specs.Cleared.{cleared}
+use Rattle.room.specs.Cleared.{taken}
 use Rattle.room.proofs.RoomHighest.{run-highest, run-inside}
 use Rattle.room.proofs.RoomMapTaken.{free-on}
 use Rattle.pack.proofs.GeometryRoom.{sized-same}
@@ -223,13 +223,13 @@ module _ (img : List ℕ) (key : Key) (caller protect segments : ℕ) where
           )
 
       pub alloc-done : (img′ : List ℕ) → img′ ≡ setEntryWords img g e 0 (wordsOf (newFile key protect (extentFrom (s .0) (k .0))))
-          → (img″ : List ℕ) → img″ ≡ cleared img′ g (s .0) (k .0) → (map map′ : List ℕ) → map′ ≡ markedFrom map (s .0) (k .0)
+          → (img″ : List ℕ) → img″ ≡ taken img′ g (s .0) (k .0) → (map map′ : List ℕ) → map′ ≡ markedFrom map (s .0) (k .0)
           → (0 ≡ alloc img key caller protect segments .code)
           × (((s .0 ∷ []) ≡ alloc img key caller protect segments .numbers)
           × ((img″ ≡ alloc img key caller protect segments .image)
           × (map′ ≡ allocMap map img key caller protect segments)))
       unfolding alloc allocMap
-      alloc-done img′ written img″ taken map map′ marked =
+      alloc-done img′ written img″ takes map map′ marked =
           let c = chosen g e s k told in
           let extent : (s .0 ≡ startFor img segments) × (k .0 ≡ lengthFor img segments) = (sym (c .start), sym (c .length)) in
           let entered : img′ ≡ created img (newFile key protect (extentFrom (startFor img segments) (lengthFor img segments))) =
@@ -238,5 +238,5 @@ module _ (img : List ℕ) (key : Key) (caller protect segments : ℕ) where
           ∙ created-at img _ g e (c .measures) (c .number)) in
           let d =
           done-answer (allocRows img key caller protect segments) img [] _ (c .clear) (s .0 ∷ []) img″ (ap (λ (x : ℕ). x ∷ []) (sym (c .start)))
-          (taken ∙ (λ i. cleared (entered i) (sym (c .measures) i) (extent .0 i) (extent .1 i))) in
+          (takes ∙ (λ i. taken (entered i) (sym (c .measures) i) (extent .0 i) (extent .1 i))) in
           (d .0, (d .1, (d .2, marked ∙ ((λ i. markedFrom map (extent .0 i) (extent .1 i)) ∙ sym (success-is _ _ (c .clear))))))

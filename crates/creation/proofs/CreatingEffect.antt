@@ -19,6 +19,8 @@ use Rattle.pack.specs.Key.{keyIn, SameKey}
 use Rattle.pack.specs.Consistent.{held, Consistent}
 use Rattle.pack.specs.Owner.{FreeBlock, placeFrom, ownerOf}
 use Rattle.pack.specs.Untouched.{Untouched}
+use Rattle.pack.specs.MapSays.{MapSays, marking}
+use Rattle.pack.proofs.ConsistentHeld.{consistent-says}
 use Rattle.pack.proofs.HeaderTestWords.{listed-iff}
 use Rattle.pack.proofs.FileCount.{count-nil}
 use Rattle.pack.proofs.EntryRead.{empty-blocks}
@@ -28,7 +30,7 @@ use Rattle.owners.proofs.OneOwner.{owner-held, held-of}
 use Rattle.frame.specs.Framed.{Only, Never, Kept}
 use Rattle.frame.specs.Framing.{Framed}
 use Rattle.frame.specs.Framing.Distinct.{new}
-use Rattle.frame.proofs.FramedStays.{stated-framed, listed-framed}
+use Rattle.frame.proofs.FramedStays.{stated-framed, listed-framed, says-kept}
 use Rattle.frame.proofs.FramedHeld.{framed-never, held-one}
 use Rattle.frame.proofs.FramedConsistent.{consistent-one}
 use Rattle.frame.proofs.UntouchedFramed.{untouched-framed}
@@ -63,6 +65,10 @@ module _ {img : List ℕ} {key : Key} {caller protect : ℕ} {wrong : Bool} (rea
 
   pub entered-kept : {Written : ℕ → Type 0} → Kept (Only (entryFor img)) Written img entered (geometryOf img)
   entered-kept = words-kept (wordsOf file) img (geometryOf img) (entryFor img) 0 refl (ready .entry .inside) (omega arith)
+
+  -- it takes no block: the map says what it said
+  pub entered-says : MapSays entered (geometryOf img) (marking img (geometryOf img))
+  entered-says = says-kept (entered-kept {Written = Never}) (λ b never. absurd never) (consistent-says img (geometryOf img) refl (ready .right))
 
   pub entry-entered : Entered Never img entered file
   entry-entered =
@@ -99,7 +105,8 @@ module _ {img : List ℕ} {key : Key} {caller protect : ℕ} {wrong : Bool} (rea
         (right-kind : Contiguous file ⊎ Linked after (geometryOf img) file)
         (few : one (ltb 0 (shape .writer)) ≤ 62)
         (single : (b : ℕ) → count b (blocksOf after (geometryOf img) file) ≤ 1)
-        (free : (b : ℕ) → 0 < count b (blocksOf after (geometryOf img) file) → FreeBlock img b) where
+        (free : (b : ℕ) → 0 < count b (blocksOf after (geometryOf img) file) → FreeBlock img b)
+        (map : MapSays after (geometryOf img) (λ b. marking img (geometryOf img) b + count b (blocksOf after (geometryOf img) file))) where
       used : Used after (geometryOf img) (entryFor img) file
       used =
           record {
@@ -131,6 +138,7 @@ module _ {img : List ℕ} {key : Key} {caller protect : ℕ} {wrong : Bool} (rea
           (new (λ f inside other in-use alike. unlike f inside alike))
           (λ b. omega (arith, single b, ap (count b) blocks-entered))
           (λ b some. inr (free b (omega (arith, some, ap (count b) blocks-entered)) .nobody))
+          map (λ b. omega (arith, ap (count b) blocks-entered, ap (count b) blocks-before, count-nil b))
 
       -- its blocks are its own, each at its place
       pub entered-owner : (p b : ℕ) → p < length (blocksOf after (geometryOf img) file) → getD (blocksOf after (geometryOf img) file) p 0 ≡ b

@@ -10,18 +10,21 @@ use lib.ListN.{length, drop, replicate}
 use borrow.Author.Tests.{eq-eqb, ne-eqb, eqb-true}
 use Rattle.answers.specs.Refusals.{tableOrder, inOrder}
 use Rattle.answers.proofs.Refusals.{refuse, pass, clear}
+use Rattle.pack.specs.Form.{bodiesOf}
 use Rattle.pack.specs.HeaderTest.{measured, distinct}
+use Rattle.pack.specs.Map.{bitsSet}
 use Rattle.answers.proofs.RefusalsTests.{and-left, and-right, and-both, go-on, stop}
 use Rattle.pack.proofs.HeaderTestMeasures.{measured-is, is-measured}
 use Rattle.pack.proofs.HeaderTestWords.{distinct-is, is-distinct}
+use Rattle.room.specs.Room.{runFrom}
 use Rattle.asking.specs.Outcome.{Outcome, Unchanged}
 use Rattle.asking.proofs.Outcome.{settled-refused, settled-success, refusal-keeps}
 use Rattle.creation.specs.FormatRows.{formatTest, formatRows}
 use Rattle.creation.specs.Formattable.{uicsIn, Formattable}
-use Rattle.creation.specs.Format.{systemBytes, formatted, format}
+use Rattle.creation.specs.Format.{systemBytes, measuresOf, formatted, format}
 use Rattle.creation.specs.FormatSteps.{headed}
 use Rattle.creation.proofs.FormatMeasures.{header-inside}
-use Rattle.creation.proofs.FormatSteps.{formatted-is}
+use Rattle.creation.proofs.FormatSteps.{blank-is}
 
 -- each answer of the test, rung by rung
 module _ (long form blocks contents : ℕ) (uics : List ℕ) where
@@ -93,9 +96,13 @@ module _ (image : List ℕ) (form blocks contents : ℕ) (uics : List ℕ) where
     done-code = sym (ap (λ (o : Outcome). o .code) (format-done holds))
 
     pub done-image : {cleared left : List ℕ} → cleared ≡ replicate (systemBytes form contents) 0 ++ drop (systemBytes form contents) image
-        → left ≡ headed cleared form blocks contents uics → left ≡ format image form blocks contents uics .image
-    done-image {cleared} {left} clears heads =
-        heads
+        → left ≡ headed cleared form blocks contents uics → {marked : List ℕ}
+        → marked ≡ bitsSet left (measuresOf form blocks contents) (runFrom 0 (bodiesOf form contents)) 1 → marked ≡ format image form blocks contents uics .image
+    unfolding formatted
+    done-image {cleared} {left} clears heads marks =
+        marks
+        ∙ ap (λ (l : List ℕ). bitsSet l (measuresOf form blocks contents) (runFrom 0 (bodiesOf form contents)) 1)
+        (heads
         ∙ ap (λ (l : List ℕ). headed l form blocks contents uics) clears
-        ∙ formatted-is image form blocks contents uics (header-inside (test-formattable (length image) form blocks contents uics holds))
+        ∙ blank-is image form blocks contents uics (header-inside (test-formattable (length image) form blocks contents uics holds)))
         ∙ sym (ap (λ (o : Outcome). o .image) (format-done holds))

@@ -1,4 +1,4 @@
--- What the steps that write come to: the system's bytes cleared, then the header set in them, is the image formatted.
+-- What the steps that write come to: the system's bytes cleared, then the header set in them, is the empty pack; its bits are marked behind that.
 use Prim.Native.Nat.{ℕ, _+_, _-_, _≤_}
 use mathlib.Core.Path.{_≡_, sym, ap, _∙_}
 use mathlib.Core.List.{List, _++_, append-assoc}
@@ -9,7 +9,7 @@ use borrow.Rule.Slice.PartMut.{putMid}
 use Rattle.words.specs.Word.{setWord, bytesOf}
 use Rattle.words.proofs.WordSlices.{part-back}
 use Rattle.creation.specs.Formattable.{uicsIn}
-use Rattle.creation.specs.Format.{systemBytes, formatted}
+use Rattle.creation.specs.Format.{systemBytes, emptyPack}
 use Rattle.creation.specs.FormatSteps.{headed}
 
 pub cleared-is : (image part : List ℕ) (end system : ℕ) → end ≡ system → system ≤ length image → part ≡ replicate (length (take end image)) 0
@@ -39,11 +39,11 @@ headed-is image form blocks contents uics long {one} {two} {three} {four} {part}
     header : List ℕ
     header = headerBytes form blocks contents (uicsIn uics)
 
-pub formatted-is : (image : List ℕ) (form blocks contents : ℕ) (uics : List ℕ) → 8 + length uics ≤ systemBytes form contents
+pub blank-is : (image : List ℕ) (form blocks contents : ℕ) (uics : List ℕ) → 8 + length uics ≤ systemBytes form contents
     → headed (replicate (systemBytes form contents) 0 ++ drop (systemBytes form contents) image) form blocks contents uics
-    ≡ formatted image form blocks contents uics
-unfolding headed formatted
-formatted-is image form blocks contents uics inside =
+    ≡ emptyPack image form blocks contents uics
+unfolding headed emptyPack
+blank-is image form blocks contents uics inside =
     ap (λ (l : List ℕ). headerBytes form blocks contents (uicsIn uics) ++ (uics ++ l)) (behind (systemBytes form contents) (8 + length uics) inside)
   where
     behind : (end from : ℕ) → from ≤ end → drop from (replicate end 0 ++ drop end image) ≡ replicate (end - from) 0 ++ drop end image

@@ -14,6 +14,7 @@ use Rattle.pack.specs.Consistent.{held, Consistent}
 use Rattle.pack.specs.Owner.{ownerOf}
 use Rattle.pack.specs.Untouched.{Untouched}
 use Rattle.pack.proofs.FileCount.{count-nil}
+use Rattle.pack.proofs.MapSays.{says-same}
 use Rattle.frame.proofs.UntouchedFramed.{untouched-refl}
 use Rattle.asking.proofs.Outcome.{code-is, success-image, refusal-keeps, image-by}
 use Rattle.asking.specs.Outcome.{Unchanged}
@@ -21,7 +22,7 @@ use Rattle.creation.specs.Creating.{created, LowestEmpty, newFile, entry
 use Rattle.creation.specs.OpenoRows.{openoRows}
 use Rattle.creation.specs.Openo.{openo, emptyOutput}
 use Rattle.creation.proofs.CreatingStage.{Creatable, creatable}
-use Rattle.creation.proofs.CreatingEffect.{entered, entry-entered, entered-untouched, entered-consistent, entered-others, entered-held}
+use Rattle.creation.proofs.CreatingEffect.{entered, entered-says, entry-entered, entered-untouched, entered-consistent, entered-others, entered-held}
 
 -- the new file has no block
 no-blocks : (img : List ℕ) (g : Geometry) (key : Key) (protect : ℕ) → blocksOf img g (newFile key protect emptyOutput) ≡ []
@@ -46,6 +47,7 @@ module _ (img : List ℕ) (key : Key) (caller protect : ℕ) where
     written-consistent =
         entered-consistent ready emptyOutput (entry-entered ready emptyOutput) (inr (linked (entered ready emptyOutput) (geometryOf img) key protect)) (omega arith)
         (λ b. omega (arith, none-counted b)) (λ b some. absurd (omega (arith, some, none-counted b)))
+        (says-same (entered-says ready emptyOutput) (λ b. omega (arith, none-counted b)))
 
   -- what was written, where nothing speaks against it
   image-is : (P : List ℕ → Type 0) → P img → ((ready : Creatable img key caller protect false) → P (entered ready emptyOutput)) → P (openo img key caller protect .image)

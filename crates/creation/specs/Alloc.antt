@@ -6,7 +6,7 @@ use Rattle.pack.specs.declared.Key.{Key}
 use Rattle.pack.specs.Geometry.{geometryOf}
 use Rattle.asking.specs.Outcome.{Outcome, settled}
 use Rattle.room.specs.RoomTest.{highestRun}
-use Rattle.room.specs.Cleared.{cleared}
+use Rattle.room.specs.Cleared.{taken}
 use Rattle.creation.specs.declared.creating.Shape.{Shape}
 use Rattle.creation.specs.Creating.{newFile, created}
 use Rattle.creation.specs.AllocRows.{allocRows}
@@ -21,7 +21,7 @@ abbrev pub extentFrom : ℕ → ℕ → Shape
 extentFrom first length = record { kind = 1; first = record { 0 = first }; length = length; last = record { 0 = first + length - 1 }; writer = 0 }
 
 -- "The free run with the highest start is taken, the lowest empty entry filled." "ALLOC and linked add also return the first or added block";
--- document 02 §2: "ALLOC shall leave every block it takes all zero"
+-- document 02 §2: "ALLOC shall leave every block it takes all zero"; §7: each has its bit on the map
 unfoldable pub alloc : List ℕ → Key → ℕ → ℕ → ℕ → Outcome
 alloc img key caller protect segments =
     settled (allocRows img key caller protect segments) img []
@@ -29,7 +29,7 @@ alloc img key caller protect segments =
       code = 0;
       numbers = startFor img segments ∷ [];
       image =
-          cleared (created img (newFile key protect (extentFrom (startFor img segments) (lengthFor img segments)))) (geometryOf img)
+          taken (created img (newFile key protect (extentFrom (startFor img segments) (lengthFor img segments)))) (geometryOf img)
           (startFor img segments) (lengthFor img segments);
       buffer = [];
     })

@@ -34,6 +34,10 @@ pub fn alloc(img: &mut [u8], key: Key, caller: usize, protect: usize, segments: 
         let mut map = [0u8; consistency::FEW_BLOCKS];
         return alloc_lent(img, &mut map, key, caller, protect, segments);
     }
+    if img.len() <= consistency::MANY_BYTES {
+        let mut map = [0u8; consistency::MANY_BLOCKS];
+        return alloc_lent(img, &mut map, key, caller, protect, segments);
+    }
     let mut map = [0u8; pack::MOST_BLOCKS];
     alloc_lent(img, &mut map, key, caller, protect, segments)
 }

@@ -1,13 +1,19 @@
-// Format: an empty pack in the lent image.
+// Format: an empty pack in the lent image; where it has a map, the system's blocks are marked on it.
 ghost use mathlib.Core.Path.{_≡_};
 ghost use mathlib.Core.List.{_++_};
 ghost use Prim.Native.Nat.{_≤_};
 ghost use lib.ListN.{length, drop, replicate};
-ghost use Rattle.pack.specs.Form.{mostContentsOf};
+ghost use Rattle.pack.specs.Form.{mostContentsOf, bodiesOf};
+ghost use Rattle.pack.specs.GeometrySized.{Sized};
+ghost use Rattle.pack.specs.Map.{bitsSet};
+ghost use Rattle.room.specs.Room.{runFrom};
 ghost use Rattle.creation.specs.FormatRows.{formatTest};
 ghost use Rattle.creation.specs.Formattable.{Formattable};
-ghost use Rattle.creation.specs.Format.{systemBytes, format};
+ghost use Rattle.creation.specs.Format.{systemBytes, measuresOf, format};
 ghost use Rattle.creation.specs.FormatSteps.{headed};
+use pack::BlockNo;
+use pack::Geometry;
+use room::Blocks;
 
 pub fn format(image: &mut [u8], form: usize, blocks: usize, contents: usize, uics: &[u8]) -> usize
     ensures { λ r. ⌜ r ≡ format (now (image .entry)) form blocks contents (now (uics .entry)) .code ⌝ }
@@ -18,6 +24,7 @@ pub fn format(image: &mut [u8], form: usize, blocks: usize, contents: usize, uic
     }
     clear_system(image, form, contents);
     write_header(image, form, blocks, contents, uics);
+    mark_system(image, form, blocks, contents);
     0
 }
 
@@ -35,7 +42,7 @@ fn is_formattable(long: usize, form: usize, blocks: usize, contents: usize, uics
     pack::is_distinct(uics, 0, count)
 }
 
-// Block 0 and the contents, lent as one part: no word of them is left from before.
+// Block 0, the contents and the map, where there is one, lent as one part: no word of them is left from before.
 fn clear_system(image: &mut [u8], form: usize, contents: usize)
     requires { ⌜ (contents ≤ mostContentsOf form) × (systemBytes form contents ≤ length (now image)) ⌝ }
     ensures { λ r. ⌜ now (image .exit) ≡ replicate (systemBytes form contents) 0 ++ drop (systemBytes form contents) (now (image .entry)) ⌝ }
@@ -56,4 +63,21 @@ fn write_header(image: &mut [u8], form: usize, blocks: usize, contents: usize, u
     words::set_word(image, 3, uics.len() / 2);
     let behind = 8 + uics.len();
     words::fill(&mut image[8..behind], uics);
+}
+
+// The blocks before the bodies have their bits on the map, where there is one.
+fn mark_system(image: &mut [u8], form: usize, blocks: usize, contents: usize)
+    requires { ⌜ contents ≤ mostContentsOf form ⌝ }
+    requires { ⌜ Sized (now image) (measuresOf form blocks contents) ⌝ }
+    ensures { λ r. ⌜ now (image .exit) ≡ bitsSet (now (image .entry)) (measuresOf form blocks contents) (runFrom 0 (bodiesOf form contents)) 1 ⌝ }
+{
+    let segments = pack::segments_of(form);
+    let bodies = pack::bodies_of(form, contents);
+    let g = Geometry {
+        segments,
+        blocks,
+        contents,
+        bodies,
+    };
+    room::mark_run(image, g, BlockNo(0), Blocks(bodies.0));
 }

@@ -2,6 +2,7 @@
 pub mod LookStage
 pub mod PermitStage
 pub mod RenamRelabelled
+pub mod Deleted
 pub mod DeletStage
 pub mod DeletEffect
 pub mod DeletMapped

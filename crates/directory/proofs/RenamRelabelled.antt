@@ -110,7 +110,7 @@ module _
         opens = says .opens;
       } in
       consistent-described (c .measures) (c .right) relabelled-framed (c .inside) (c .used) described
-      (subst (Description img′) (sym relabelled-entry) now-says) distinct
+      (subst (Description img′) (sym relabelled-entry) now-says) distinct (λ b never. absurd never)
 
   -- it is found under the key that it then has
   pub relabelled-found : Consistent img′ → (key′ : Key) → legalKey key′ ≡ true → SameKey (keyIn (labelled (entryOf img g e) name1 name2 extension protect)) key′

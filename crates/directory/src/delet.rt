@@ -36,6 +36,10 @@ pub fn delet(img: &mut [u8], key: Key, caller: usize) -> usize
         let mut map = [0u8; consistency::FEW_BLOCKS];
         return delet_lent(img, &mut map, key, caller);
     }
+    if img.len() <= consistency::MANY_BYTES {
+        let mut map = [0u8; consistency::MANY_BLOCKS];
+        return delet_lent(img, &mut map, key, caller);
+    }
     let mut map = [0u8; pack::MOST_BLOCKS];
     delet_lent(img, &mut map, key, caller)
 }
@@ -50,7 +54,7 @@ fn delet_lent(img: &mut [u8], map: &mut [u8], key: Key, caller: usize) -> usize
     delet_opened(img, map, opened, key, caller)
 }
 
-// In a pack that was opened, the blocks of the file are given up on its map.
+// In a pack that was opened, the blocks of the file are given up on the map of its opening and on its own.
 pub fn delet_opened(
     img: &mut [u8],
     map: &mut [u8],
@@ -68,6 +72,7 @@ pub fn delet_opened(
         Asked::Refused(code) => code,
         Asked::File(g, e, x) => {
             room::give_up(img, map, g, x);
+            room::clear_bits(img, g, x);
             pack::clear_entry(img, g, e);
             0
         }

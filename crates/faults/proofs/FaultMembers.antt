@@ -1,4 +1,4 @@
--- The members of a report by its rule: which entry, word and block it names; that a loop is a fault of its own file; that a shared block is one of two files.
+-- The members of a report by its rule: which entry, word and block it names; that a loop is a fault of its own file; that a shared block is one of two files; that a bit is wrong.
 use Prim.Native.Nat.{ℕ, _≤_, _<_}
 use mathlib.Core.Path.{_≡_, refl, sym, subst, _∙_}
 use mathlib.Core.List.{List}
@@ -7,10 +7,12 @@ use native.Mathlib.Omega.{arith}
 use Rattle.pack.specs.Geometry.{geometryOf, slots}
 use Rattle.pack.specs.File.{nextOf, count}
 use Rattle.pack.specs.Entry.{entryOf, blocksAt}
+use Rattle.pack.specs.Map.{HasMap, mapBits}
 use Rattle.faults.specs.declared.ReportAnswer.{ReportAnswer}
 use Rattle.faults.specs.Rules.{Body}
 use Rattle.faults.specs.Report.{Report, SecondHolder}
 use Rattle.faults.specs.FaultThere.{Fault, wrong-size, wrong-word, wrong-field, same-name, wrong-extent, wrong-chain, wrong-link, leads-back, no-end, two-files}
+use Rattle.faults.specs.FaultThere.{WrongBit, wrong-bit}
 use Rattle.faults.proofs.RulesChain.{places-counted}
 use Rattle.faults.proofs.RulesFile.{linked-blocks}
 use Rattle.faults.proofs.RulesHeader.{statedWords}
@@ -19,9 +21,9 @@ use Rattle.faults.proofs.FaultReport.{report-fault}
 
 -- "0 in a member that a rule does not name"
 pub record Members (img : List ℕ) (answer : ReportAnswer) : Type 0 where
-  pub rule : (1 ≤ answer .rule) × (answer .rule ≤ 9)
-  pub noEntry : answer .rule ≤ 2 → answer .entry ≡ 0
-  pub entry : 3 ≤ answer .rule → answer .entry < slots (geometryOf img)
+  pub rule : (1 ≤ answer .rule) × (answer .rule ≤ 10)
+  pub noEntry : (answer .rule ≤ 2) ⊎ (answer .rule ≡ 10) → answer .entry ≡ 0
+  pub entry : 3 ≤ answer .rule → answer .rule ≤ 9 → answer .entry < slots (geometryOf img)
   -- the words of block 0, of an entry, of a name, and of an extent or chain
   pub words : answer .rule ≡ 2 → answer .word < statedWords img
   pub field : answer .rule ≡ 3 → FieldWord (answer .word)
@@ -29,11 +31,16 @@ pub record Members (img : List ℕ) (answer : ReportAnswer) : Type 0 where
   pub extent : answer .rule ≡ 5 → (6 ≤ answer .word) × (answer .word ≤ 8)
   pub noWord : (answer .rule ≡ 1) ⊎ (6 ≤ answer .rule) → answer .word ≡ 0
   pub noBlock : answer .rule ≤ 5 → answer .block ≡ 0
-  pub block : 6 ≤ answer .rule → Body (geometryOf img) (answer .block)
+  pub block : 6 ≤ answer .rule → answer .rule ≤ 9 → Body (geometryOf img) (answer .block)
+  pub bit : answer .rule ≡ 10 → answer .block < mapBits (geometryOf img)
 
 never-word : {A : Type 0} {rule : ℕ} → 2 ≤ rule → rule ≤ 5 → (rule ≡ 1) ⊎ (6 ≤ rule) → A
 never-word low high (inl is) = absurd (omega arith)
 never-word low high (inr above) = absurd (omega arith)
+
+never-entry : {A : Type 0} {rule : ℕ} → 3 ≤ rule → rule ≤ 9 → (rule ≤ 2) ⊎ (rule ≡ 10) → A
+never-entry low high (inl few) = absurd (omega arith)
+never-entry low high (inr is) = absurd (omega arith)
 
 which-between : {w : ℕ} → (w ≡ 6) ⊎ (w ≡ 8) → (6 ≤ w) × (w ≤ 8)
 which-between (inl is) = (omega arith, omega arith)
@@ -45,31 +52,49 @@ module _ {img : List ℕ} where
   of-entry rule e w low high inside field name extent =
       record {
         rule = (omega arith, omega arith);
-        noEntry = λ few. absurd (omega arith);
-        entry = λ more. inside;
+        noEntry = never-entry low (omega arith);
+        entry = λ more few. inside;
         words = λ is. absurd (omega arith);
         field = field;
         name = name;
         extent = extent;
         noWord = never-word (omega arith) high;
         noBlock = λ few. refl;
-        block = λ more. absurd (omega arith);
+        block = λ more few. absurd (omega arith);
+        bit = λ is. absurd (omega arith);
       }
 
   of-block : (rule e b : ℕ) → 6 ≤ rule → rule ≤ 9 → e < slots (geometryOf img) → Body (geometryOf img) b
       → Members img (record { rule = rule; entry = e; word = 0; block = b })
   of-block rule e b low high inside body =
       record {
-        rule = (omega arith, high);
-        noEntry = λ few. absurd (omega arith);
-        entry = λ more. inside;
+        rule = (omega arith, omega arith);
+        noEntry = never-entry (omega arith) high;
+        entry = λ more few. inside;
         words = λ is. absurd (omega arith);
         field = λ is. absurd (omega arith);
         name = λ is. absurd (omega arith);
         extent = λ is. absurd (omega arith);
         noWord = λ which. refl;
         noBlock = λ few. absurd (omega arith);
-        block = λ more. body;
+        block = λ more few. body;
+        bit = λ is. absurd (omega arith);
+      }
+
+  of-bit : (b : ℕ) → b < mapBits (geometryOf img) → Members img (record { rule = 10; entry = 0; word = 0; block = b })
+  of-bit b inside =
+      record {
+        rule = (omega arith, omega arith);
+        noEntry = λ which. refl;
+        entry = λ more few. absurd (omega arith);
+        words = λ is. absurd (omega arith);
+        field = λ is. absurd (omega arith);
+        name = λ is. absurd (omega arith);
+        extent = λ is. absurd (omega arith);
+        noWord = λ which. refl;
+        noBlock = λ few. absurd (omega arith);
+        block = λ more few. absurd (omega arith);
+        bit = λ is. inside;
       }
 
   of-image : (rule w : ℕ) → 1 ≤ rule → rule ≤ 2 → (rule ≡ 1 → w ≡ 0) → (rule ≡ 2 → w < statedWords img)
@@ -77,15 +102,16 @@ module _ {img : List ℕ} where
   of-image rule w low high none words =
       record {
         rule = (low, omega arith);
-        noEntry = λ few. refl;
-        entry = λ more. absurd (omega arith);
+        noEntry = λ which. refl;
+        entry = λ more few. absurd (omega arith);
         words = words;
         field = λ is. absurd (omega arith);
         name = λ is. absurd (omega arith);
         extent = λ is. absurd (omega arith);
         noWord = λ which. of which;
         noBlock = λ few. refl;
-        block = λ more. absurd (omega arith);
+        block = λ more few. absurd (omega arith);
+        bit = λ is. absurd (omega arith);
       }
     where
       of : (rule ≡ 1) ⊎ (6 ≤ rule) → w ≡ 0
@@ -107,6 +133,7 @@ module _ {img : List ℕ} where
   fault-members (leads-back e first second b less at again) = of-block 7 e b (omega arith) (omega arith) (at .entry .inside) (at .body)
   fault-members (no-end e place b at last fails) = of-block 8 e b (omega arith) (omega arith) (at .entry .inside) (at .body)
   fault-members (two-files e b holder body once) = of-block 9 e b (omega arith) (omega arith) (holder .inside) body
+  fault-members (wrong-bit b there inside wrong) = of-bit b inside
 
 -- a loop is a fault of its own file: that file reaches the block named twice
 pub fault-loop : {img : List ℕ} {answer : ReportAnswer} → Fault img answer → answer .rule ≡ 7 → 2 ≤ count (answer .block) (blocksAt img (geometryOf img) (answer .entry))
@@ -123,6 +150,7 @@ fault-loop {img} (leads-back e first second b less at again) is =
     subst (λ (z : ℕ). 2 ≤ count z (blocksAt img (geometryOf img) e)) (again .is) (rw (linked-blocks img x (at .linked)) twice)
 fault-loop (no-end e place b at last fails) is = absurd (omega arith)
 fault-loop (two-files e b holder body once) is = absurd (omega arith)
+fault-loop (wrong-bit b there inside wrong) is = absurd (omega arith)
 
 -- a shared block: the second file that reaches it is named, and no file of the pack reaches a block twice
 pub record SharedBlock (img : List ℕ) (e b : ℕ) : Type 0 where
@@ -140,6 +168,21 @@ fault-shared (wrong-link e place b at within fails) is = absurd (omega arith)
 fault-shared (leads-back e first second b less at again) is = absurd (omega arith)
 fault-shared (no-end e place b at last fails) is = absurd (omega arith)
 fault-shared (two-files e b holder body once) is = record { holder = holder; once = once }
+fault-shared (wrong-bit b there inside wrong) is = absurd (omega arith)
+
+-- a bit of the map, which is there: it is not what it must be
+pub fault-bit : {img : List ℕ} {answer : ReportAnswer} → Fault img answer → answer .rule ≡ 10 → HasMap (geometryOf img) × WrongBit img (answer .block)
+fault-bit (wrong-size fails) is = absurd (omega arith)
+fault-bit (wrong-word w inside fails) is = absurd (omega arith)
+fault-bit (wrong-field e w here of fails) is = absurd (omega arith)
+fault-bit (same-name e f here there less same) is = absurd (omega arith)
+fault-bit (wrong-extent e w here kind between fails) is = absurd (omega arith)
+fault-bit (wrong-chain e w here kind which fails) is = absurd (omega arith)
+fault-bit (wrong-link e place b at within fails) is = absurd (omega arith)
+fault-bit (leads-back e first second b less at again) is = absurd (omega arith)
+fault-bit (no-end e place b at last fails) is = absurd (omega arith)
+fault-bit (two-files e b holder body once) is = absurd (omega arith)
+fault-bit (wrong-bit b there inside wrong) is = (there, wrong)
 
 -- what a report says
 module _ (img : List ℕ) (answer : ReportAnswer) (report : Report img answer) where
@@ -163,3 +206,6 @@ module _ (img : List ℕ) (answer : ReportAnswer) (report : Report img answer) w
   pub shared-two-files : answer .rule ≡ 9 → (first : ℕ) × (first < answer .entry) × (answer .entry < slots (geometryOf img))
       × (0 < count (answer .block) (blocksAt img (geometryOf img) first)) × (0 < count (answer .block) (blocksAt img (geometryOf img) (answer .entry)))
   shared-two-files is = let h = shared-second is in (h .first, h .before, h .inside, h .too, h .reaches)
+
+  pub map-wrong : answer .rule ≡ 10 → HasMap (geometryOf img) × WrongBit img (answer .block)
+  map-wrong is = fault-bit (report-fault img answer report (λ none. omega (arith, is, none))) is

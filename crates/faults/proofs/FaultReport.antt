@@ -7,18 +7,20 @@ use native.Mathlib.Omega.{arith}
 use Rattle.pack.specs.Geometry.{geometryOf, slots}
 use Rattle.pack.specs.Header.{RightHeader}
 use Rattle.pack.specs.Consistent.{held}
-use Rattle.consistency.proofs.ConsistentTestScan.{right-range}
+use Rattle.pack.specs.Map.{mapBits}
+use Rattle.pack.proofs.ConsistentHeld.{right-bodies}
 use Rattle.faults.specs.declared.ReportAnswer.{ReportAnswer}
-use Rattle.faults.specs.Rules.{header, shared, RightSize}
+use Rattle.faults.specs.Rules.{header, shared, map, RightSize}
 use Rattle.faults.specs.Second.{second}
 use Rattle.faults.specs.Report.{order, reported, Reported, fault, right, Report}
 use Rattle.faults.specs.FirstFault.{AllHold}
-use Rattle.faults.specs.FaultThere.{Fault, wrong-size, wrong-word, two-files}
+use Rattle.faults.specs.FaultThere.{Fault, wrong-size, wrong-word, two-files, wrong-bit}
 use Rattle.faults.proofs.ReportedParts.{reported-split, each-hold, each-fault}
 use Rattle.faults.proofs.ReportedRuns.{entries-hold, entries-fault}
 use Rattle.faults.proofs.RulesHeader.{statedWords, header-words}
 use Rattle.faults.proofs.RulesEntryRight.{FineEntry, entry-fine}
-use Rattle.faults.proofs.ReportConsistent.{headerOrder, contentsOrder, sharedOrder}
+use Rattle.faults.proofs.RulesMap.{bit-fails}
+use Rattle.faults.proofs.ReportConsistent.{headerOrder, contentsOrder, sharedOrder, mapOrder, blocksOrder}
 use Rattle.faults.proofs.SecondSought.{second-holder}
 use Rattle.faults.proofs.FaultEntry.{entry-fault}
 
@@ -49,7 +51,7 @@ module _ (img : List ℕ) where
       two : (b : ℕ) → 1 < held img b → Fault img (reported img (shared b))
       two b twice =
           let holder = second-holder img b (λ e inside. fine e inside .once b) twice in
-          two-files (second img b) b holder (right-range img (geometryOf img) (second img b) (fine (second img b) (holder .inside) .right) b (holder .reaches))
+          two-files (second img b) b holder (right-bodies img (geometryOf img) (second img b) b (fine (second img b) (holder .inside) .right) (holder .reaches))
           (λ f c inside. fine f inside .once c)
 
       shared-told : {answer : ReportAnswer} → (answer .rule ≡ 0 → ⊥) → Reported img (sharedOrder img) answer → Told answer
@@ -57,20 +59,28 @@ module _ (img : List ℕ) where
           let r = each-fault shared 0 (geometryOf img .blocks) report some in
           subst Told (r .named) (record { told = two (r .at) (omega (arith, r .fails)); header = λ behind. right-header })
 
+      blocks-told : {answer : ReportAnswer} → (answer .rule ≡ 0 → ⊥)
+          → Reported img (sharedOrder img) answer ⊎ (AllHold img (sharedOrder img) × Reported img (mapOrder img) answer) → Told answer
+      blocks-told some (inl report) = shared-told some report
+      blocks-told some (inr (apart, report)) =
+          let r = each-fault map 0 (mapBits (geometryOf img)) report some in
+          let wrong = bit-fails img (r .at) (r .fails) in
+          subst Told (r .named) (record { told = wrong-bit (r .at) (wrong .0) (omega (arith, r .high)) (wrong .1); header = λ behind. right-header })
+
     contents-told : {answer : ReportAnswer} → (answer .rule ≡ 0 → ⊥)
-        → Reported img (contentsOrder img) answer ⊎ (AllHold img (contentsOrder img) × Reported img (sharedOrder img) answer) → Told answer
+        → Reported img (contentsOrder img) answer ⊎ (AllHold img (contentsOrder img) × Reported img (blocksOrder img) answer) → Told answer
     contents-told some (inl report) = entry-told some report
-    contents-told some (inr (entries, report)) = shared-told entries some report
+    contents-told some (inr (entries, report)) = blocks-told entries some (reported-split (sharedOrder img) (mapOrder img) report some)
 
   header-told : RightSize img → {answer : ReportAnswer} → (answer .rule ≡ 0 → ⊥)
-      → Reported img (headerOrder img) answer ⊎ (AllHold img (headerOrder img) × Reported img (contentsOrder img ++ sharedOrder img) answer) → Told answer
+      → Reported img (headerOrder img) answer ⊎ (AllHold img (headerOrder img) × Reported img (contentsOrder img ++ blocksOrder img) answer) → Told answer
   header-told long some (inl report) = word-told some report
-  header-told long some (inr (words, report)) = contents-told long words some (reported-split (contentsOrder img) (sharedOrder img) report some)
+  header-told long some (inr (words, report)) = contents-told long words some (reported-split (contentsOrder img) (blocksOrder img) report some)
 
   pub report-told : {answer : ReportAnswer} → Report img answer → (answer .rule ≡ 0 → ⊥) → Told answer
   unfolding order
   report-told (fault fails) some = record { told = wrong-size fails; header = λ behind. absurd (omega arith) }
-  report-told (right long rest) some = header-told long some (reported-split (headerOrder img) (contentsOrder img ++ sharedOrder img) rest some)
+  report-told (right long rest) some = header-told long some (reported-split (headerOrder img) (contentsOrder img ++ blocksOrder img) rest some)
 
   pub report-fault : (answer : ReportAnswer) → Report img answer → (answer .rule ≡ 0 → ⊥) → Fault img answer
   report-fault answer report some = report-told report some .told

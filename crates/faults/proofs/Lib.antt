@@ -6,6 +6,7 @@ pub mod RulesChain
 pub mod RulesFile
 pub mod RulesEntry
 pub mod RulesEntryRight
+pub mod RulesMap
 pub mod ReportConsistent
 pub mod SecondSought
 pub mod FaultFile
@@ -21,4 +22,5 @@ pub mod LookedEntry
 pub mod LookedLinks
 pub mod LookedFile
 pub mod LookedShared
+pub mod LookedMap
 pub mod LookedWhole

@@ -9,11 +9,10 @@ use lib.Seq.{getD-set-same, getD-set-other}
 use Rattle.pack.specs.declared.Entry.{Entry}
 use Rattle.pack.specs.declared.Geometry.{Geometry}
 use Rattle.pack.specs.Geometry.{geometryOf}
-use Rattle.pack.specs.GeometrySized.{mostBlocks}
 use Rattle.pack.specs.File.{nextOf, after}
 use Rattle.frame.proofs.FileChainWays.{after-append}
 use Rattle.consistency.specs.ConsistentTest.{emptyMap}
-use Rattle.consistency.proofs.ConsistentTestIff.{empty-long, empty-zero}
+use Rattle.consistency.proofs.ConsistentTestIff.{empty-zero}
 use Rattle.faults.specs.Rules.{Body, chainAt}
 use Rattle.faults.specs.Looking.{Last}
 use Rattle.faults.proofs.RulesChain.{Stands}
@@ -26,7 +25,7 @@ pub record Walked (img : List ℕ) (g : Geometry) (x : Entry) (marks : List ℕ)
   pub body : Body g b
   pub links : (q : ℕ) → q < p → Body g (chainAt img x (q + 1))
   pub once : (q : ℕ) → q < p → (s : ℕ) → s ≤ q → chainAt img x s ≡ chainAt img x (q + 1) → ⊥
-  pub long : length marks ≡ mostBlocks
+  pub long : g .blocks ≤ length marks
   pub marked : (s : ℕ) → s ≤ p → getD marks (chainAt img x s) 0 ≡ 1
   pub places : (c : ℕ) → (getD marks c 0 ≡ 0 → ⊥) → Stands (nextOf img (geometryOf img) 2) (p + 1) (x .first .0) c
 
@@ -43,10 +42,11 @@ walked-next {img} {g} {x} is {marks} {p} {b} walked link = next-place img x p (w
 mark-here : (marks : List ℕ) {c b : ℕ} → b < length marks → c ≡ b → getD (set marks b 1) c 0 ≡ 1
 mark-here marks {c} {b} inside is = ap (λ (n : ℕ). getD (set marks b 1) n 0) is ∙ getD-set-same marks b 1 0 inside
 
-module _ {img : List ℕ} {g : Geometry} {x : Entry} (most : g .blocks ≤ mostBlocks) where
-  pub walked-start : x .kind ≡ 2 → 0 < x .length → Body g (x .first .0) → Walked img g x (set (emptyMap mostBlocks) (x .first .0) 1) 0 (x .first .0)
+module _ {img : List ℕ} {g : Geometry} {x : Entry} where
+  pub walked-start : {marks : List ℕ} → marks ≡ emptyMap (length marks) → g .blocks ≤ length marks → 0 < x .length → Body g (x .first .0)
+      → Walked img g x (set marks (x .first .0) 1) 0 (x .first .0)
   unfolding after
-  walked-start linked some body =
+  walked-start {marks} empty long some body =
       record {
         is = refl;
         within = some;
@@ -54,19 +54,17 @@ module _ {img : List ℕ} {g : Geometry} {x : Entry} (most : g .blocks ≤ mostB
         body = body;
         links = λ q less. absurd (omega arith);
         once = λ q less. absurd (omega arith);
-        long = length-set (emptyMap mostBlocks) (x .first .0) 1 ∙ empty-long mostBlocks;
-        marked = λ s less. marks s less;
+        long = omega (arith, long, length-set marks (x .first .0) 1);
+        marked = λ s less.
+            let none : s ≡ 0 = omega arith in
+            let inside : x .first .0 < length marks = omega (arith, body, long) in
+            mark-here marks inside (ap (chainAt img x) none);
         places = λ c taken. elim (ℕ-discrete c (x .first .0)) [
           | yes here ↦ record { place = 0; within = omega arith; is = sym here }
-          | no other ↦ absurd (taken (getD-set-other (emptyMap mostBlocks) (x .first .0) c 1 0 other ∙ empty-zero mostBlocks c))
+          | no other ↦
+              absurd (taken (getD-set-other marks (x .first .0) c 1 0 other ∙ (ap (λ (m : List ℕ). getD m c 0) empty ∙ empty-zero (length marks) c)))
         ];
       }
-    where
-      inside : x .first .0 < length (emptyMap mostBlocks)
-      inside = omega (arith, body, most, empty-long mostBlocks)
-
-      marks : (s : ℕ) → s ≤ 0 → getD (set (emptyMap mostBlocks) (x .first .0) 1) (chainAt img x s) 0 ≡ 1
-      marks s less = let none : s ≡ 0 = omega arith in mark-here (emptyMap mostBlocks) inside (ap (chainAt img x) none)
 
   -- one block on
   module _ (is : geometryOf img ≡ g) {marks : List ℕ} {p b : ℕ} (walked : Walked img g x marks p b) {next : ℕ} (link : next ≡ nextOf img g 2 b) where
@@ -91,7 +89,7 @@ module _ {img : List ℕ} {g : Geometry} {x : Entry} (most : g .blocks ≤ mostB
                 omega (arith, walked .marked s (omega (arith, before, here)), free, ap (λ (c : ℕ). getD marks c 0) there)
             | no other ↦ walked .once q (omega (arith, less, other)) s before same
           ];
-          long = length-set marks next 1 ∙ walked .long;
+          long = omega (arith, length-set marks next 1, walked .long);
           marked = λ s less. elim (ℕ-discrete (chainAt img x s) next) [
             | yes here ↦ mark-here marks inside here
             | no other ↦ getD-set-other marks next (chainAt img x s) 1 0 other ∙ walked .marked s (before s less other)
@@ -105,7 +103,7 @@ module _ {img : List ℕ} {g : Geometry} {x : Entry} (most : g .blocks ≤ mostB
         }
       where
         inside : next < length marks
-        inside = omega (arith, body, most, walked .long)
+        inside = omega (arith, body, walked .long)
 
         before : (s : ℕ) → s ≤ p + 1 → (chainAt img x s ≡ next → ⊥) → s ≤ p
         before s less other = elim (ℕ-discrete s (p + 1)) [

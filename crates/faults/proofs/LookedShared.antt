@@ -18,7 +18,7 @@ use Rattle.pack.specs.Consistent.{total, held}
 use Rattle.pack.proofs.FileCount.{count-nil, count-same, count-other, count-split}
 use Rattle.consistency.specs.ConsistentTest.{emptyMap}
 use Rattle.consistency.proofs.ConsistentTestIff.{empty-zero}
-use Rattle.consistency.proofs.ConsistentTestScan.{right-range}
+use Rattle.pack.proofs.ConsistentHeld.{right-bodies}
 use Rattle.faults.specs.Rules.{shared, Body}
 use Rattle.faults.specs.Second.{secondFrom, second}
 use Rattle.faults.specs.Report.{each, nothingWrong, Reported}
@@ -158,16 +158,16 @@ module _ {img : List ℕ} {g : Geometry} (all : AllRight img g) where
       by : {h : Geometry} → geometryOf img ≡ h → e < slots h → 0 < count b (blocksAt img h e) → Body h b
       by same =
           subst (λ (h : Geometry). e < slots h → 0 < count b (blocksAt img h e) → Body h b) same
-          (λ low some. right-range img (geometryOf img) e (entry-fine img e (all .entries e low) .right) b some)
+          (λ low some. right-bodies img (geometryOf img) e b (entry-fine img e (all .entries e low) .right) some)
 
   -- all files counted
-  pub counted-start : {counts : List ℕ} (long : ℕ) → counts ≡ emptyMap long → Counted counts (filesFrom img g 0) (held img)
+  pub counted-start : {counts : List ℕ} → counts ≡ emptyMap (length counts) → Counted counts (filesFrom img g 0) (held img)
   unfolding held
-  counted-start {counts} long is =
+  counted-start {counts} is =
       record {
         so-far = λ b. 0;
         told = λ b.
-            let nil : getD counts b 0 ≡ 0 = ap (λ (m : List ℕ). getD m b 0) is ∙ empty-zero long b in
+            let nil : getD counts b 0 ≡ 0 = ap (λ (m : List ℕ). getD m b 0) is ∙ empty-zero (length counts) b in
             record { none = λ at. refl; one = λ at. absurd (omega (arith, nil, at)); more = λ at. absurd (omega (arith, nil, at)) };
         whole = λ b.
             let from : slots g - 0 ≡ slots g = omega arith in

@@ -17,15 +17,15 @@ use Rattle.consistency.specs.declared.Opened.the-variants.{Good}
 use Rattle.consistency.specs.ConsistentTest.{openedOf}
 use Rattle.consistency.proofs.ConsistentTestIff.{opened-good}
 use Rattle.faults.specs.declared.ReportAnswer.{ReportAnswer}
-use Rattle.faults.specs.Rules.{header, shared}
-use Rattle.faults.specs.Report.{entryOrder, entriesOrder, each, order, nothingWrong, Reported, right, Report}
+use Rattle.faults.specs.Rules.{header}
+use Rattle.faults.specs.Report.{entryOrder, entriesOrder, order, nothingWrong, Reported, right, Report}
 use Rattle.faults.specs.FirstFault.{AllHold}
 use Rattle.faults.specs.Looking.{Measures, AllRight}
 use Rattle.faults.proofs.ReportedParts.{all-reported, reported-all, reported-append, reported-front, hold-each}
 use Rattle.faults.proofs.ReportedRuns.{hold-entries, entries-hold, reported-entries}
 use Rattle.faults.proofs.RulesHeader.{statedWords, header-size, header-word}
-use Rattle.faults.proofs.ReportConsistent.{sharedOrder, report-consistent}
-use Rattle.faults.proofs.ReportOrder.{report-shared}
+use Rattle.faults.proofs.ReportConsistent.{blocksOrder, report-consistent}
+use Rattle.faults.proofs.ReportOrder.{report-blocks}
 
 -- entry by entry: those below e are right
 abbrev pub RightBelow : List ℕ → ℕ → Type 0
@@ -60,7 +60,7 @@ module _ {img : List ℕ} {g : Geometry} (m : Measures img g) where
   report-contents report some =
       right (header-size img (m .header))
       (reported-append (hold-each header 0 (statedWords img) (λ w low high. header-word img (m .header) w (omega arith)))
-      (reported-front (sharedOrder img) report some))
+      (reported-front (blocksOrder img) report some))
 
   module _ {told : ReportAnswer} (report : Reported img (entriesOrder img 0 (slots (geometryOf img))) told) (nothing : told .rule ≡ 0) where
     pub all-right : AllRight img g
@@ -70,8 +70,8 @@ module _ {img : List ℕ} {g : Geometry} (m : Measures img g) where
           entries = λ e inside. entries-hold 0 (slots (geometryOf img)) (reported-all report nothing) e (omega arith) (omega arith);
         }
 
-    pub report-behind : {answer : ReportAnswer} → Reported img (each shared 0 (geometryOf img .blocks)) answer → Report img answer
-    report-behind rest = report-shared (m .header) (all-right .entries) rest
+    pub report-behind : {answer : ReportAnswer} → Reported img (blocksOrder img) answer → Report img answer
+    report-behind rest = report-blocks (m .header) (all-right .entries) rest
 
 -- the header as it was read
 by-right : (test : Bool) (g h : Geometry) → cond test (Right g) Wrong ≡ Right h → (test ≡ true) × (g ≡ h)

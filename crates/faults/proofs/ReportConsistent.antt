@@ -9,17 +9,19 @@ use Rattle.pack.specs.Geometry.{geometryOf, slots}
 use Rattle.pack.specs.File.{count}
 use Rattle.pack.specs.Entry.{entryOf, blocksAt, Empty, RightEntry}
 use Rattle.pack.specs.Key.{keyIn, SameKey}
+use Rattle.pack.specs.Map.{mapBits}
 use Rattle.pack.specs.Consistent.{held, Consistent}
-use Rattle.pack.proofs.ConsistentTotal.{total-same, total-each, total-has}
-use Rattle.consistency.proofs.ConsistentTestScan.{right-range}
+use Rattle.pack.proofs.ConsistentTotal.{total-has}
+use Rattle.pack.proofs.ConsistentHeld.{beyond-free}
 use Rattle.faults.specs.declared.ReportAnswer.{ReportAnswer}
-use Rattle.faults.specs.Rules.{Rule, header, shared, RightSize, RightWord}
+use Rattle.faults.specs.Rules.{Rule, header, shared, map, Holds, RightSize, RightWord}
 use Rattle.faults.specs.Report.{each, entryOrder, entriesOrder, order, nothingWrong, Report}
 use Rattle.faults.specs.FirstFault.{AllHold, also, FirstFault}
 use Rattle.faults.proofs.ReportedParts.{reported-one, all-reported, reported-all, reported-first, hold-append, hold-split, hold-each, each-hold}
 use Rattle.faults.proofs.ReportedRuns.{hold-entries, entries-hold}
 use Rattle.faults.proofs.RulesHeader.{statedWords, header-words, header-size, header-word}
 use Rattle.faults.proofs.RulesEntryRight.{entry-fine, fine-entry, right-named, empty-unnamed}
+use Rattle.faults.proofs.RulesMap.{map-agrees}
 
 module _ (img : List ℕ) where
   -- the parts of the order
@@ -28,6 +30,7 @@ module _ (img : List ℕ) where
     pub words : (w : ℕ) → w < statedWords img → RightWord img w
     pub entries : (e : ℕ) → e < slots (geometryOf img) → AllHold img (entryOrder img e)
     pub shared : (b : ℕ) → b < geometryOf img .blocks → held img b ≤ 1
+    pub map : (b : ℕ) → b < mapBits (geometryOf img) → Holds img (map b)
 
   abbrev pub headerOrder : List Rule
   headerOrder = each header 0 (statedWords img)
@@ -38,16 +41,25 @@ module _ (img : List ℕ) where
   abbrev pub sharedOrder : List Rule
   sharedOrder = each shared 0 (geometryOf img .blocks)
 
+  abbrev pub mapOrder : List Rule
+  mapOrder = each map 0 (mapBits (geometryOf img))
+
+  -- behind the entries
+  abbrev pub blocksOrder : List Rule
+  blocksOrder = sharedOrder ++ mapOrder
+
   pub order-parts : AllHold img (order img) → OrderParts
   unfolding order
   order-parts (also size all) =
-      let h = hold-split headerOrder (contentsOrder ++ sharedOrder) all in
-      let k = hold-split contentsOrder sharedOrder (h .1) in
+      let h = hold-split headerOrder (contentsOrder ++ blocksOrder) all in
+      let k = hold-split contentsOrder blocksOrder (h .1) in
+      let l = hold-split sharedOrder mapOrder (k .1) in
       record {
         size = size;
         words = λ w inside. each-hold header 0 (statedWords img) (h .0) w (omega arith) (omega arith);
         entries = λ e inside. entries-hold 0 (slots (geometryOf img)) (k .0) e (omega arith) (omega arith);
-        shared = λ b inside. each-hold shared 0 (geometryOf img .blocks) (k .1) b (omega arith) (omega arith);
+        shared = λ b inside. each-hold shared 0 (geometryOf img .blocks) (l .0) b (omega arith) (omega arith);
+        map = λ b inside. each-hold map 0 (mapBits (geometryOf img)) (l .1) b (omega arith) (omega arith);
       }
 
   pub parts-order : OrderParts → AllHold img (order img)
@@ -56,21 +68,13 @@ module _ (img : List ℕ) where
       also (parts .size)
       (hold-append (hold-each header 0 (statedWords img) (λ w low high. parts .words w (omega arith)))
       (hold-append (hold-entries 0 (slots (geometryOf img)) (λ e low high. parts .entries e (omega arith)))
-      (hold-each shared 0 (geometryOf img .blocks) (λ b low high. parts .shared b (omega arith)))))
+      (hold-append (hold-each shared 0 (geometryOf img .blocks) (λ b low high. parts .shared b (omega arith)))
+      (hold-each map 0 (mapBits (geometryOf img)) (λ b low high. parts .map b (omega arith))))))
 
   -- a block that is no body is held by none
   pub held-none : ((e : ℕ) → e < slots (geometryOf img) → RightEntry img (geometryOf img) e) → (b : ℕ) → geometryOf img .blocks ≤ b → held img b ≡ 0
   unfolding held
-  held-none right b above =
-      total-same (λ e. count b (blocksAt img (geometryOf img) e)) (λ e. 0) 0 (slots (geometryOf img)) (λ e low high. zeros e (omega arith))
-      ∙ omega (arith, total-each 0 0 (slots (geometryOf img)))
-    where
-      zeros : (e : ℕ) → e < slots (geometryOf img) → count b (blocksAt img (geometryOf img) e) ≡ 0
-      zeros e inside =
-          elim (decLt 0 (count b (blocksAt img (geometryOf img) e))) [
-            | yes some ↦ absurd (omega (arith, above, right-range img (geometryOf img) e (right e inside) b some .1))
-            | no never ↦ omega (arith, never)
-          ]
+  held-none right b above = beyond-free img (geometryOf img) right b above
 
   pub parts-consistent : OrderParts → Consistent img
   parts-consistent parts =
@@ -82,6 +86,7 @@ module _ (img : List ℕ) where
           | yes inside ↦ parts .shared b inside
           | no above ↦ omega (arith, held-none right b (omega (arith, above)))
         ];
+        map = map-agrees img .0 (parts .map);
       }
     where
       right : (e : ℕ) → e < slots (geometryOf img) → RightEntry img (geometryOf img) e
@@ -109,6 +114,7 @@ module _ (img : List ℕ) where
           apart = λ used f less used₂ same. c .differ f e less inside used₂ same;
         });
         shared = λ b inside. c .once b;
+        map = map-agrees img .1 (c .map);
       }
 
   pub order-consistent : AllHold img (order img) ↔ Consistent img

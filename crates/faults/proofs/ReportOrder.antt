@@ -1,4 +1,4 @@
--- Reports put together along the order of looking: of an image from its size, header, entries and blocks, and of an entry from its words, its name and its file.
+-- Reports put together along the order of looking: of an image from its size, header, entries, blocks and map, and of an entry from its words, its name and its file.
 use Prim.Native.Nat.{ℕ, _+_, _-_, _≤_, _<_}
 use mathlib.Core.Path.{_≡_}
 use mathlib.Core.List.{List, _++_}
@@ -6,8 +6,9 @@ use native.Mathlib.Omega.{arith}
 use Rattle.pack.specs.Geometry.{geometryOf, slots}
 use Rattle.pack.specs.Header.{RightHeader}
 use Rattle.pack.specs.Entry.{Empty}
+use Rattle.pack.specs.Map.{mapBits}
 use Rattle.faults.specs.declared.ReportAnswer.{ReportAnswer}
-use Rattle.faults.specs.Rules.{size, header, entry, name, extent, link, loop, end, shared, Holds, RightSize, RightWord}
+use Rattle.faults.specs.Rules.{size, header, entry, name, extent, link, loop, end, shared, map, Holds, RightSize, RightWord}
 use Rattle.faults.specs.Report.{links, fileOrder, entryOrder, order, reported, nothingWrong, Reported, fault, right, Report}
 use Rattle.faults.specs.FirstFault.{AllHold, none, also}
 use Rattle.faults.proofs.ReportedParts.{hold-each, hold-append, all-reported, reported-append, reported-front, reported-each}
@@ -15,7 +16,7 @@ use Rattle.faults.proofs.ReportedRuns.{linkRules, hold-links, reported-
 use Rattle.faults.proofs.RulesHeader.{statedWords, header-size, header-word}
 use Rattle.faults.proofs.RulesEntry.{fieldRules, entryHere, order-contiguous, order-linked, endOrder, rules-order}
 use Rattle.faults.proofs.RulesEntryRight.{empty-rules}
-use Rattle.faults.proofs.ReportConsistent.{headerOrder, contentsOrder, sharedOrder}
+use Rattle.faults.proofs.ReportConsistent.{headerOrder, contentsOrder, sharedOrder, mapOrder, blocksOrder}
 
 module _ {img : List ℕ} where
   pub report-size : (RightSize img → ⊥) → Report img (reported img size)
@@ -27,7 +28,7 @@ module _ {img : List ℕ} where
   unfolding order
   report-word long w inside before fails =
       right long
-      (reported-front (contentsOrder img ++ sharedOrder img)
+      (reported-front (contentsOrder img ++ blocksOrder img)
       (reported-each header 0 (statedWords img) w (omega arith) (omega arith) (λ v low less. before v less) fails) (λ is. omega (arith, is)))
 
   -- behind the header
@@ -41,14 +42,14 @@ module _ {img : List ℕ} where
     report-entry e inside before report some =
         right (header-size img h)
         (reported-append words-hold
-        (reported-front (sharedOrder img)
+        (reported-front (blocksOrder img)
         (reported-entries 0 (slots (geometryOf img)) e (omega arith) (omega arith) (λ f low less. before f less) report some) some))
 
     -- behind the entries
     module _ (entries : (e : ℕ) → e < slots (geometryOf img) → AllHold img (entryOrder img e)) where
-      pub report-shared : {answer : ReportAnswer} → Reported img (sharedOrder img) answer → Report img answer
+      pub report-blocks : {answer : ReportAnswer} → Reported img (blocksOrder img) answer → Report img answer
       unfolding order
-      report-shared report =
+      report-blocks report =
           right (header-size img h)
           (reported-append words-hold
           (reported-append (hold-entries 0 (slots (geometryOf img)) (λ e low high. entries e (omega arith))) report))
@@ -56,10 +57,25 @@ module _ {img : List ℕ} where
       pub report-block : (b : ℕ) → b < geometryOf img .blocks → ((c : ℕ) → c < b → Holds img (shared c)) → (Holds img (shared b) → ⊥)
           → Report img (reported img (shared b))
       report-block b inside before fails =
-          report-shared (reported-each shared 0 (geometryOf img .blocks) b (omega arith) (omega arith) (λ c low less. before c less) fails)
+          report-blocks
+          (reported-front (mapOrder img)
+          (reported-each shared 0 (geometryOf img .blocks) b (omega arith) (omega arith) (λ c low less. before c less) fails) (λ is. omega (arith, is)))
 
-      pub report-nothing : ((b : ℕ) → b < geometryOf img .blocks → Holds img (shared b)) → Report img nothingWrong
-      report-nothing holds = report-shared (all-reported (hold-each shared 0 (geometryOf img .blocks) (λ b low high. holds b (omega arith))))
+      -- behind the shared blocks
+      module _ (apart : (b : ℕ) → b < geometryOf img .blocks → Holds img (shared b)) where
+        shared-hold : AllHold img (sharedOrder img)
+        shared-hold = hold-each shared 0 (geometryOf img .blocks) (λ b low high. apart b (omega arith))
+
+        pub report-bit : (b : ℕ) → b < mapBits (geometryOf img) → ((c : ℕ) → c < b → Holds img (map c)) → (Holds img (map b) → ⊥)
+            → Report img (reported img (map b))
+        report-bit b inside before fails =
+            report-blocks
+            (reported-append shared-hold (reported-each map 0 (mapBits (geometryOf img)) b (omega arith) (omega arith) (λ c low less. before c less) fails))
+
+        pub report-nothing : ((b : ℕ) → b < mapBits (geometryOf img) → Holds img (map b)) → Report img nothingWrong
+        report-nothing holds =
+            report-blocks
+            (reported-append shared-hold (all-reported (hold-each map 0 (mapBits (geometryOf img)) (λ b low high. holds b (omega arith)))))
 
 -- an entry
 module _ (img : List ℕ) (e : ℕ) where

@@ -5,7 +5,7 @@ use mathlib.Core.Bool.{Bool, true, false, cond}
 use mathlib.Core.List.{List}
 use mathlib.Core.Logic.{inl, inr}
 use native.Mathlib.Omega.{arith}
-use native.Mathlib.Decide.{ℕ-discrete, decLt, decLe}
+use native.Mathlib.Decide.{ℕ-discrete, decLe}
 use lib.Dec.{eqb}
 use Rattle.words.specs.Word.{wordAt}
 use Rattle.pack.specs.Form.{segmentsOf}
@@ -32,7 +32,7 @@ stated-few form = few (eqb (segmentsOf form) 0)
     few false = segments-few form
 
 pub record Small (answer : ReportAnswer) : Type 0 where
-  pub rule : answer .rule ≤ 9
+  pub rule : answer .rule ≤ 10
   pub entry : answer .entry < mostEntries
   pub word : answer .word < segmentWords mostSegments
   pub block : answer .block < mostBlocks
@@ -54,19 +54,24 @@ module _ (img : List ℕ) (answer : ReportAnswer) (m : Members img answer) (head
       at (no one) (no two) (no three) (no four) (yes five) = omega (arith, m .extent (omega arith) .1)
       at (no one) (no two) (no three) (no four) (no five) = omega (arith, m .noWord (inr (omega arith)))
 
+  entry-in : Dec (answer .rule ≤ 2) → Dec (answer .rule ≤ 9) → answer .entry < mostEntries
+  entry-in (yes few) nine = omega (arith, m .noEntry (inl few))
+  entry-in (no more) (yes nine) = omega (arith, m .entry (omega (arith, more)) nine, entries-few img (header (omega (arith, more))))
+  entry-in (no more) (no ten) = omega (arith, m .noEntry (inr (omega (arith, ten, m .rule .1))))
+
+  -- a bit too is one of at most so many: a block has a bit for each
+  block-in : Dec (answer .rule ≤ 5) → Dec (answer .rule ≤ 9) → answer .block < mostBlocks
+  block-in (yes few) nine = omega (arith, m .noBlock few)
+  block-in (no more) (yes nine) = omega (arith, m .block (omega (arith, more)) nine .1, header-sized img (header (omega (arith, more))) .most)
+  block-in (no more) (no ten) = omega (arith, m .bit (omega (arith, ten, m .rule .1)), header-sized img (header (omega (arith, more))) .few)
+
   members-small : Small answer
   members-small =
       record {
         rule = m .rule .1;
-        entry = elim (decLt 2 (answer .rule)) [
-          | yes more ↦ omega (arith, m .entry more, entries-few img (header more))
-          | no few ↦ omega (arith, m .noEntry (omega (arith, few)))
-        ];
+        entry = entry-in (decLe (answer .rule) 2) (decLe (answer .rule) 9);
         word = few-words;
-        block = elim (decLt 5 (answer .rule)) [
-          | yes more ↦ omega (arith, m .block more .1, header-sized img (header (omega (arith, more))) .most)
-          | no few ↦ omega (arith, m .noBlock (omega (arith, few)))
-        ];
+        block = block-in (decLe (answer .rule) 5) (decLe (answer .rule) 9);
       }
 
 pub report-small : (img : List ℕ) (answer : ReportAnswer) → Report img answer → Small answer

@@ -6,7 +6,7 @@ use mathlib.Core.Logic.{_⊎_, inl, inr}
 use native.Mathlib.Omega.{arith}
 use native.Mathlib.Decide.{ℕ-discrete}
 use Rattle.faults.specs.declared.ReportAnswer.{ReportAnswer}
-use Rattle.faults.specs.Rules.{Rule, size, header, entry, name, extent, link, loop, end, shared, Holds}
+use Rattle.faults.specs.Rules.{Rule, size, header, entry, name, extent, link, loop, end, shared, map, Holds}
 use Rattle.faults.specs.Report.{each, reported, nothingWrong, Reported, consistent, fault, right}
 use Rattle.faults.specs.FirstFault.{AllHold, none, also, FirstFault}
 
@@ -21,6 +21,7 @@ fault-number img (link e place) is = omega (arith, is)
 fault-number img (loop e place) is = omega (arith, is)
 fault-number img (end e) is = omega (arith, is)
 fault-number img (shared b) is = omega (arith, is)
+fault-number img (map b) is = omega (arith, is)
 
 module _ {img : List ℕ} where
   -- one answer for every image

@@ -1,13 +1,15 @@
--- Means: how often files reach each block, counted up to 2.
-use Prim.Native.Nat.{ℕ, _+_, _-_, _≤_}
+-- Means: how often files reach each block, counted up to 2, and what the bits of a map must be by that.
+use Prim.Native.Nat.{ℕ, _+_, _-_, _≤_, _<_}
 use mathlib.Core.Path.{_≡_}
 use mathlib.Core.List.{List}
+use mathlib.Core.Logic.{_↔_}
 use lib.ListN.{getD}
 use Rattle.pack.specs.declared.Geometry.{Geometry}
 use Rattle.pack.specs.declared.Entry.{Entry}
 use Rattle.pack.specs.Geometry.{slots}
 use Rattle.pack.specs.File.{count, blocksOf}
 use Rattle.pack.specs.Entry.{blocksAt}
+use Rattle.pack.specs.Map.{mapBit}
 use Rattle.pack.specs.Consistent.{total}
 
 -- 0, 1 or more: a number that is told up to 2
@@ -33,3 +35,11 @@ none b = 0
 abbrev pub CountsFile : List ℕ → Geometry → Entry → List ℕ → List ℕ → Type 0
 CountsFile img g x before behind =
     (left goal : ℕ → ℕ) → Counted before (λ b. count b (blocksOf img g x) + left b) goal → Counted behind left goal
+
+-- "1 if system or held, 0 otherwise and for b from n up", and a bit that is so
+pub data Due (counts : List ℕ) (g : Geometry) (b : ℕ) : Type 0 where
+  system : b < g .bodies .0 → Due counts g b
+  counted : b < g .blocks → 0 < getD counts b 0 → Due counts g b
+
+abbrev pub BitRight : List ℕ → Geometry → List ℕ → ℕ → Type 0
+BitRight img g counts b = (mapBit img g b ≡ 1) ↔ Due counts g b

@@ -8,8 +8,9 @@ use Rattle.pack.specs.Geometry.{geometryOf, segmentWords, slots}
 use Rattle.pack.specs.File.{linkOf, count}
 use Rattle.pack.specs.Entry.{entryOf, blocksAt, Empty}
 use Rattle.pack.specs.Key.{keyIn, SameKey}
+use Rattle.pack.specs.Map.{HasMap, mapBits, mapBit}
 use Rattle.faults.specs.declared.ReportAnswer.{ReportAnswer}
-use Rattle.faults.specs.Rules.{statedSegments, RightSize, RightWord, RightField, RightExtent, RightChain, Body, chainAt}
+use Rattle.faults.specs.Rules.{statedSegments, RightSize, RightWord, RightField, RightExtent, RightChain, Body, Taken, chainAt}
 use Rattle.faults.specs.Report.{SecondHolder}
 
 -- an entry of the image, in use
@@ -24,6 +25,11 @@ pub record ChainBlock (img : List ℕ) (e place b : ℕ) : Type 0 where
   pub within : place < entryOf img (geometryOf img) e .length
   pub is : chainAt img (entryOf img (geometryOf img) e) place ≡ b
   pub body : Body (geometryOf img) b
+
+-- 02 §7: a bit that is not what it must be, "1 if system or held, 0 otherwise and for b from n up"
+pub data WrongBit (img : List ℕ) (b : ℕ) : Type 0 where
+  marked : mapBit img (geometryOf img) b ≡ 1 → (Taken img b → ⊥) → WrongBit img b
+  unmarked : (mapBit img (geometryOf img) b ≡ 1 → ⊥) → Taken img b → WrongBit img b
 
 -- "every fault named is really there"
 pub data Fault (img : List ℕ) : ReportAnswer → Type 0 where
@@ -51,3 +57,5 @@ pub data Fault (img : List ℕ) : ReportAnswer → Type 0 where
   two-files : (e b : ℕ) → SecondHolder img b e → Body (geometryOf img) b
       → ((f c : ℕ) → f < slots (geometryOf img) → count c (blocksAt img (geometryOf img) f) ≤ 1)
       → Fault img (record { rule = 9; entry = e; word = 0; block = b })
+  -- the bit of a block on the map, also of one from n up
+  wrong-bit : (b : ℕ) → HasMap (geometryOf img) → b < mapBits (geometryOf img) → WrongBit img b → Fault img (record { rule = 10; entry = 0; word = 0; block = b })

@@ -9,8 +9,9 @@ use Rattle.pack.specs.declared.Entry.{Entry}
 use Rattle.pack.specs.Geometry.{geometryOf, segmentWords, slots}
 use Rattle.pack.specs.File.{count}
 use Rattle.pack.specs.Entry.{entryOf, blocksAt}
+use Rattle.pack.specs.Map.{mapBits}
 use Rattle.faults.specs.declared.ReportAnswer.{ReportAnswer}
-use Rattle.faults.specs.Rules.{Rule, size, header, entry, name, extent, link, loop, end, shared, statedSegments, chainAt, Holds}
+use Rattle.faults.specs.Rules.{Rule, size, header, entry, name, extent, link, loop, end, shared, map, statedSegments, chainAt, Holds}
 use Rattle.faults.specs.Second.{second}
 
 -- a rule for each of `k` numbers from `from` on
@@ -40,12 +41,12 @@ unfoldable pub entriesOrder : List ℕ → ℕ → ℕ → List Rule
 entriesOrder img e zero = []
 entriesOrder img e (suc k) = entryOrder img e ++ entriesOrder img (e + 1) k
 
--- "in document 01's order: size, header, entry by entry, then shared blocks in block order"
+-- "in document 01's order: size, header, entry by entry, then shared blocks in block order"; 02 §7: "that the map agrees, checked last", by block number too
 unfoldable pub order : List ℕ → List Rule
 order img =
     size
     ∷ (each header 0 (segmentWords (statedSegments (wordAt img 0)))
-    ++ (entriesOrder img 0 (slots (geometryOf img)) ++ each shared 0 (geometryOf img .blocks)))
+    ++ (entriesOrder img 0 (slots (geometryOf img)) ++ (each shared 0 (geometryOf img .blocks) ++ each map 0 (mapBits (geometryOf img)))))
 
 -- "a block is shared if two files reach it, and the second is named": it and one before it reach the block, and no other before it does
 pub record SecondHolder (img : List ℕ) (b e : ℕ) : Type 0 where
@@ -57,7 +58,7 @@ pub record SecondHolder (img : List ℕ) (b e : ℕ) : Type 0 where
   pub only : (f : ℕ) → f < e → 0 < count b (blocksAt img (geometryOf img) f) → f ≡ first
 
 -- what is reported where a rule fails: its number, "with the entry and block concerned" and the word, 0 where it names none. LINK names the block whose link is wrong, LOOP
--- the block to which a link leads a second time, END the last block.
+-- the block to which a link leads a second time, END the last block, MAP the block whose bit is wrong.
 abbrev pub reported : List ℕ → Rule → ReportAnswer
 reported img size = record { rule = 1; entry = 0; word = 0; block = 0 }
 reported img (header w) = record { rule = 2; entry = 0; word = w; block = 0 }
@@ -69,6 +70,7 @@ reported img (loop e place) = record { rule = 7; entry = e; word = 0; block = ch
 reported img (end e) =
     record { rule = 8; entry = e; word = 0; block = chainAt img (entryOf img (geometryOf img) e) (entryOf img (geometryOf img) e .length - 1) }
 reported img (shared b) = record { rule = 9; entry = second img b; word = 0; block = b }
+reported img (map b) = record { rule = 10; entry = 0; word = 0; block = b }
 
 -- "It says consistent exactly if document 01 says so": no rule fails
 abbrev pub nothingWrong : ReportAnswer

@@ -1,8 +1,8 @@
--- The rules of consistency one by one, as document 01 has them, with the entry, the word and the block that each is about: document 02 §6.
+-- The rules of consistency one by one, as document 01 and document 02 §7 have them, with the entry, the word and the block that each is about: document 02 §6.
 use Prim.Native.Nat.{ℕ, _+_, _*_, _≤_, _<_}
 use mathlib.Core.Path.{_≡_}
 use mathlib.Core.Bool.{cond}
-use mathlib.Core.Logic.{_⊎_}
+use mathlib.Core.Logic.{_⊎_, _↔_}
 use mathlib.Core.List.{List}
 use lib.ListN.{length}
 use lib.Dec.{eqb, ltb}
@@ -16,6 +16,7 @@ use Rattle.pack.specs.Header.{Listed, uicCount}
 use Rattle.pack.specs.File.{nextOf, after, one}
 use Rattle.pack.specs.Entry.{entryWord, entryOf, Empty}
 use Rattle.pack.specs.Key.{keyIn, SameKey}
+use Rattle.pack.specs.Map.{HasMap, mapBit}
 use Rattle.pack.specs.Consistent.{held}
 
 -- A rule, by what it is about: an entry e in stored order, a word of block 0 or of an entry, a place in the chain of entry e, a block b.
@@ -29,6 +30,7 @@ pub data Rule : Type 0 where
   loop : (e place : ℕ) → Rule
   end : (e : ℕ) → Rule
   shared : (b : ℕ) → Rule
+  map : (b : ℕ) → Rule
 
 -- the segments in a block by word 0; where that is no form, "A block is 256 words"
 unfoldable pub statedSegments : ℕ → ℕ
@@ -41,11 +43,11 @@ pub record RightSize (img : List ℕ) : Type 0 where
 
 -- word w of block 0
 pub record RightWord (img : List ℕ) (w : ℕ) : Type 0 where
-  -- "word 0 is 1;"
+  -- "word 0 is 1;", 2 or 3
   pub form : w ≡ 0 → 0 < segmentsOf (wordAt img 0)
-  -- "word 1 is n, the blocks in all, 16 to 1024;"
+  -- "word 1 is n, the blocks in all, 16 to 1024;", in form 2 to 4096
   pub blocks : w ≡ 1 → (leastBlocks ≤ wordAt img 1) × (wordAt img 1 ≤ mostBlocksOf (wordAt img 0))
-  -- "word 2 is c, 1 to 8;" and there is a body
+  -- "word 2 is c, 1 to 8;", in forms 2 and 3 to 32, and there is a body
   pub contents : w ≡ 2 → (leastContents ≤ wordAt img 2) × (wordAt img 2 ≤ mostContentsOf (wordAt img 0)) × (bodiesOf (wordAt img 0) (wordAt img 2) < wordAt img 1)
   -- "word 3 is u, 0 to 64;"
   pub uics : w ≡ 3 → uicCount img ≤ mostUicsOf (wordAt img 0)
@@ -75,7 +77,7 @@ pub record RightField (img : List ℕ) (e w : ℕ) (x : Entry) : Type 0 where
   -- "11 to 15 zero"
   pub rest : 11 ≤ w → entryWord img (geometryOf img) e w ≡ 0
 
--- "bodies are numbered above c and below n"
+-- "bodies are numbered above c and below n"; form 2: "Blocks 0 to c + 1 are system; bodies lie above."
 abbrev pub Body : Geometry → ℕ → Type 0
 Body g b = (g .bodies .0 ≤ b) × (b < g .blocks)
 
@@ -97,6 +99,10 @@ pub record RightChain (img : List ℕ) (w : ℕ) (x : Entry) : Type 0 where
   pub noFirst : w ≡ 6 → x .length ≡ 0 → x .first .0 ≡ 0
   pub last : w ≡ 8 → (place : ℕ) → place + 1 ≡ x .length → chainAt img x place ≡ x .last .0
   pub noLast : w ≡ 8 → x .length ≡ 0 → x .last .0 ≡ 0
+
+-- "system or held"
+abbrev pub Taken : List ℕ → ℕ → Type 0
+Taken img b = (b < geometryOf img .bodies .0) ⊎ (0 < held img b)
 
 -- the rule of an entry: "An empty entry is all zero.", or what is said of one in use holds of it
 abbrev pub Unless : List ℕ → ℕ → (Entry → Type 0) → Type 0
@@ -120,3 +126,5 @@ Holds img (loop e place) = Unless img e (λ x. place + 1 < x .length → (q : �
 Holds img (end e) = Unless img e (λ x. 0 < x .length → chainAt img x (x .length) ≡ 0)
 -- "no block is held twice;"
 Holds img (shared b) = held img b ≤ 1
+-- 02 §7: "block b is bit b mod 16 of word b / 16, 1 if system or held, 0 otherwise and for b from n up", where the pack has a map
+Holds img (map b) = HasMap (geometryOf img) → (mapBit img (geometryOf img) b ≡ 1) ↔ Taken img b

@@ -3,7 +3,8 @@ ghost use mathlib.Core.Path.{_≡_};
 ghost use mathlib.Core.Bool.{true};
 ghost use mathlib.Core.List.{[], _∷_};
 ghost use mathlib.Core.Logic.{_↔_, _⊎_};
-ghost use Prim.Native.Nat.{_+_, _<_};
+ghost use Prim.Native.Nat.{_+_, _≤_, _<_};
+ghost use lib.ListN.{length, replicate};
 ghost use Rattle.pack.specs.Geometry.{geometryOf};
 ghost use Rattle.pack.specs.Entry.{entryOf};
 ghost use Rattle.pack.specs.EntryFields.{WordFields};
@@ -11,6 +12,7 @@ ghost use Rattle.faults.specs.Rules.{extent, end, Body};
 ghost use Rattle.faults.specs.Report.{fileOrder, Reported};
 ghost use Rattle.faults.specs.Looking.{FirstWrong, ExtentRight, Here, Last};
 use crate::ReportAnswer;
+use crate::blocks::UNMAPPED_BLOCKS;
 use pack::BlockNo;
 use pack::Entry;
 use pack::Geometry;
@@ -72,13 +74,13 @@ fn look_end(img: &[u8], g: Geometry, e: usize, x: Entry, b: BlockNo) -> ReportAn
     }
 }
 
-// Link by link from the first block on. The marks are the blocks of this chain, so that a loop, or a length that is too large, ends within the pack's blocks.
-fn look_links(img: &[u8], g: Geometry, e: usize, x: Entry) -> ReportAnswer
+// Link by link from the first block on. The lent marks are the blocks of this chain, so that a loop, or a length that is too large, ends within the pack's blocks.
+fn look_links(img: &[u8], marks: &mut [u8], g: Geometry, e: usize, x: Entry) -> ReportAnswer
     requires { ⌜ Here (now img) g e x × WordFields x ⌝ }
     requires { ⌜ (x .kind ≡ 2) × (0 < x .length) × Body g (x .first .0) ⌝ }
+    requires { ⌜ (now marks ≡ replicate (length (now marks)) 0) × (g .blocks ≤ length (now marks)) ⌝ }
     ensures { λ r. ⌜ Reported (now (img .entry)) (fileOrder e (entryOf (now (img .entry)) (geometryOf (now (img .entry))) e)) r ⌝ }
 {
-    let mut marks = [0u8; pack::MOST_BLOCKS];
     let mut place = 0;
     let mut b = x.first.0;
     marks[b] = 1;
@@ -156,7 +158,12 @@ fn look_chain(img: &[u8], g: Geometry, e: usize, x: Entry) -> ReportAnswer
             block: 0,
         };
     }
-    look_links(img, g, e, x)
+    if g.blocks <= UNMAPPED_BLOCKS {
+        let mut marks = [0u8; UNMAPPED_BLOCKS];
+        return look_links(img, &mut marks, g, e, x);
+    }
+    let mut marks = [0u8; pack::MOST_BLOCKS];
+    look_links(img, &mut marks, g, e, x)
 }
 
 pub fn look_file(img: &[u8], g: Geometry, e: usize, x: Entry) -> ReportAnswer

@@ -1,8 +1,10 @@
 // The report on an image: the first rule of consistency that fails, with the entry, the word and the block concerned.
+mod blocks;
 mod entries;
 mod fields;
 mod files;
 mod headers;
+mod maps;
 mod shared;
 
 ghost use Rattle.faults.specs.Report.{Report};
@@ -18,7 +20,7 @@ pub struct ReportAnswer {
     pub block: usize,
 }
 
-// Where the image is not consistent: by its header, then its entries, then the blocks that they share.
+// Where the image is not consistent: by its header, then its entries, then the blocks that they share, then the map.
 fn look(img: &[u8]) -> ReportAnswer
     ensures { λ r. ⌜ Report (now (img .entry)) r ⌝ }
 {
@@ -29,7 +31,7 @@ fn look(img: &[u8]) -> ReportAnswer
     if told.rule != 0 {
         return told;
     }
-    shared::look_shared(img, g)
+    blocks::look_blocks(img, g)
 }
 
 // A consistent image is told at once, so that it costs no more than its check.

@@ -5,7 +5,7 @@ ghost use mathlib.Core.Logic.{_↔_};
 ghost use Prim.Native.Nat.{ℕ, _+_, _<_, _≤_};
 ghost use lib.ListN.{length, getD, replicate};
 ghost use Rattle.pack.specs.Geometry.{geometryOf};
-ghost use Rattle.pack.specs.GeometrySized.{mostBlocks, Sized};
+ghost use Rattle.pack.specs.GeometrySized.{Sized};
 ghost use Rattle.pack.specs.File.{blocksOf, count};
 ghost use Rattle.pack.specs.Consistent.{held};
 ghost use Rattle.faults.specs.Report.{each, Reported};
@@ -14,7 +14,6 @@ ghost use Rattle.faults.specs.Second.{second};
 ghost use Rattle.faults.specs.Looking.{FirstWrong, AllRight};
 ghost use Rattle.faults.specs.Counting.{Capped, CountsFile, Counted, none};
 use crate::ReportAnswer;
-use pack::BlockNo;
 use pack::Entry;
 use pack::Geometry;
 
@@ -45,11 +44,10 @@ fn count_file(img: &[u8], counts: &mut [u8], g: Geometry, x: Entry)
     }
 }
 
-fn count_files(img: &[u8], counts: &mut [u8], g: Geometry)
+pub fn count_files(img: &[u8], counts: &mut [u8], g: Geometry)
     requires { ⌜ AllRight (now img) g ⌝ }
-    requires { ⌜ now counts ≡ replicate mostBlocks 0 ⌝ }
+    requires { ⌜ (now counts ≡ replicate (length (now counts)) 0) × (g .blocks ≤ length (now counts)) ⌝ }
     ensures { λ r. ⌜ Counted (now (counts .exit)) none (held (now (img .entry))) ⌝ }
-    ensures { λ r. ⌜ length (now (counts .exit)) ≡ mostBlocks ⌝ }
 {
     let end = pack::slot_count(g);
     let mut e = 0;
@@ -111,13 +109,12 @@ fn second_holder(img: &[u8], g: Geometry, b: usize) -> usize
     0
 }
 
-pub fn look_shared(img: &[u8], g: Geometry) -> ReportAnswer
+pub fn look_shared(img: &[u8], counts: &[u8], g: Geometry) -> ReportAnswer
     requires { ⌜ AllRight (now img) g ⌝ }
+    requires { ⌜ Counted (now counts) none (held (now img)) × (g .blocks ≤ length (now counts)) ⌝ }
     ensures { λ r. ⌜ Reported (now (img .entry)) (each shared 0 (geometryOf (now (img .entry)) .blocks)) r ⌝ }
 {
-    let mut counts = [0u8; pack::MOST_BLOCKS];
-    count_files(img, &mut counts, g);
-    let block = shared_block(&counts, g.blocks);
+    let block = shared_block(counts, g.blocks);
     if g.blocks <= block {
         return ReportAnswer {
             rule: 0,

@@ -1,4 +1,4 @@
--- The keys of scratch files and the DELETs of them, entry by entry: the entries behind a cleared one are the same, so the DELETs that are left are.
+-- The keys of scratch files and the DELETs of them, entry by entry: the entries behind one whose file is gone are the same, so the DELETs that are left are.
 use Prim.Native.Nat.{ℕ, suc, zero, _+_, _≤_, _<_}
 use mathlib.Core.Path.{_≡_, refl, sym, ap, subst, _∙_}
 use mathlib.Core.Bool.{true, false, cond}
@@ -9,19 +9,11 @@ use Rattle.pack.specs.declared.Entry.{Entry}
 use Rattle.pack.specs.declared.Geometry.{Geometry}
 use Rattle.pack.specs.declared.Key.{Key}
 use Rattle.pack.specs.Geometry.{geometryOf, slots}
-use Rattle.pack.specs.GeometrySized.{Sized}
 use Rattle.pack.specs.Key.{keyIn}
-use Rattle.pack.specs.Entry.{entryOf, Empty}
-use Rattle.pack.specs.EntryWords.{clearEntry}
+use Rattle.pack.specs.Entry.{entryOf}
 use Rattle.pack.specs.Consistent.{Consistent}
-use Rattle.pack.proofs.HeaderRules.{header-sized}
-use Rattle.pack.proofs.EntryWordsWritten.{clear-empty}
-use Rattle.frame.specs.Framed.{Only, Never, Kept}
-use Rattle.frame.proofs.FramedStays.{stated-framed}
-use Rattle.frame.proofs.FramedHeld.{framed-never}
-use Rattle.frame.proofs.FramedCompose.{entry-kept}
-use Rattle.frame.proofs.FramedWritten.{clear-kept}
-use Rattle.directory.proofs.DeletEffect.{delet-consistent}
+use Rattle.directory.specs.Delet.{deleted}
+use Rattle.directory.proofs.Deleted.{deleted-entry}
 use Rattle.finishing.specs.ScratchTest.{isScratch, keysFrom}
 use Rattle.finishing.specs.Finish.{deletedAll, EachDeleted}
 use Rattle.finishing.specs.Finish.EachDeleted.{also}
@@ -59,47 +51,29 @@ module _ (img : List ℕ) (g : Geometry) (caller e k : ℕ) where
   unfolding keysFrom
   keys-other is = rw is
 
--- an entry that is cleared because it passes the test
+-- an entry whose file is deleted because it passes the test
 module _ {img : List ℕ} {g : Geometry} (stated : g ≡ geometryOf img) (right : Consistent img) (caller e : ℕ) (inside : e < slots g)
     (is : isScratch caller (entryOf img g e) ≡ true) where
-  sized : Sized img g
-  sized = subst (Sized img) (sym stated) (header-sized img (right .header))
-
-  pub here-kept : Kept (Only e) Never img (clearEntry img g e) g
-  here-kept = clear-kept img e refl inside
-
-  pub here-empty : Empty (clearEntry img g e) g e
-  here-empty = clear-empty g e img sized inside
-
-  pub here-consistent : Consistent (clearEntry img g e)
-  here-consistent = subst Consistent (scratch-image stated right e inside caller is) (delet-consistent img (keyIn (entryOf img g e)) caller right)
-
-  pub here-stated : g ≡ geometryOf (clearEntry img g e)
-  here-stated = stated-framed stated right (framed-never here-kept)
-
-  pub here-entry : (i : ℕ) → i < slots g → (i ≡ e → ⊥) → entryOf (clearEntry img g e) g i ≡ entryOf img g i
-  here-entry i within other = entry-kept here-kept i within other
-
   module _ (k : ℕ) (fits : e + suc k ≤ slots g) where
-    pub here-behind : keysFrom (clearEntry img g e) g caller (e + 1) k ≡ keysFrom img g caller (e + 1) k
+    pub here-behind : keysFrom (deleted img g e) g caller (e + 1) k ≡ keysFrom img g caller (e + 1) k
     here-behind =
-        keys-same img (clearEntry img g e) g caller (e + 1) k (λ i low high. here-entry i (omega (arith, fits)) (λ same. omega (arith, low, same)))
+        keys-same img (deleted img g e) g caller (e + 1) k (λ i low high. deleted-entry stated right e inside i (omega (arith, fits)) (λ same. omega (arith, low, same)))
 
     -- "the one those DELETs leave"
-    pub here-swept : sweptFrom img g caller e (suc k) ≡ sweptFrom (clearEntry img g e) g caller (e + 1) k
+    pub here-swept : sweptFrom img g caller e (suc k) ≡ sweptFrom (deleted img g e) g caller (e + 1) k
     unfolding deletedAll
     here-swept =
         ap (deletedAll img caller) (keys-here img g caller e k is)
         ∙ ap (λ (img′ : List ℕ). deletedAll img′ caller (keysFrom img g caller (e + 1) k)) (scratch-image stated right e inside caller is)
-        ∙ ap (deletedAll (clearEntry img g e) caller) (sym here-behind)
+        ∙ ap (deletedAll (deleted img g e) caller) (sym here-behind)
 
-    pub here-count : length (keysFrom img g caller e (suc k)) ≡ 1 + length (keysFrom (clearEntry img g e) g caller (e + 1) k)
+    pub here-count : length (keysFrom img g caller e (suc k)) ≡ 1 + length (keysFrom (deleted img g e) g caller (e + 1) k)
     here-count = omega (arith, ap length (keys-here img g caller e k is), ap length here-behind)
 
-    pub here-each : EachDeleted caller (clearEntry img g e) (keysFrom (clearEntry img g e) g caller (e + 1) k)
+    pub here-each : EachDeleted caller (deleted img g e) (keysFrom (deleted img g e) g caller (e + 1) k)
         → EachDeleted caller img (keysFrom img g caller e (suc k))
     here-each rest =
         subst (EachDeleted caller img) (sym (keys-here img g caller e k is))
         (also (scratch-code stated right e inside caller is)
         (subst (λ (img′ : List ℕ). EachDeleted caller img′ (keysFrom img g caller (e + 1) k)) (sym (scratch-image stated right e inside caller is))
-        (subst (EachDeleted caller (clearEntry img g e)) here-behind rest)))
+        (subst (EachDeleted caller (deleted img g e)) here-behind rest)))

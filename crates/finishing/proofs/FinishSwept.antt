@@ -8,17 +8,20 @@ use native.Mathlib.Decide.{ℕ-discrete}
 use Rattle.answers.proofs.RefusalsTests.{true-not-false}
 use Rattle.pack.specs.declared.Geometry.{Geometry}
 use Rattle.pack.specs.Geometry.{geometryOf, slots}
-use Rattle.pack.specs.Entry.{entryOf, Empty}
-use Rattle.pack.specs.EntryWords.{clearEntry}
+use Rattle.pack.specs.Entry.{entryOf, blocksAt, Empty}
 use Rattle.pack.specs.Consistent.{Consistent}
-use Rattle.frame.specs.Framed.{Never, Kept}
+use Rattle.frame.specs.Framed.{OnMap, Kept}
 use Rattle.frame.proofs.EntrySame.{empty-same}
 use Rattle.frame.proofs.FramedCompose.{kept-widen, entries-kept}
 use Rattle.frame.proofs.ChangesWritten.{changes-nothing, changes-then}
+use Rattle.directory.specs.Delet.{deleted}
+use Rattle.directory.proofs.Deleted.{deleted-kept, deleted-stated, deleted-empty, deleted-entry, deleted-blocks, deleted-consistent}
 use Rattle.finishing.specs.ScratchTest.{isScratch, keysFrom}
 use Rattle.finishing.specs.Finish.{deletedAll, EachDeleted}
 use Rattle.finishing.specs.Finish.EachDeleted.{none}
-use Rattle.finishing.proofs.FinishKeys.{sweptFrom, keys-other, here-kept, here-empty, here-consistent, here-stated, here-entry, here-swept, here-each}
+use Rattle.finishing.proofs.ScratchTestPasses.{no-file}
+use Rattle.finishing.proofs.ScratchTestDelet.{empty-name}
+use Rattle.finishing.proofs.FinishKeys.{sweptFrom, keys-other, here-swept, here-each}
 
 -- entry i is not before e, and passes the test
 pub record Behind (img : List ℕ) (g : Geometry) (caller e i : ℕ) : Type 0 where
@@ -28,7 +31,7 @@ pub record Behind (img : List ℕ) (g : Geometry) (caller e i : ℕ) : Type 0 wh
 
 pub record Swept (img img′ : List ℕ) (g : Geometry) (caller e k : ℕ) : Type 0 where
   pub right : Consistent img′
-  pub kept : Kept (Behind img g caller e) Never img img′ g
+  pub kept : Kept (Behind img g caller e) (OnMap g) img img′ g
   pub emptied : (i : ℕ) → e ≤ i → i < e + k → isScratch caller (entryOf img g i) ≡ true → Empty img′ g i
 
 module _ (caller : ℕ) {g : Geometry} where
@@ -37,7 +40,7 @@ module _ (caller : ℕ) {g : Geometry} where
   swept-other {img} {img′} {e} {k} not rest =
       record {
         right = rest .right;
-        kept = kept-widen (λ i behind. record { low = omega (arith, behind .low); inside = behind .inside; is = behind .is }) (λ b never. never) (rest .kept);
+        kept = kept-widen (λ i behind. record { low = omega (arith, behind .low); inside = behind .inside; is = behind .is }) (λ b on. on) (rest .kept);
         emptied = λ i low high is. by i low high is (ℕ-discrete i e);
       }
     where
@@ -47,18 +50,21 @@ module _ (caller : ℕ) {g : Geometry} where
 
   -- one that does
   module _ {img : List ℕ} (stated : g ≡ geometryOf img) (right : Consistent img) (e : ℕ) (inside : e < slots g) (is : isScratch caller (entryOf img g e) ≡ true) where
-    as-before : (i : ℕ) → i < slots g → (i ≡ e → ⊥) → isScratch caller (entryOf (clearEntry img g e) g i) ≡ isScratch caller (entryOf img g i)
-    as-before i within other = ap (isScratch caller) (here-entry stated right caller e inside is i within other)
+    as-before : (i : ℕ) → i < slots g → (i ≡ e → ⊥) → isScratch caller (entryOf (deleted img g e) g i) ≡ isScratch caller (entryOf img g i)
+    as-before i within other = ap (isScratch caller) (deleted-entry stated right e inside i within other)
 
-    -- what passes afterwards passed before
-    passed-before : (i : ℕ) → i < slots g → isScratch caller (entryOf (clearEntry img g e) g i) ≡ true → isScratch caller (entryOf img g i) ≡ true
+    -- what passes afterwards passed before, and holds what it held: the entry itself is empty, and does not pass
+    passed-before : (i : ℕ) → i < slots g → isScratch caller (entryOf (deleted img g e) g i) ≡ true
+        → (isScratch caller (entryOf img g i) ≡ true) × (blocksAt (deleted img g e) g i ≡ blocksAt img g i)
     passed-before i within passed = by (ℕ-discrete i e)
       where
-        by : Dec (i ≡ e) → isScratch caller (entryOf img g i) ≡ true
-        by (yes same) = subst (λ (j : ℕ). isScratch caller (entryOf img g j) ≡ true) (sym same) is
-        by (no other) = sym (as-before i within other) ∙ passed
+        by : Dec (i ≡ e) → (isScratch caller (entryOf img g i) ≡ true) × (blocksAt (deleted img g e) g i ≡ blocksAt img g i)
+        by (yes same) =
+            let here : isScratch caller (entryOf (deleted img g e) g e) ≡ true = subst (λ (j : ℕ). isScratch caller (entryOf (deleted img g e) g j) ≡ true) same passed in
+            true-not-false (sym here ∙ sym (no-file caller _ (empty-name _ g e (deleted-empty stated right e inside))))
+        by (no other) = (sym (as-before i within other) ∙ passed, deleted-blocks stated right e inside i within other)
 
-    swept-here : {img′ : List ℕ} {k : ℕ} → e + suc k ≤ slots g → Swept (clearEntry img g e) img′ g caller (e + 1) k → Swept img img′ g caller e (suc k)
+    swept-here : {img′ : List ℕ} {k : ℕ} → e + suc k ≤ slots g → Swept (deleted img g e) img′ g caller (e + 1) k → Swept img img′ g caller e (suc k)
     swept-here {img′} {k} fits rest =
         record {
           right = rest .right;
@@ -70,22 +76,22 @@ module _ (caller : ℕ) {g : Geometry} where
                 inside = omega (arith, same, inside);
                 is = subst (λ (j : ℕ). isScratch caller (entryOf img g j) ≡ true) (sym same) is;
               })
-              (λ b never. never) (here-kept stated right caller e inside is))
+              (λ b on. on) (deleted-kept stated right e inside))
               (kept-widen
               (λ i behind. record {
                 low = omega (arith, behind .low);
                 inside = behind .inside;
                 is = sym (as-before i (behind .inside) (λ same. omega (arith, behind .low, same))) ∙ behind .is;
               })
-              (λ b never. never) (rest .kept));
+              (λ b on. on) (rest .kept));
           emptied = λ i low high passed. by i low high passed (ℕ-discrete i e);
         }
       where
         by : (i : ℕ) → e ≤ i → i < e + suc k → isScratch caller (entryOf img g i) ≡ true → Dec (i ≡ e) → Empty img′ g i
         by i low high passed (yes same) =
             subst (Empty img′ g) (sym same)
-            (empty-same (clearEntry img g e) img′ g e (entries-kept (rest .kept) e inside (λ behind. omega (arith, behind .low)))
-            (here-empty stated right caller e inside is))
+            (empty-same (deleted img g e) img′ g e (entries-kept (rest .kept) e inside (λ behind. omega (arith, behind .low)))
+            (deleted-empty stated right e inside))
         by i low high passed (no other) =
             rest .emptied i (omega (arith, other)) (omega arith) (as-before i (omega (arith, fits)) other ∙ passed)
 
@@ -102,7 +108,7 @@ module _ (caller : ℕ) {g : Geometry} where
           → EachDeleted caller img (keysFrom img g caller e (suc k)) × Swept img (sweptFrom img g caller e (suc k)) g caller e (suc k)
       by true is later =
           let inside : e < slots g = omega arith in
-          let rest = later (clearEntry img g e) (here-stated stated right caller e inside is) (here-consistent stated right caller e inside is) (e + 1) (omega arith) in (
+          let rest = later (deleted img g e) (deleted-stated stated right e inside) (deleted-consistent stated right e inside) (e + 1) (omega arith) in (
             here-each stated right caller e inside is k fits (rest .0),
             subst (λ (img′ : List ℕ). Swept img img′ g caller e (suc k)) (sym (here-swept stated right caller e inside is k fits))
                 (swept-here stated right e inside is fits (rest .1)),
@@ -114,9 +120,10 @@ module _ (caller : ℕ) {g : Geometry} where
                 (swept-other is (rest .1)),
           )
 
-  -- what stays where an entry that passes is cleared stays where all are
+  -- what stays where the file of an entry that passes is deleted stays where all are; each is deleted from an image in which it holds what it held at first
   pub swept-each : (P : List ℕ → Type 0) (k : ℕ) (img : List ℕ) → g ≡ geometryOf img → Consistent img → (e : ℕ) → e + k ≤ slots g
-      → ((i : ℕ) → i < slots g → isScratch caller (entryOf img g i) ≡ true → (mid : List ℕ) → P mid → P (clearEntry mid g i)) → P img
+      → ((i : ℕ) → i < slots g → isScratch caller (entryOf img g i) ≡ true
+      → (mid : List ℕ) → blocksAt mid g i ≡ blocksAt img g i → P mid → P (deleted mid g i)) → P img
       → P (sweptFrom img g caller e k)
   unfolding keysFrom deletedAll
   swept-each P zero img stated right e fits step before = before
@@ -124,12 +131,16 @@ module _ (caller : ℕ) {g : Geometry} where
     where
       by : (test : Bool) → isScratch caller (entryOf img g e) ≡ test
           → ((img₁ : List ℕ) → g ≡ geometryOf img₁ → Consistent img₁ → (j : ℕ) → j + k ≤ slots g
-          → ((i : ℕ) → i < slots g → isScratch caller (entryOf img₁ g i) ≡ true → (mid : List ℕ) → P mid → P (clearEntry mid g i)) → P img₁
+          → ((i : ℕ) → i < slots g → isScratch caller (entryOf img₁ g i) ≡ true
+          → (mid : List ℕ) → blocksAt mid g i ≡ blocksAt img₁ g i → P mid → P (deleted mid g i)) → P img₁
           → P (sweptFrom img₁ g caller j k))
           → P (sweptFrom img g caller e (suc k))
       by true is later =
           let inside : e < slots g = omega arith in
           subst P (sym (here-swept stated right caller e inside is k fits))
-          (later (clearEntry img g e) (here-stated stated right caller e inside is) (here-consistent stated right caller e inside is) (e + 1) (omega arith)
-          (λ i within passed. step i within (passed-before stated right e inside is i within passed)) (step e inside is img before))
+          (later (deleted img g e) (deleted-stated stated right e inside) (deleted-consistent stated right e inside) (e + 1) (omega arith)
+          (λ i within passed mid same.
+          let early = passed-before stated right e inside is i within passed in
+          step i within (early .0) mid (same ∙ early .1))
+          (step e inside is img refl before))
       by false not later = subst P (ap (deletedAll img caller) (sym (keys-other img g caller e k not))) (later img stated right (e + 1) (omega arith) step before)

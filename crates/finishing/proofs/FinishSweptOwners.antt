@@ -14,11 +14,11 @@ use Rattle.pack.specs.Entry.{entryOf, blocksAt}
 use Rattle.pack.specs.Consistent.{held, Consistent}
 use Rattle.pack.specs.Owner.{ownerOf}
 use Rattle.pack.proofs.ConsistentTotal.{total-same, total-each}
-use Rattle.frame.specs.Framed.{Never}
+use Rattle.frame.specs.Framed.{OnMap}
 use Rattle.frame.specs.Framing.{Framed}
-use Rattle.frame.proofs.EntrySame.{right-bodies}
-use Rattle.frame.proofs.FramedStays.{entries-at, stated-framed, held-at, blocks-framed}
-use Rattle.frame.proofs.FramedHeld.{framed-never, held-apart}
+use Rattle.pack.proofs.ConsistentHeld.{right-bodies}
+use Rattle.frame.proofs.FramedStays.{entries-at, stated-framed, held-at, blocks-framed, system-unheld}
+use Rattle.frame.proofs.FramedHeld.{held-apart, held-none}
 use Rattle.frame.proofs.OwnerFramed.{owner-framed}
 use Rattle.owners.proofs.OwnerPlaces.{place-none}
 use Rattle.owners.proofs.EntryBlocks.{empty-reaches}
@@ -27,8 +27,13 @@ use Rattle.finishing.specs.ScratchTest.{isScratch}
 use Rattle.finishing.proofs.FinishSwept.{Behind, Swept}
 
 module _ {img img′ : List ℕ} {g : Geometry} {caller : ℕ} (stated : g ≡ geometryOf img) (right : Consistent img) (s : Swept img img′ g caller 0 (slots g)) where
-  pub swept-framed : Framed (Behind img g caller 0) Never img img′ g
-  swept-framed = framed-never (s .kept)
+  -- the map's block is the system's, and so nobody's
+  pub swept-framed : Framed (Behind img g caller 0) (OnMap g) img img′ g
+  swept-framed =
+      record {
+        kept = s .kept;
+        apart = λ b on e inside other. held-none img g b e stated inside (system-unheld img g stated right b (omega (arith, on .0, on .1)));
+      }
 
   -- an entry that passed has no blocks afterwards; another has its own
   gone-blocks : (b i : ℕ) → i < slots g → isScratch caller (entryOf img g i) ≡ true → count b (blocksAt img′ g i) ≡ 0

@@ -1,4 +1,4 @@
--- DELET of the file of an entry that passes the test is done, and clears that entry.
+-- DELET of the file of an entry that passes the test is done, and the file of that entry is gone.
 use Prim.Native.Nat.{ℕ, _<_}
 use mathlib.Core.Path.{_≡_, refl, sym, subst}
 use mathlib.Core.Bool.{true, false}
@@ -12,7 +12,6 @@ use Rattle.pack.specs.declared.Key.{Key}
 use Rattle.pack.specs.Geometry.{geometryOf, slots}
 use Rattle.pack.specs.Key.{keyIn}
 use Rattle.pack.specs.Entry.{entryOf, Empty, Used, RightEntry}
-use Rattle.pack.specs.EntryWords.{clearEntry}
 use Rattle.pack.specs.Consistent.{Consistent}
 use Rattle.pack.proofs.KeySame.{equal-same}
 use Rattle.consistency.proofs.ConsistentTestIff.{consistent-iff}
@@ -25,7 +24,7 @@ use Rattle.asking.specs.AskedStage.{askedOf, stageOf}
 use Rattle.asking.proofs.Keys.{legal-iff, found-iff}
 use Rattle.asking.proofs.AskedStage.{asked-file, file-at}
 use Rattle.directory.specs.DeletRows.{deletRows}
-use Rattle.directory.specs.Delet.{delet}
+use Rattle.directory.specs.Delet.{deleted, delet}
 use Rattle.directory.proofs.PermitStage.{permit-clear}
 use Rattle.directory.proofs.DeletStage.{decide-passed, deleting-cleared}
 use Rattle.frame.proofs.FramedStays.{entries-at}
@@ -76,11 +75,11 @@ module _ {img : List ℕ} {g : Geometry} (stated : g ≡ geometryOf img) (right 
         decide-passed img key caller _ asked g e (entryOf img g e) refl Clear
         (permit-clear Delete caller (entryOf img g e) Granted (sym (passes .granted)) refl _ refl (passes .closed)) refl
 
-    done : (0 ≡ delet img key caller .code) × (clearEntry img g e ≡ delet img key caller .image)
-    done = deleting-cleared img key caller _ decided g e (entryOf img g e) refl (clearEntry img g e) refl
+    done : (0 ≡ delet img key caller .code) × (deleted img g e ≡ delet img key caller .image)
+    done = deleting-cleared img key caller _ decided g e (entryOf img g e) refl (deleted img g e) refl
 
     pub scratch-code : delet img (keyIn (entryOf img g e)) caller .code ≡ 0
     scratch-code = sym (done .0)
 
-    pub scratch-image : delet img (keyIn (entryOf img g e)) caller .image ≡ clearEntry img g e
+    pub scratch-image : delet img (keyIn (entryOf img g e)) caller .image ≡ deleted img g e
     scratch-image = sym (done .1)

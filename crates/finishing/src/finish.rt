@@ -2,15 +2,15 @@
 ghost use mathlib.Core.Path.{_≡_};
 ghost use mathlib.Core.Bool.{cond};
 ghost use mathlib.Core.List.{[], _∷_};
-ghost use Prim.Native.Nat.{_<_};
+ghost use Prim.Native.Nat.{ℕ, _≤_, _<_};
 ghost use lib.ListN.{length};
 ghost use Rattle.pack.specs.GeometrySized.{Sized};
 ghost use Rattle.pack.specs.Geometry.{geometryOf, slots};
-ghost use Rattle.pack.specs.File.{one};
-ghost use Rattle.pack.specs.Entry.{entryOf};
-ghost use Rattle.pack.specs.EntryWords.{clearEntry};
+ghost use Rattle.pack.specs.File.{one, count};
+ghost use Rattle.pack.specs.Entry.{entryOf, blocksAt};
 ghost use Rattle.pack.specs.Consistent.{Consistent};
 ghost use Rattle.consistency.specs.ConsistentTest.{openedOf};
+ghost use Rattle.directory.specs.Delet.{deleted};
 ghost use Rattle.finishing.specs.ScratchTest.{isScratch, scratchKeys};
 ghost use Rattle.finishing.specs.Finish.{deletedAll, finish};
 use answers::Answer;
@@ -41,11 +41,13 @@ fn is_scratch(x: Entry, caller: usize) -> bool
 // How many files it removed, 0 or 1.
 fn clear_scratch(img: &mut [u8], g: Geometry, e: usize, caller: usize) -> usize
     requires { ⌜ Sized (now img) g ⌝ }
-    requires { ⌜ e < slots g ⌝ }
+    requires { ⌜ (e < slots g) × ((z : ℕ) → 0 < count z (blocksAt (now img) g e) → (g .bodies .0 ≤ z) × (z < g .blocks)) ⌝ }
     ensures { λ r. ⌜ r ≡ one (isScratch caller (entryOf (now (img .entry)) g e)) ⌝ }
-    ensures { λ r. ⌜ now (img .exit) ≡ cond (isScratch caller (entryOf (now (img .entry)) g e)) (clearEntry (now (img .entry)) g e) (now (img .entry)) ⌝ }
+    ensures { λ r. ⌜ now (img .exit) ≡ cond (isScratch caller (entryOf (now (img .entry)) g e)) (deleted (now (img .entry)) g e) (now (img .entry)) ⌝ }
 {
-    if is_scratch(pack::read_entry(img, g, e), caller) {
+    let x = pack::read_entry(img, g, e);
+    if is_scratch(x, caller) {
+        room::clear_bits(img, g, x);
         pack::clear_entry(img, g, e);
         return 1;
     }

@@ -1,5 +1,5 @@
 -- An entry that keeps its file and says something else about it, and one that is emptied: the image stays consistent.
-use Prim.Native.Nat.{ℕ, _<_}
+use Prim.Native.Nat.{ℕ, _+_, _≤_, _<_}
 use mathlib.Core.Path.{_≡_, sym, ap, subst, _∙_}
 use mathlib.Core.List.{List}
 use mathlib.Core.Logic.{_⊎_, inl, inr}
@@ -10,6 +10,7 @@ use Rattle.pack.specs.Geometry.{geometryOf, slots}
 use Rattle.pack.specs.File.{nextOf, chain, after, lastOf, blocksOf, count}
 use Rattle.pack.specs.Entry.{entryOf, blocksAt, Empty, Contiguous, Linked, Used, RightEntry}
 use Rattle.pack.specs.Consistent.{Consistent}
+use Rattle.pack.specs.MapSays.{MapSays, marking}
 use Rattle.pack.proofs.FileCount.{count-nil}
 use Rattle.pack.proofs.EntryRead.{empty-blocks}
 use Rattle.pack.proofs.FileChain.{next-contiguous}
@@ -18,9 +19,9 @@ use Rattle.frame.specs.Framing.{Framed, Distinct}
 use Rattle.frame.specs.Framing.Distinct.{emptied}
 use Rattle.frame.specs.Described.{Described, Description}
 use Rattle.frame.proofs.FileChainWays.{next-same, chain-same, after-same, last-same}
-use Rattle.frame.proofs.EntrySame.{right-bodies}
+use Rattle.pack.proofs.ConsistentHeld.{right-bodies, consistent-says}
 use Rattle.frame.proofs.FramedCompose.{link-kept}
-use Rattle.frame.proofs.FramedStays.{header-segments, bodies-behind, entries-at}
+use Rattle.frame.proofs.FramedStays.{header-segments, bodies-behind, entries-at, says-kept}
 use Rattle.frame.proofs.FramedHeld.{held-once}
 use Rattle.frame.proofs.FramedConsistent.{consistent-one}
 
@@ -135,14 +136,19 @@ module _
     (consistent : Consistent img)
     (framed : Framed (Only x) Written img img′ g)
     (within : x < slots g) where
-  pub consistent-described : Used img g x (entryOf img g x) → Described img img′ g x → Description img′ (entryOf img′ g x) → Distinct img img′ g x → Consistent img′
-  consistent-described used described says distinct =
+  -- no block is taken or given up, and bodies alone are written
+  pub consistent-described : Used img g x (entryOf img g x) → Described img img′ g x → Description img′ (entryOf img′ g x) → Distinct img img′ g x
+      → ((b : ℕ) → Written b → g .bodies .0 ≤ b) → Consistent img′
+  consistent-described used described says distinct bodies =
       consistent-one stated consistent framed within (described-right described used says) distinct
       (λ b. omega (arith, ap (count b) (described-blocks described), held-once img g b x stated consistent within))
       (λ b some. inl (omega (arith, some, ap (count b) (described-blocks described))))
+      (says-kept (framed .kept) bodies (consistent-says img g stated consistent)) (λ b. omega (arith, ap (count b) (described-blocks described)))
 
-  pub consistent-emptied : Empty img′ g x → Consistent img′
-  consistent-emptied empty =
+  -- its blocks are given up: the map has no bit for them
+  pub consistent-emptied : Empty img′ g x → {bit : ℕ → ℕ} → MapSays img′ g bit → ((b : ℕ) → bit b + count b (blocksAt img g x) ≡ marking img g b) → Consistent img′
+  consistent-emptied empty says freed =
       consistent-one stated consistent framed within (inl empty) (emptied empty)
       (λ b. omega (arith, ap (count b) (empty-blocks img′ g x empty), count-nil b))
       (λ b some. absurd (omega (arith, some, ap (count b) (empty-blocks img′ g x empty), count-nil b)))
+      says (λ b. omega (arith, freed b, ap (count b) (empty-blocks img′ g x empty), count-nil b))

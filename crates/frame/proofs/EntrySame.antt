@@ -1,5 +1,5 @@
 -- An entry whose words are the same, with blocks whose bytes are the same: its file is the same and as right as before.
-use Prim.Native.Nat.{ℕ, _+_, _*_, _≤_, _<_}
+use Prim.Native.Nat.{ℕ, _+_, _*_, _<_}
 use mathlib.Core.Path.{_≡_, sym, ap, subst, _∙_}
 use mathlib.Core.List.{List}
 use mathlib.Core.Logic.{_⊎_, inl, inr}
@@ -11,8 +11,6 @@ use Rattle.pack.specs.Geometry.{blockAt, blockBytes}
 use Rattle.pack.specs.Header.{Listed}
 use Rattle.pack.specs.File.{linkOf, nextOf, chain, blocksOf, count}
 use Rattle.pack.specs.Entry.{entryWord, entryOf, blocksAt, Empty, Contiguous, Linked, Used, RightEntry}
-use Rattle.pack.proofs.FileCount.{count-nil}
-use Rattle.pack.proofs.EntryRead.{empty-blocks}
 use Rattle.frame.proofs.FileChainWays.{chain-same, after-same, last-same, next-same}
 
 -- a word is its two bytes
@@ -30,11 +28,6 @@ link-same img img′ g b some bytes =
     word-same img img′ (blockAt g b)
     (subst (λ (k : ℕ). getD img′ k 0 ≡ getD img k 0) low-place (bytes 0 (omega arith)))
     (subst (λ (k : ℕ). getD img′ k 0 ≡ getD img k 0) high-place (bytes 1 (omega arith)))
-
--- "bodies are numbered above c and below n"
-pub right-bodies : (img : List ℕ) (g : Geometry) (e b : ℕ) → RightEntry img g e → 0 < count b (blocksAt img g e) → (g .bodies .0 ≤ b) × (b < g .blocks)
-right-bodies img g e b (inl empty) some = absurd (omega (arith, some, ap (count b) (empty-blocks img g e empty), count-nil b))
-right-bodies img g e b (inr used) some = used .bodies b some
 
 module _ (img img′ : List ℕ) (g : Geometry) (e : ℕ) (words : (i : ℕ) → i < 16 → entryWord img′ g e i ≡ entryWord img g e i) where
   pub entry-same : entryOf img′ g e ≡ entryOf img g e

@@ -13,7 +13,7 @@ use Rattle.pack.specs.File.{linkOf}
 use Rattle.pack.specs.Entry.{entryWord, entryOf}
 use Rattle.pack.proofs.GeometryRoom.{block-room}
 use Rattle.frame.specs.Framing.{Either}
-use Rattle.frame.specs.Framed.{Within, Kept}
+use Rattle.frame.specs.Framed.{InBlock, Within, Kept}
 use Rattle.frame.specs.Framed.Within.{entry, block}
 use Rattle.frame.proofs.EntrySame.{entry-same, link-same}
 use Rattle.frame.proofs.ChangesWritten.{changes-wider, word-kept}
@@ -72,6 +72,15 @@ module _ {Named Written : ℕ → Type 0} {img img′ : List ℕ} {g : Geometry}
       outside (entry e named inside at) = omega (arith, at .1, inside, block-room (g .segments .0) behind)
       outside (block c written above at) =
           let is : c ≡ b = same-block (blockBytes g) b c (b * blockBytes g + i) (omega arith) (omega (arith, small)) (omega (arith, at .0)) (omega (arith, at .1)) in
+          other (subst Written is written)
+
+  pub block-word-kept : (b : ℕ) → g .contents < b → (Written b → ⊥) → (w : ℕ) → InBlock g b w → wordAt img′ w ≡ wordAt img w
+  block-word-kept b behind other w inside = word-kept kept w outside
+    where
+      outside : Within Named Written g w → ⊥
+      outside (entry e named within at) = omega (arith, at .1, within, inside .0, block-room (g .segments .0) behind)
+      outside (block c written above at) =
+          let is : c ≡ b = same-block (blockWords g) b c w (inside .0) (inside .1) (at .0) (at .1) in
           other (subst Written is written)
 
   pub entry-kept : (e : ℕ) → e < slots g → (Named e → ⊥) → entryOf img′ g e ≡ entryOf img g e

@@ -13,6 +13,7 @@ use Rattle.pack.specs.File.{count}
 use Rattle.pack.specs.Entry.{entryOf, blocksAt, Empty, RightEntry}
 use Rattle.pack.specs.Key.{keyIn, SameKey}
 use Rattle.pack.specs.Consistent.{held, Consistent}
+use Rattle.pack.specs.MapSays.{MapSays, marking}
 use Rattle.pack.proofs.FileCount.{count-nil}
 use Rattle.pack.proofs.EntryRead.{empty-blocks}
 use Rattle.frame.specs.Framed.{Only}
@@ -22,7 +23,7 @@ use Rattle.pack.proofs.KeySame.{same-back, same-through}
 use Rattle.frame.proofs.FramedCompose.{neither, either-decided}
 use Rattle.frame.proofs.FramedStays.{header-framed, entry-framed, empty-framed, right-framed, consistent-framed}
 use Rattle.frame.proofs.ConsistentAlike.{empty-uic, used-uic, alike-used, unlike}
-use Rattle.frame.proofs.FramedHeld.{once-one, once-two}
+use Rattle.frame.proofs.FramedHeld.{once-one, once-two, map-one, map-two}
 
 -- where no other entry in use is like a named one, the rule of two entries holds whichever of them stands first
 differ-named : (Named : ℕ → Type 0) (img : List ℕ) (g : Geometry) → RightHeader img → ((e : ℕ) → e < slots g → Named e → RightEntry img g e)
@@ -69,11 +70,11 @@ module _
 
   -- each block of the entry is counted once, and was its own or nobody's
   pub consistent-one : ((b : ℕ) → count b (blocksAt img′ g x) ≤ 1) → ((b : ℕ) → 0 < count b (blocksAt img′ g x) → (0 < count b (blocksAt img g x)) ⊎ (held img b ≡ 0))
-      → Consistent img′
-  consistent-one single own =
+      → {bit : ℕ → ℕ} → MapSays img′ g bit → ((b : ℕ) → bit b + count b (blocksAt img g x) ≡ marking img g b + count b (blocksAt img′ g x)) → Consistent img′
+  consistent-one single own says moved =
       consistent-framed stated consistent framed (λ e. ℕ-discrete e x) right-x
       (differ-named (Only x) img′ g (header-framed stated consistent framed) right-x unlike-named)
-      (once-one stated consistent framed within single own)
+      (once-one stated consistent framed within single own) (map-one stated consistent framed within says moved)
 
 -- two entries, of which one keeps its name, extension and UIC and the other is emptied
 module _
@@ -113,9 +114,13 @@ module _
       (alike .uic ∙ empty-uic img′ g z (subst (Empty img′ g) (sym is) empty))
 
   -- the first holds no block more often than the two did
-  pub consistent-two : ((b : ℕ) → count b (blocksAt img′ g x) ≤ count b (blocksAt img g x) + count b (blocksAt img g y)) → Consistent img′
-  consistent-two no-more =
+  pub consistent-two : ((b : ℕ) → count b (blocksAt img′ g x) ≤ count b (blocksAt img g x) + count b (blocksAt img g y))
+      → {bit : ℕ → ℕ} → MapSays img′ g bit
+      → ((b : ℕ) → bit b + (count b (blocksAt img g x) + count b (blocksAt img g y)) ≡ marking img g b + (count b (blocksAt img′ g x) + count b (blocksAt img′ g y)))
+      → Consistent img′
+  consistent-two no-more says moved =
       consistent-framed stated consistent framed (either-decided x y) right-two
       (differ-named (Either x y) img′ g (header-framed stated consistent framed) right-two unlike-two)
       (once-two stated consistent framed within within₂ other-two
       (λ b. omega (arith, no-more b, ap (count b) (empty-blocks img′ g y empty), count-nil b)))
+      (map-two stated consistent framed within within₂ other-two says moved)

@@ -10,10 +10,12 @@ use Rattle.pack.specs.Geometry.{geometryOf, slots}
 use Rattle.pack.specs.File.{count}
 use Rattle.pack.specs.Entry.{blocksAt}
 use Rattle.pack.specs.Consistent.{held, Consistent}
+use Rattle.pack.specs.MapSays.{MapSays, marking}
 use Rattle.pack.proofs.ConsistentTotal.{total-has, total-two, total-swap, total-swap-two}
 use Rattle.frame.specs.Framed.{Only, Never, Kept}
 use Rattle.frame.specs.Framing.{Either, Framed}
 use Rattle.frame.proofs.FramedCompose.{neither}
+use Rattle.pack.proofs.MapSays.{says-same}
 use Rattle.frame.proofs.FramedStays.{held-at, stated-framed, blocks-framed}
 
 -- what a file holds is held
@@ -100,6 +102,14 @@ module _
       by (inl before) = omega (arith, held-one b, single b, consistent .once b)
       by (inr free) = omega (arith, held-one b, single b)
 
+  -- the map has a bit for each block that the entry has now and had not, and none for those that it had and has not
+  pub map-one : {bit : ℕ → ℕ} → MapSays img′ g bit → ((b : ℕ) → bit b + count b (blocksAt img g x) ≡ marking img g b + count b (blocksAt img′ g x))
+      → MapSays img′ g (marking img′ g)
+  unfolding marking
+  map-one says moved =
+      says-same says
+      (λ b. omega (arith, moved b, held-one b, held-at img g b stated, held-at img′ g b (stated-framed stated consistent framed)))
+
 -- two entries
 module _
     {Written : ℕ → Type 0}
@@ -122,6 +132,14 @@ module _
             (λ e low high not-x not-y. ap (count b) (blocks-framed stated consistent framed e (omega arith) (neither not-x not-y)))
             (omega arith) (omega arith) (omega arith) (omega arith),
       )
+
+  pub map-two : {bit : ℕ → ℕ} → MapSays img′ g bit
+      → ((b : ℕ) → bit b + (count b (blocksAt img g x) + count b (blocksAt img g y)) ≡ marking img g b + (count b (blocksAt img′ g x) + count b (blocksAt img′ g y)))
+      → MapSays img′ g (marking img′ g)
+  unfolding marking
+  map-two says moved =
+      says-same says
+      (λ b. omega (arith, moved b, held-two b, held-at img g b stated, held-at img′ g b (stated-framed stated consistent framed)))
 
   -- together they hold no block more often than before
   pub once-two : ((b : ℕ) → count b (blocksAt img′ g x) + count b (blocksAt img′ g y) ≤ count b (blocksAt img g x) + count b (blocksAt img g y))

@@ -1,5 +1,5 @@
 -- What stays of a consistent image in which named entries and written blocks may have changed.
-use Prim.Native.Nat.{ℕ, _+_, _*_, _≤_, _<_}
+use Prim.Native.Nat.{ℕ, _+_, _*_, _/_, _%_, _^_, _≤_, _<_}
 use mathlib.Core.Path.{_≡_, refl, sym, ap, subst, _∙_}
 use mathlib.Core.List.{List}
 use mathlib.Core.Logic.{_⊎_, inl, inr, _↔_}
@@ -14,11 +14,15 @@ use Rattle.pack.specs.Header.{uicCount, uicAt, Listed, Measured, RightHeader}
 use Rattle.pack.specs.File.{linkOf, count}
 use Rattle.pack.specs.Entry.{entryWord, entryOf, blocksAt, Empty, RightEntry}
 use Rattle.pack.specs.Key.{keyIn, SameKey}
-use Rattle.pack.specs.Consistent.{heldIn, held, Consistent}
+use Rattle.pack.specs.Map.{HasMap, mapBits, mapBit}
+use Rattle.pack.specs.Consistent.{heldIn, held, MapAgrees, Consistent}
+use Rattle.pack.specs.MapSays.{MapSays, marking}
 use Rattle.pack.proofs.FormBounds.{uics-fit, contents-before}
+use Rattle.frame.specs.Framed.{Kept}
 use Rattle.frame.specs.Framing.{Framed}
-use Rattle.frame.proofs.FramedCompose.{header-kept, entries-kept, block-kept}
-use Rattle.frame.proofs.EntrySame.{link-same, right-bodies, entry-same, empty-same, blocks-same, right-same}
+use Rattle.frame.proofs.FramedCompose.{header-kept, entries-kept, block-kept, block-word-kept}
+use Rattle.pack.proofs.ConsistentHeld.{right-bodies, outside-free, map-iff}
+use Rattle.frame.proofs.EntrySame.{link-same, entry-same, empty-same, blocks-same, right-same}
 
 -- the measures that an image states are those that its header states
 pub geometry-same : (img img′ : List ℕ) → ((w : ℕ) → w < 3 → wordAt img′ w ≡ wordAt img w) → geometryOf img′ ≡ geometryOf img
@@ -57,21 +61,38 @@ record Rules (img : List ℕ) (g : Geometry) : Type 0 where
   entries : (e : ℕ) → e < slots g → RightEntry img g e
   differ : (e f : ℕ) → e < f → f < slots g → (Empty img g e → ⊥) → SameKey (keyIn (entryOf img g e)) (keyIn (entryOf img g f)) → ⊥
   once : (b : ℕ) → heldIn img g b ≤ 1
+  map : MapAgrees img g
 
 rules-of : (img : List ℕ) (g : Geometry) → g ≡ geometryOf img → Consistent img → Rules img g
 unfolding held
 rules-of img g stated consistent =
-    subst (Rules img) (sym stated) (record { entries = consistent .entries; differ = consistent .differ; once = consistent .once })
+    subst (Rules img) (sym stated) (record { entries = consistent .entries; differ = consistent .differ; once = consistent .once; map = consistent .map })
 
 consistent-of : (img : List ℕ) (g : Geometry) → g ≡ geometryOf img → RightHeader img → Rules img g → Consistent img
 unfolding held
 consistent-of img g stated header rules =
     let here : Rules img (geometryOf img) = subst (Rules img) stated rules in
-    record { header = header; entries = here .entries; differ = here .differ; once = here .once }
+    record { header = header; entries = here .entries; differ = here .differ; once = here .once; map = here .map }
 
 pub held-at : (img : List ℕ) (g : Geometry) (b : ℕ) → g ≡ geometryOf img → held img b ≡ heldIn img g b
 unfolding held
 held-at img g b stated = ap (λ (h : Geometry). heldIn img h b) (sym stated)
+
+-- a block of the system is in no file
+pub system-unheld : (img : List ℕ) (g : Geometry) → g ≡ geometryOf img → Consistent img → (b : ℕ) → b < g .bodies .0 → held img b ≡ 0
+system-unheld img g stated consistent b own =
+    held-at img g b stated ∙ outside-free img g (rules-of img g stated consistent .entries) b (λ body. omega (arith, own, body .0))
+
+-- the map, where bodies alone are written, has the bits that it had
+pub says-kept : {Named Written : ℕ → Type 0} {img img′ : List ℕ} {g : Geometry} {bit : ℕ → ℕ} → Kept Named Written img img′ g
+    → ((b : ℕ) → Written b → g .bodies .0 ≤ b) → MapSays img g bit → MapSays img′ g bit
+unfolding mapBit
+says-kept {Named} {Written} {img} {img′} {g} {bit} kept bodies says = record { is = λ there b within. same there b within ∙ says .is there b within }
+  where
+    same : HasMap g → (b : ℕ) → b < mapBits g → mapBit img′ g b ≡ mapBit img g b
+    same there b within =
+        ap (λ (word : ℕ). (word / 2 ^ (b % 16)) % 2)
+        (block-word-kept kept (g .contents + 1) (omega arith) (λ written. omega (arith, there, bodies (g .contents + 1) written)) _ (omega arith, omega (arith, within)))
 
 -- an entry of a consistent image is right, and two in use are not alike
 pub entries-at : (img : List ℕ) (g : Geometry) → g ≡ geometryOf img → Consistent img → (e : ℕ) → e < slots g → RightEntry img g e
@@ -168,7 +189,8 @@ module _
       (named : (e : ℕ) → Dec (Named e))
       (right : (e : ℕ) → e < slots g → Named e → RightEntry img′ g e)
       (differ : (e f : ℕ) → e < f → f < slots g → Named e ⊎ Named f → (Empty img′ g e → ⊥) → SameKey (keyIn (entryOf img′ g e)) (keyIn (entryOf img′ g f)) → ⊥)
-      (once : (b : ℕ) → held img′ b ≤ 1) where
+      (once : (b : ℕ) → held img′ b ≤ 1)
+      (map : MapSays img′ g (marking img′ g)) where
     each-right : (e : ℕ) → e < slots g → RightEntry img′ g e
     each-right e within = by (named e)
       where
@@ -187,7 +209,10 @@ module _
             (subst (λ x. SameKey (keyIn x) (keyIn (entryOf img g f))) (entry-framed e (omega arith) other)
             (subst (λ (x : Entry). SameKey (keyIn (entryOf img′ g e)) (keyIn x)) (entry-framed f within other₂) alike))
 
+    each-once : (b : ℕ) → heldIn img′ g b ≤ 1
+    each-once b = omega (arith, once b, held-at img′ g b stated-framed)
+
     pub consistent-framed : Consistent img′
     consistent-framed =
         consistent-of img′ g stated-framed header-framed
-        (record { entries = each-right; differ = each-differs; once = λ b. omega (arith, once b, held-at img′ g b stated-framed) })
+        (record { entries = each-right; differ = each-differs; once = each-once; map = map-iff img′ g each-right each-once .1 map })

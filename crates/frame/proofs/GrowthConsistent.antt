@@ -11,13 +11,14 @@ use Rattle.pack.specs.File.{linkOf, count}
 use Rattle.pack.specs.Entry.{entryOf, blocksAt, RightEntry}
 use Rattle.pack.specs.Consistent.{held, Consistent}
 use Rattle.pack.specs.Owner.{FreeBlock}
+use Rattle.pack.proofs.EntryRead.{empty-blocks}
 use Rattle.pack.proofs.FileCount.{count-nil, count-same, count-other, count-append}
 use Rattle.frame.specs.Framed.{Only}
 use Rattle.frame.specs.Framing.{Either, Framed}
 use Rattle.frame.specs.Framing.Distinct.{known}
 use Rattle.frame.specs.Growth.{EndedChain, Grown, Joined}
-use Rattle.frame.proofs.EntrySame.{right-bodies}
-use Rattle.frame.proofs.FramedStays.{entries-at, listed-framed}
+use Rattle.pack.proofs.ConsistentHeld.{right-bodies, consistent-says}
+use Rattle.frame.proofs.FramedStays.{entries-at, listed-framed, system-unheld, says-kept}
 use Rattle.frame.proofs.FramedHeld.{held-once, held-none, framed-one, framed-two}
 use Rattle.frame.proofs.FramedConsistent.{consistent-one, consistent-two}
 use Rattle.frame.proofs.GrowthChain.{ended-first, ended-end, ended-same, ended-one, ended-join}
@@ -41,9 +42,10 @@ module _
   pub grown-framed : Framed (Only x) Written img img′ g
   grown-framed = framed-one stated consistent (grown .kept) within (λ z written. by z (grown .own z written))
     where
-      by : (z : ℕ) → (z ≡ b) ⊎ (0 < count z (blocksAt img g x)) → (0 < count z (blocksAt img g x)) ⊎ (held img z ≡ 0)
+      by : (z : ℕ) → (z ≡ b) ⊎ ((0 < count z (blocksAt img g x)) ⊎ (z < g .bodies .0)) → (0 < count z (blocksAt img g x)) ⊎ (held img z ≡ 0)
       by z (inl is) = inr (ap (held img) is ∙ free .nobody)
-      by z (inr some) = inl some
+      by z (inr (inl some)) = inl some
+      by z (inr (inr own)) = inr (system-unheld img g stated consistent z own)
 
   walked-grown : EndedChain (linkOf img′ g) (entryOf img′ g x .first .0) (entryOf img′ g x .length) (entryOf img′ g x .last .0) (blocksAt img g x ++ (b ∷ []))
   walked-grown =
@@ -75,7 +77,7 @@ module _
 
   pub grown-consistent : Consistent img′
   grown-consistent = consistent-one stated consistent grown-framed within grown-right (known (resized-alike (grown .resized))) (λ z. single z (ℕ-discrete z b))
-      (λ z some. own z some (ℕ-discrete z b))
+      (λ z some. own z some (ℕ-discrete z b)) (grown .map) (λ z. omega (arith, count-grown z))
     where
       single : (z : ℕ) → Dec (z ≡ b) → count z (blocksAt img′ g x) ≤ 1
       single z (yes is) = omega (arith, count-grown z, count-same z b [] is, count-nil z, not-held, ap (λ (i : ℕ). count i (blocksAt img g x)) is)
@@ -153,4 +155,12 @@ module _
   pub joined-consistent : Consistent img′
   joined-consistent =
       consistent-two stated consistent joined-framed within within₂ other joined-right (resized-alike (joined .resized)) (joined .emptied)
-      (λ z. omega (arith, count-joined z))
+      (λ z. omega (arith, count-joined z)) (says-kept (joined .kept) written-bodies (consistent-says img g stated consistent))
+      (λ z. omega (arith, count-joined z, ap (count z) (empty-blocks img′ g y (joined .emptied)), count-nil z))
+    where
+      written-bodies : (z : ℕ) → Written z → g .bodies .0 ≤ z
+      written-bodies z written = by (joined .own z written)
+        where
+          by : (0 < count z (blocksAt img g x)) ⊎ (0 < count z (blocksAt img g y)) → g .bodies .0 ≤ z
+          by (inl some) = right-bodies img g x z right-first some .0
+          by (inr some) = right-bodies img g y z right-second some .0

@@ -11,6 +11,7 @@ pub mod Described
 pub mod UntouchedFramed
 pub mod OwnerFramed
 pub mod FramedWritten
+pub mod FramedMap
 pub mod GrowthChain
 pub mod GrowthResized
 pub mod GrowthConsistent

@@ -5,6 +5,7 @@ use mathlib.Core.List.{List}
 use lib.ListN.{length, getD}
 use Rattle.pack.specs.declared.Geometry.{Geometry}
 use Rattle.pack.specs.Geometry.{blockWords, blockAt, slots, entryAt}
+use Rattle.pack.specs.Map.{HasMap, mapAt}
 
 -- Nothing changes but the words that may: the length is the same, and so is each byte of any other word; byte k is of word k / 2.
 pub record ChangesOnly (May : ℕ → Type 0) (img img′ : List ℕ) : Type 0 where
@@ -27,6 +28,13 @@ Only x e = e ≡ x
 
 abbrev pub Never : ℕ → Type 0
 Never e = ⊥
+
+-- the map's block, where there is one; the word that has the bit of block b
+abbrev pub OnMap : Geometry → ℕ → Type 0
+OnMap g z = HasMap g × (z ≡ g .contents + 1)
+
+abbrev pub MapWord : Geometry → ℕ → ℕ → Type 0
+MapWord g b w = HasMap g × (w ≡ mapAt g + b / 16)
 
 -- the words of the named entries and of the written blocks; a written block is a body, or one of the system behind the contents, where a form has one
 pub data Within (Named Written : ℕ → Type 0) (g : Geometry) (w : ℕ) : Type 0 where

@@ -2,11 +2,12 @@
 -- whatever the order in which they were written.
 use Prim.Native.Nat.{ℕ, _+_, _<_}
 use mathlib.Core.Path.{_≡_}
-use mathlib.Core.List.{List}
+use mathlib.Core.List.{List, [], _∷_}
 use mathlib.Core.Logic.{_⊎_}
 use Rattle.pack.specs.declared.Geometry.{Geometry}
 use Rattle.pack.specs.File.{linkOf, chain, after, lastOf, count}
 use Rattle.pack.specs.Entry.{entryWord, entryOf, blocksAt, Empty}
+use Rattle.pack.specs.MapSays.{MapSays, marking}
 use Rattle.frame.specs.Framed.{Only, Kept}
 use Rattle.frame.specs.Framing.{Either}
 
@@ -23,8 +24,8 @@ pub record Resized (img img′ : List ℕ) (g : Geometry) (e : ℕ) : Type 0 whe
 -- block b is joined at the end of the file of entry x
 pub record Grown (Written : ℕ → Type 0) (img img′ : List ℕ) (g : Geometry) (x b : ℕ) : Type 0 where
   pub kept : Kept (Only x) Written img img′ g
-  -- written are the block and blocks of the file alone
-  pub own : (z : ℕ) → Written z → (z ≡ b) ⊎ (0 < count z (blocksAt img g x))
+  -- written are the block, blocks of the file and blocks of the system alone
+  pub own : (z : ℕ) → Written z → (z ≡ b) ⊎ ((0 < count z (blocksAt img g x)) ⊎ (z < g .bodies .0))
   pub resized : Resized img img′ g x
   pub size : entryOf img′ g x .length ≡ entryOf img g x .length + 1
   pub first : 0 < entryOf img g x .length → entryOf img′ g x .first .0 ≡ entryOf img g x .first .0
@@ -33,6 +34,8 @@ pub record Grown (Written : ℕ → Type 0) (img img′ : List ℕ) (g : Geometr
   pub links : (z : ℕ) → 0 < count z (blocksAt img g x) → (z ≡ entryOf img g x .last .0 → ⊥) → linkOf img′ g z ≡ linkOf img g z
   pub joint : 0 < entryOf img g x .length → linkOf img′ g (entryOf img g x .last .0) ≡ b
   pub end : linkOf img′ g b ≡ 0
+  -- and the map has its bit
+  pub map : MapSays img′ g (λ z. marking img g z + count z (b ∷ []))
 
 -- the chain of entry y is joined to that of entry x, and entry y is emptied; either may have no block
 pub record Joined (Written : ℕ → Type 0) (img img′ : List ℕ) (g : Geometry) (x y : ℕ) : Type 0 where

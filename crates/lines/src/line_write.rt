@@ -177,6 +177,10 @@ pub fn line_write(
         let mut map = [0u8; consistency::FEW_BLOCKS];
         return line_write_lent(img, &mut map, key, caller, mode, text, gather, filled);
     }
+    if img.len() <= consistency::MANY_BYTES {
+        let mut map = [0u8; consistency::MANY_BLOCKS];
+        return line_write_lent(img, &mut map, key, caller, mode, text, gather, filled);
+    }
     let mut map = [0u8; pack::MOST_BLOCKS];
     line_write_lent(img, &mut map, key, caller, mode, text, gather, filled)
 }
@@ -303,6 +307,10 @@ pub fn line_end(img: &mut [u8], key: Key, caller: usize, gather: &mut [u8], fill
 {
     if img.len() <= consistency::FEW_BYTES {
         let mut map = [0u8; consistency::FEW_BLOCKS];
+        return line_end_lent(img, &mut map, key, caller, gather, filled);
+    }
+    if img.len() <= consistency::MANY_BYTES {
+        let mut map = [0u8; consistency::MANY_BLOCKS];
         return line_end_lent(img, &mut map, key, caller, gather, filled);
     }
     let mut map = [0u8; pack::MOST_BLOCKS];

@@ -138,7 +138,7 @@ module _ {img img′ : List ℕ} {key : Key} {g : Geometry} {e writer readers : 
         opens = rules .opens;
       } in
       consistent-described (c .measures) (c .right) opens-framed (c .inside) (c .used) opens-described
-      (subst (Description img′) (sym opens-entry) says) (known opens-key)
+      (subst (Description img′) (sym opens-entry) says) (known opens-key) (λ b never. absurd never)
 
   -- the file of the key is that entry
   opens-file : Consistent img′ → fileOf img′ key ≡ withOpens (entryOf img g e) writer readers

@@ -3,9 +3,10 @@ use Prim.Native.Nat.{ℕ, suc, zero, _+_, _≤_, _<_}
 use mathlib.Core.Path.{_≡_, refl, sym}
 use mathlib.Core.List.{List, [], _∷_, _++_}
 use native.Mathlib.Omega.{arith}
+use lib.Dec.{eqb}
 use lib.ListN.{length, getD}
 use borrow.Author.Tests.{eq-eqb, ne-eqb}
-use Rattle.pack.specs.File.{count}
+use Rattle.pack.specs.File.{one, count}
 
 pub count-nil : (b : ℕ) → count b [] ≡ 0
 unfolding count
@@ -18,6 +19,10 @@ count-same b x xs is = simp (eq-eqb b x is)
 pub count-other : (b x : ℕ) (xs : List ℕ) → (b ≡ x → ⊥) → count b (x ∷ xs) ≡ count b xs
 unfolding count
 count-other b x xs other = simp (ne-eqb b x other) (omega arith)
+
+pub count-one : (z b : ℕ) → count z (b ∷ []) ≡ one (eqb z b)
+unfolding count
+count-one z b = omega arith
 
 pub count-append : (b : ℕ) (xs ys : List ℕ) → count b (xs ++ ys) ≡ count b xs + count b ys
 unfolding count

@@ -50,4 +50,4 @@ module _ {img : List ℕ} {g : Geometry} (s : Sized img g) where
 
 -- the measures hold of an image of the same length
 pub sized-same : {img img′ : List ℕ} {g : Geometry} → Sized img g → length img′ ≡ length img → Sized img′ g
-sized-same s same = record { long = same ∙ s .long; some = s .some; few = s .few; contents = s .contents; bodies = s .bodies; most = s .most }
+sized-same s same = record { long = same ∙ s .long; some = s .some; few = s .few; contents = s .contents; bodies = s .bodies; most = s .most; map = s .map }

@@ -9,7 +9,7 @@ use Rattle.pack.specs.GeometrySized.{mostContents, Sized, mostEntries}
 use Rattle.pack.specs.Form.{segmentsOf, leastBlocks}
 use Rattle.pack.specs.Geometry.{geometryOf, slots}
 use Rattle.pack.specs.Header.{uicCount, RightHeader}
-use Rattle.pack.proofs.FormBounds.{segments-few, blocks-most, contents-most, contents-before, uics-fit}
+use Rattle.pack.proofs.FormBounds.{segments-few, blocks-most, contents-most, contents-before, uics-fit, map-fits}
 
 -- what a right header gives
 pub header-sized : (img : List ℕ) → RightHeader img → Sized img (geometryOf img)
@@ -22,6 +22,7 @@ header-sized img h =
       contents = contents-before (wordAt img 0) (wordAt img 2);
       bodies = h .measured .room;
       most = omega (arith, h .measured .blocksMost, blocks-most (wordAt img 0));
+      map = omega (arith, h .measured .blocksMost, map-fits (wordAt img 0) (h .measured .known));
     }
 
 -- its entries are at most those of any form

@@ -1,4 +1,4 @@
--- The laws of the pack: its forms, measures and header, its files, keys and entries, and the entries' words that are written.
+-- The laws of the pack: its forms, measures and header, its files, keys and entries, the entries' words that are written, and the free map.
 pub mod FormBounds
 pub mod GeometryRoom
 pub mod HeaderTestWords
@@ -11,3 +11,7 @@ pub mod KeySame
 pub mod EntryRead
 pub mod EntryWordsWritten
 pub mod ConsistentTotal
+pub mod MapBits
+pub mod MapSet
+pub mod MapSays
+pub mod ConsistentHeld

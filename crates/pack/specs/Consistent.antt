@@ -1,10 +1,13 @@
 -- A consistent image.
 use Prim.Native.Nat.{ℕ, suc, zero, _+_, _≤_, _<_}
+use mathlib.Core.Path.{_≡_}
 use mathlib.Core.List.{List}
+use mathlib.Core.Logic.{_⊎_, _↔_}
 use Rattle.pack.specs.declared.Geometry.{Geometry}
 use Rattle.pack.specs.Geometry.{geometryOf, slots}
 use Rattle.pack.specs.Header.{RightHeader}
 use Rattle.pack.specs.File.{count}
+use Rattle.pack.specs.Map.{HasMap, mapBits, mapBit}
 use Rattle.pack.specs.Entry.{entryOf, blocksAt, Empty, RightEntry}
 use Rattle.pack.specs.Key.{keyIn, SameKey}
 
@@ -21,6 +24,11 @@ heldIn img g b = total (λ e. count b (blocksAt img g e)) 0 (slots g)
 unfoldable pub held : List ℕ → ℕ → ℕ
 held img b = heldIn img (geometryOf img) b
 
+-- 02 §7: "block b is bit b mod 16 of word b / 16, 1 if system or held, 0 otherwise and for b from n up": by the rules of header and entries
+-- no block from n up is the system's or held
+pub record MapAgrees (img : List ℕ) (g : Geometry) : Type 0 where
+  pub bit : HasMap g → (b : ℕ) → b < mapBits g → (mapBit img g b ≡ 1) ↔ ((b < g .bodies .0) ⊎ (0 < heldIn img g b))
+
 pub record Consistent (img : List ℕ) : Type 0 where
   -- "Consistent: the image is 512n bytes; all the above holds" of block 0;
   pub header : RightHeader img
@@ -31,3 +39,5 @@ pub record Consistent (img : List ℕ) : Type 0 where
       → SameKey (keyIn (entryOf img (geometryOf img) e)) (keyIn (entryOf img (geometryOf img) f)) → ⊥
   -- "no block is held twice;"
   pub once : (b : ℕ) → held img b ≤ 1
+  -- 02 §7: "Consistent now includes that the map agrees, checked last"
+  pub map : MapAgrees img (geometryOf img)

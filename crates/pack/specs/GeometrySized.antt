@@ -4,11 +4,11 @@ use mathlib.Core.Path.{_≡_}
 use mathlib.Core.List.{List}
 use lib.ListN.{length}
 use Rattle.pack.specs.declared.Geometry.{Geometry}
-use Rattle.pack.specs.Geometry.{blockBytes}
+use Rattle.pack.specs.Geometry.{blockWords, blockBytes}
 
 -- the most blocks, the most segments in a block and the most blocks of contents of any form
 abbrev pub mostBlocks : ℕ
-mostBlocks = 1024
+mostBlocks = 4096
 
 abbrev pub mostSegments : ℕ
 mostSegments = 4
@@ -27,3 +27,5 @@ pub record Sized (img : List ℕ) (g : Geometry) : Type 0 where
   pub contents : g .contents < g .bodies .0
   pub bodies : g .bodies .0 < g .blocks
   pub most : g .blocks ≤ mostBlocks
+  -- a block has a bit for each block of the pack: so one block can be its map
+  pub map : g .blocks ≤ 16 * blockWords g

@@ -24,13 +24,13 @@ pub record Listed (img : List ℕ) (uic : ℕ) : Type 0 where
 pub record Measured (long form blocks contents uics : ℕ) : Type 0 where
   -- "Block 0: word 0 is 1;", or a form of document 02: which are known says `form-known` (proofs/FormBounds.antt)
   pub known : 0 < segmentsOf form
-  -- "word 1 is n, the blocks in all, 16 to 1024;"
+  -- "word 1 is n, the blocks in all, 16 to 1024;", in form 2 to 4096
   pub blocksLeast : leastBlocks ≤ blocks
   pub blocksMost : blocks ≤ mostBlocksOf form
-  -- "word 2 is c, 1 to 8;"
+  -- "word 2 is c, 1 to 8;", in forms 2 and 3 to 32
   pub contentsLeast : leastContents ≤ contents
   pub contentsMost : contents ≤ mostContentsOf form
-  -- there is a body: in form 1 by the bounds of n and c; form 3: "with c + 1 below n"
+  -- there is a body: in form 1 by the bounds of n and c; form 2: "with c + 2 below n"; form 3: "with c + 1 below n"
   pub room : bodiesOf form contents < blocks
   -- "word 3 is u, 0 to 64;"
   pub uicsMost : uics ≤ mostUicsOf form

@@ -10,6 +10,8 @@ pub mod Key
 pub mod Entry
 pub mod EntryFields
 pub mod EntryWords
+pub mod Map
 pub mod Consistent
+pub mod MapSays
 pub mod Owner
 pub mod Untouched

@@ -11,6 +11,9 @@ pub fn segments_of(form: usize) -> Segments
     if form == 1 {
         return Segments(4);
     }
+    if form == 2 {
+        return Segments(4);
+    }
     if form == 3 {
         return Segments(1);
     }
@@ -20,16 +23,19 @@ pub fn segments_of(form: usize) -> Segments
 pub fn most_blocks(form: usize) -> usize
     ensures { λ r. ⌜ r ≡ mostBlocksOf form ⌝ }
 {
+    if form == 2 {
+        return 4096;
+    }
     1024
 }
 
 pub fn most_contents(form: usize) -> usize
     ensures { λ r. ⌜ r ≡ mostContentsOf form ⌝ }
 {
-    if form == 3 {
-        return 32;
+    if form == 1 {
+        return 8;
     }
-    8
+    32
 }
 
 pub fn most_uics(form: usize) -> usize
@@ -45,5 +51,8 @@ pub fn bodies_of(form: usize, contents: usize) -> BlockNo
     requires { ⌜ contents ≤ mostContentsOf form ⌝ }
     ensures { λ r. ⌜ r .0 ≡ bodiesOf form contents ⌝ }
 {
+    if form == 2 {
+        return BlockNo(contents + 2);
+    }
     BlockNo(contents + 1)
 }

@@ -1,8 +1,9 @@
-// The pack image: its units, its measures, its header and its entries. What a form decides, how block 0 and the entries are read, and how
-// entries are written, has a file each.
+// The pack image: its units, its measures, its header and its entries. What a form decides, how block 0 and the entries are read, how
+// entries are written and how the free map is, has a file each.
 mod entries;
 mod forms;
 mod headers;
+mod maps;
 mod writing;
 
 pub use entries::entry_word;
@@ -23,6 +24,8 @@ pub use headers::is_listed;
 pub use headers::is_measured;
 pub use headers::is_stretch_zero;
 pub use headers::read_header;
+pub use maps::has_map;
+pub use maps::set_bit;
 pub use writing::clear_entry;
 pub use writing::set_entry_word;
 pub use writing::write_entry;
@@ -58,7 +61,7 @@ pub struct BlockNo(pub usize);
 pub struct Place(pub usize);
 
 // The most blocks that a pack of any form has.
-pub const MOST_BLOCKS: usize = 1024;
+pub const MOST_BLOCKS: usize = 4096;
 
 // The most blocks of contents, segments in a block, and entries that a pack of any form has.
 pub const MOST_CONTENTS: usize = 32;

@@ -91,7 +91,7 @@ module _ {img : List ℕ} (described : ExamplePack img) where
 
   bodies : geometryOf img .bodies .0 ≡ 2
   unfolding geometryOf bodiesOf
-  bodies = omega (arith, described .contents)
+  bodies = omega (arith, described .contents, ap (λ (form : ℕ). bodiesOf form 0) (described .form))
 
   free : freeCount img ≡ 11
   free = omega (arith, sum-of-blocks (described .right), lengths, blocks, bodies)

@@ -29,9 +29,11 @@ module _ (rule : ℕ) where
   unfolding ruleName
   put-rule-other one two four five-th put = rw (ne-eqb rule 1 one, ne-eqb rule 2 two, ne-eqb rule 4 four, ne-eqb rule 5 five-th) put
 
-  pub put-chain-none : {s : List ℕ} {i : ℕ} → (rule ≡ 6 → ⊥) → (rule ≡ 7 → ⊥) → (rule ≡ 8 → ⊥) → (rule ≡ 9 → ⊥) → Put s s i i (chainRuleName rule)
+  pub put-chain-none : {s : List ℕ} {i : ℕ} → (rule ≡ 6 → ⊥) → (rule ≡ 7 → ⊥) → (rule ≡ 8 → ⊥) → (rule ≡ 9 → ⊥) → (rule ≡ 10 → ⊥)
+      → Put s s i i (chainRuleName rule)
   unfolding chainRuleName
-  put-chain-none {s} {i} six seven eight nine = rw (ne-eqb rule 6 six, ne-eqb rule 7 seven, ne-eqb rule 8 eight, ne-eqb rule 9 nine) (put-nothing s i)
+  put-chain-none {s} {i} six seven eight nine ten =
+      rw (ne-eqb rule 6 six, ne-eqb rule 7 seven, ne-eqb rule 8 eight, ne-eqb rule 9 nine, ne-eqb rule 10 ten) (put-nothing s i)
 
 -- a number that the rule names, or does not
 module _ (named : Bool) (what : List ℕ) (number : ℕ) where
@@ -89,3 +91,7 @@ shown-name = refl
 pub shown-link : reportText (record { rule = 6; entry = 3; word = 0; block = 12 }) ≡ bytes "FAULT LINK ENTRY 00003 BLOCK 00012" ++ newline
 unfolding reportText faultLine ruleName chainRuleName member
 shown-link = refl
+
+pub shown-map : reportText (record { rule = 10; entry = 0; word = 0; block = 17 }) ≡ bytes "FAULT MAP BLOCK 00017" ++ newline
+unfolding reportText faultLine ruleName chainRuleName member
+shown-map = refl

@@ -12,7 +12,9 @@ use Rattle.printing.specs.Listing.{newline, five, longest, refusedLine}
 -- the name of a rule behind a blank: of those that name a block, and of the others, of which rule 3 has none
 unfoldable pub chainRuleName : ℕ → List ℕ
 chainRuleName rule =
-    cond (eqb rule 6) (bytes " LINK") (cond (eqb rule 7) (bytes " LOOP") (cond (eqb rule 8) (bytes " END") (cond (eqb rule 9) (bytes " SHARED") [])))
+    cond (eqb rule 6) (bytes " LINK")
+    (cond (eqb rule 7) (bytes " LOOP")
+    (cond (eqb rule 8) (bytes " END") (cond (eqb rule 9) (bytes " SHARED") (cond (eqb rule 10) (bytes " MAP") []))))
 
 unfoldable pub ruleName : ℕ → List ℕ
 ruleName rule =
@@ -23,13 +25,13 @@ ruleName rule =
 unfoldable pub member : Bool → List ℕ → ℕ → List ℕ
 member named what number = cond named (what ++ five number) []
 
--- an entry from rule 3 on; a word by rules 2 to 5; a block from rule 6 on
--- FAULT SIZE; FAULT HEADER WORD 00003; FAULT ENTRY 00012 WORD 00004; FAULT NAME ENTRY 00007 WORD 00003; FAULT LINK ENTRY 00003 BLOCK 00012
+-- an entry by rules 3 to 9; a word by rules 2 to 5; a block from rule 6 on
+-- FAULT SIZE; FAULT HEADER WORD 00003; FAULT ENTRY 00012 WORD 00004; FAULT NAME ENTRY 00007 WORD 00003; FAULT LINK ENTRY 00003 BLOCK 00012; FAULT MAP BLOCK 00017
 unfoldable pub faultLine : ReportAnswer → List ℕ
 faultLine answer =
     bytes "FAULT"
     ++ (ruleName (answer .rule)
-    ++ (member (leb 3 (answer .rule)) (bytes " ENTRY ") (answer .entry)
+    ++ (member (leb 3 (answer .rule) && leb (answer .rule) 9) (bytes " ENTRY ") (answer .entry)
     ++ (member (leb 2 (answer .rule) && leb (answer .rule) 5) (bytes " WORD ") (answer .word)
     ++ (member (leb 6 (answer .rule)) (bytes " BLOCK ") (answer .block) ++ newline))))
 

@@ -204,6 +204,6 @@ pub fn print_listing(img: &[u8], out: &mut [u8]) -> usize
         let mut map = [0u8; consistency::FEW_BLOCKS];
         return print_lent(img, &mut map, out);
     }
-    let mut map = [0u8; pack::MOST_BLOCKS];
+    let mut map = [0u8; consistency::MANY_BLOCKS];
     print_lent(img, &mut map, out)
 }

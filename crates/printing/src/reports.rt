@@ -47,6 +47,9 @@ fn put_chain_rule(out: &mut [u8], at: usize, rule: usize) -> usize
     if rule == 9 {
         return crate::put_bytes(out, at, b" SHARED");
     }
+    if rule == 10 {
+        return crate::put_bytes(out, at, b" MAP");
+    }
     at
 }
 
@@ -70,7 +73,7 @@ fn put_fault(out: &mut [u8], at: usize, answer: ReportAnswer) -> usize
     let rule = answer.rule;
     let at = crate::put_bytes(out, at, b"FAULT");
     let at = put_rule(out, at, rule);
-    let at = put_member(out, at, 3 <= rule, b" ENTRY ", answer.entry);
+    let at = put_member(out, at, (3 <= rule) & (rule <= 9), b" ENTRY ", answer.entry);
     let at = put_member(out, at, (2 <= rule) & (rule <= 5), b" WORD ", answer.word);
     let at = put_member(out, at, 6 <= rule, b" BLOCK ", answer.block);
     crate::put_bytes(out, at, b"\n")

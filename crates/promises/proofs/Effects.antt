@@ -1,6 +1,12 @@
 -- 2.1: what each request changes on success, said of entries, blocks and bytes; of all else `nothing-else` (Main.antt) says that it stays. In the order of the paper.
 -- Format: an empty pack
 pub use Rattle.creation.proofs.FormatRows.{format-done}
+-- document 02 §7, the map: right to its last bit after Format; ALLOC makes the bits of its run 1, linked add that of its block, DELET those of the file's blocks 0,
+-- and each leaves every other bit (of lines and Finish `map-agrees`, Main.antt, says it of the image that they leave)
+pub use Rattle.creation.proofs.FormatEffect.{format-map}
+pub use Rattle.creation.proofs.AllocEffect.{alloc-bits}
+pub use Rattle.adding.proofs.LinkedAddEffect.{linked-add-bits}
+pub use Rattle.directory.proofs.DeletEffect.{delet-bits}
 -- ALLOC: the free run with the highest start, the lowest empty entry and every field of it; document 02 §2: every byte of the run is 0; OPENO
 pub use Rattle.creation.proofs.AllocEffect.{alloc-made, alloc-cleared}
 pub use Rattle.room.proofs.RoomHighest.{run-highest}

@@ -24,7 +24,8 @@ use Rattle.pack.specs.Form.{bodiesOf}
 use Rattle.pack.specs.Geometry.{geometryOf, slots, blockBytes, payloadBytes}
 use Rattle.pack.specs.Header.{Measured}
 use Rattle.pack.specs.Entry.{entryOf}
-use Rattle.pack.specs.Consistent.{Consistent}
+use Rattle.pack.specs.Map.{HasMap}
+use Rattle.pack.specs.Consistent.{held, Consistent}
 use Rattle.pack.specs.Owner.{ownerOf, HeldAt, FreeBlock, storedLengths, freeCount}
 use Rattle.pack.specs.Key.{keyIn, SameKey}
 use Rattle.pack.specs.Untouched.{Untouched}
@@ -45,12 +46,13 @@ use Rattle.owners.proofs.OneOwner.{one-owner}
 use Rattle.owners.proofs.OwnerSum.{sum-of-blocks}
 use Rattle.owners.proofs.OwnerQuestionEffect.{says-system, says-free, says-held}
 use Rattle.creation.specs.Formattable.{Formattable}
-use Rattle.creation.specs.Format.{formatted}
+use Rattle.creation.specs.Format.{measuresOf, formatted}
 use Rattle.creation.specs.Rounding.{lengthFor}
 use Rattle.creation.specs.Alloc.{alloc}
 use Rattle.room.specs.Room.{FreeRun}
 use Rattle.creation.proofs.FormatRows.{format-iff}
-use Rattle.creation.proofs.FormatEffect.{format-consistent, format-free}
+use Rattle.creation.proofs.FormatBytes.{word-form}
+use Rattle.creation.proofs.FormatEffect.{format-consistent, format-geometry, format-free}
 use Rattle.transfer.specs.Block.{blockIn}
 use Rattle.finishing.specs.Finish.{ScratchFrom, deletedAll, EachDeleted, finish}
 use Rattle.finishing.specs.ScratchTest.{scratchKeys}
@@ -87,7 +89,7 @@ use Rattle.requests.proofs.RequestUntouched
 use Rattle.requests.proofs.ContractSingle
 use Rattle.requests.specs.Changes.{MayChange}
 use Rattle.requests.proofs.Changes
-use Rattle.promises.specs.Measures.{DocumentHeader, DocumentMeasures}
+use Rattle.promises.specs.Measures.{DocumentHeader, SystemBlocks, bitInMap, DocumentMeasures}
 use Rattle.promises.specs.GivenWhen.{GivesCode, InTableOrder}
 use Rattle.promises.specs.Codes.{CreatingCases, AddingCases, OtherPayload, OtherGather, NoLineMode, fullBlocks, casesOf}
 use Rattle.promises.specs.CommandCodes.{Csi1Cases, Csi2Cases}
@@ -271,10 +273,16 @@ pub finish-again : (img : List ℕ) (caller : ℕ) → finish img caller .code �
     → finish (finish img caller .image) caller ≡ record { code = 0; numbers = 0 ∷ []; image = finish img caller .image; buffer = [] }
 finish-again = FinishEffect.finish-again
 
--- Format makes a consistent pack of any image, whose bodies are all free
+-- Format makes a consistent pack of any image, of the form, n and c that it is told (02 §7: "Format is told the form."), whose bodies are all free
 module _ (image : List ℕ) (form blocks contents : ℕ) (uics : List ℕ) (right : Formattable (length image) form blocks contents uics) where
   pub format-makes : Consistent (formatted image form blocks contents uics)
   format-makes = format-consistent image form blocks contents uics (format-iff (length image) form blocks contents uics .1 right)
+
+  pub format-stated : geometryOf (formatted image form blocks contents uics) ≡ measuresOf form blocks contents
+  format-stated = format-geometry image form blocks contents uics (format-iff (length image) form blocks contents uics .1 right)
+
+  pub format-form : wordAt (formatted image form blocks contents uics) 0 ≡ form
+  format-form = word-form image form blocks contents uics right
 
   pub format-frees : (b : ℕ) → bodiesOf form contents ≤ b → b < blocks
       → FreeBlock (formatted image form blocks contents uics) b × (ownerOf (formatted image form blocks contents uics) b ≡ Free)
@@ -284,15 +292,33 @@ module _ (image : List ℕ) (form blocks contents : ℕ) (uics : List ℕ) (righ
 pub stays-consistent : (r : Request) {img : List ℕ} → Consistent img → Consistent (outcome r img .image)
 stays-consistent = RequestConsistent.stays-consistent
 
--- any image is judged, exactly as document 01 says
+-- any image is judged, exactly as document 01 says, and 02 in §7 and §11
 pub judged : (img : List ℕ) → consistent img ≡ true ↔ Consistent img
 judged = consistent-iff
 
 -- in the papers' numbers, a row for each form: in form 1 blocks of 512 bytes, n from 16 to 1024, c from 1 to 8, at most 64 UICs, 16c entries, payloads of
--- 510 bytes; in form 3 (02 §11) blocks of 128 bytes, c to 32 and c + 1 below n, at most 60 UICs, 4c entries, payloads of 126 bytes. All else is said once,
+-- 510 bytes; in form 2 (02 §7) n to 4096, c to 32 and c + 2 below n, else as form 1; in form 3 (02 §11)
+-- blocks of 128 bytes, c to 32 and c + 1 below n, at most 60 UICs, 4c entries, payloads of 126 bytes. All else is said once,
 -- over the segments in a block
 pub document-measures : {img : List ℕ} → Consistent img → DocumentMeasures img
 document-measures = Measures.document-measures
+
+-- 02 §7: "In form 2, word 0 is 2, and block c + 1 is a map: block b is bit b mod 16 of word b / 16, 1 if system or held, 0 otherwise and for b from n up."
+module _ {img : List ℕ} (right : Consistent img) (form : wordAt img 0 ≡ 2) (b : ℕ) where
+  pub map-agrees : b < 4096 → (bitInMap img b ≡ 1) ↔ ((b < wordAt img 2 + 2) ⊎ (0 < held img b))
+  map-agrees = Measures.map-words right form b
+
+  pub map-beyond : wordAt img 1 ≤ b → b < 4096 → bitInMap img b ≡ 0
+  map-beyond = Measures.map-beyond right form b
+
+  -- "ALLOC and linked add choose the same blocks as a walk would": what they choose is said of the files (`run-highest`, `linked-add-highest`, Effects.antt), and what
+  -- the files leave free the map has as free
+  pub map-free : b < wordAt img 1 → FreeBlock img b ↔ (bitInMap img b ≡ 0)
+  map-free = Measures.map-free right form b
+
+-- no other form has a map: of any image, consistent or not, where `HasMap` is asked elsewhere
+pub map-form : (img : List ℕ) → HasMap (geometryOf img) ↔ (wordAt img 0 ≡ 2)
+map-form = Measures.map-form
 
 pub block-owned : {img : List ℕ} → Consistent img → (b : ℕ) → b < geometryOf img .blocks → OneOwner img b (ownerOf img b)
 block-owned right b below = one-owner right b
@@ -308,12 +334,13 @@ module _ {img : List ℕ} (right : Consistent img) (b : ℕ) (below : b < geomet
   pub shown-held : (e p : ℕ) → owner img b .numbers ≡ 2 ∷ (e ∷ (p ∷ [])) ↔ HeldAt img e p b
   shown-held = says-held right b below
 
--- "So c + 1, the stored lengths and the free blocks counted one by one add to n."
-pub blocks-summed : {img : List ℕ} → Consistent img → wordAt img 2 + 1 + storedLengths img + freeCount img ≡ wordAt img 1
+-- "So c + 1, the stored lengths and the free blocks counted one by one add to n."; in form 2 c + 2
+pub blocks-summed : {img : List ℕ} → Consistent img
+    → (system : ℕ) × (SystemBlocks (wordAt img 2) (wordAt img 0) system × (system + storedLengths img + freeCount img ≡ wordAt img 1))
 unfolding storedLengths
-blocks-summed right =
+blocks-summed {img} right =
     let m = document-measures right in
-    omega (arith, sum-of-blocks right, m .bodies, m .blocks)
+    (geometryOf img .bodies .0, (m .bodies, omega (arith, sum-of-blocks right, m .blocks)))
 
 -- 2.3 "A request for room with nothing else against it is refused exactly if no such room is free."
 module _ (img : List ℕ) (key : Key) (caller protect segments : ℕ) (clear : GivesCode (CreatingCases img key caller protect (segments ≡ 0)) 0) where

@@ -1,26 +1,22 @@
 -- The requests that write more than entries change no other word: Format, ALLOC, APPND and BLOCK output.
-use Prim.Native.Nat.{ℕ, _+_, _*_, _-_, _≤_}
+use Prim.Native.Nat.{ℕ, _+_, _-_, _≤_}
 use mathlib.Core.Path.{_≡_, refl, sym, ap, _∙_}
 use mathlib.Core.Logic.{inl, inr}
 use mathlib.Core.List.{List, []}
 use native.Mathlib.Omega.{arith}
 use lib.Dec.{eqb}
-use lib.ListN.{length, getD, drop, replicate, length-replicate}
+use lib.ListN.{length, getD, drop}
 use lib.Seq.{getD-drop}
 use Rattle.pack.specs.declared.Key.{Key}
-use Rattle.pack.specs.Geometry.{geometryOf, blockBytes}
+use Rattle.pack.specs.Geometry.{geometryOf}
 use Rattle.asking.specs.Asked.{entryNo, fileOf}
 use Rattle.asking.proofs.Outcome.{code-is}
 use Rattle.bodies.specs.BlockBytes.{blockStart}
 use Rattle.bodies.proofs.BlockBytes.{room-of}
 use Rattle.bodies.proofs.EntryChain.{changes-chain}
-use Rattle.room.specs.Cleared.{cleared}
-use Rattle.room.proofs.Cleared.{blocks-room}
-use Rattle.room.proofs.ClearedKept.{word-block}
-use Rattle.creation.specs.Rounding.{lengthFor}
-use Rattle.creation.specs.AllocRows.{allocRows}
+use Rattle.creation.specs.Creating.{entryFor}
 use Rattle.creation.specs.Alloc.{startFor, alloc}
-use Rattle.creation.proofs.AllocStage.{allocatable}
+use Rattle.creation.proofs.AllocEffect.{alloc-words}
 use Rattle.creation.specs.Format.{systemBytes, formatted, format}
 use Rattle.creation.proofs.FormatBytes.{formatted-length, formatted-bodies}
 use Rattle.creation.proofs.FormatRows.{test-formattable}
@@ -32,9 +28,8 @@ use Rattle.appending.specs.Appnd.{chainJoined, appnd}
 use Rattle.requests.specs.Request.{FORMAT, ALLOC, APPND, BLOCK-OUTPUT}
 use Rattle.requests.specs.Changes.{MayChange}
 use Rattle.requests.proofs.RequestFormat.{format-by}
-use Rattle.requests.proofs.ChangesEntries.{created-changes}
 use Rattle.frame.specs.Framed.{ChangesOnly}
-use Rattle.frame.proofs.ChangesWritten.{changes-nothing, changes-then, changes-wider, changes-either, changes-cleared, changes-part}
+use Rattle.frame.proofs.ChangesWritten.{changes-nothing, changes-then, changes-either, changes-cleared, changes-part}
 use Rattle.requests.proofs.ChangesWritten.{changes-settled}
 
 pub format-changes : (img : List ℕ) (form blocks contents : ℕ) (uics : List ℕ)
@@ -60,24 +55,9 @@ format-changes img form blocks contents uics =
 
 pub alloc-changes : (img : List ℕ) (key : Key) (caller protect segments : ℕ)
     → ChangesOnly (MayChange (ALLOC key caller protect segments) img) img (alloc img key caller protect segments .image)
-unfolding alloc cleared
 alloc-changes img key caller protect segments =
-    changes-settled (allocRows img key caller protect segments) img [] _
-    (λ clear.
-    let a = allocatable img key caller protect segments clear in
-    let entry = created-changes img _ (a .ready .entry) in
-    let size = length-replicate {A = ℕ} (lengthFor img segments * blockBytes (geometryOf img)) 0 in
-    changes-then (changes-wider (λ w entered. inl entered) entry)
-    (changes-part _ (replicate (lengthFor img segments * blockBytes (geometryOf img)) 0) (blockStart (geometryOf img) (startFor img segments))
-    (omega (arith, size, entry .long, blocks-room (a .ready .sized) (startFor img segments) (lengthFor img segments) (a .inside)))
-    (λ w low high. inr (
-      startFor img segments,
-      (
-        a .extent,
-        word-block (geometryOf img) (startFor img segments) (lengthFor img segments) w (a .ready .sized .some)
-            (omega arith) (omega (arith, size)),
-      ),
-    ))))
+    alloc-words img key caller protect segments (λ a w at. inl (entryFor img, (a .ready .entry, at)))
+    (λ a b w inside of. inr (startFor img segments, (a .extent, (b, (inside, of)))))
 
 pub appnd-changes : (img : List ℕ) (first second : Key) (caller : ℕ)
     → ChangesOnly (MayChange (APPND first second caller) img) img (appnd img first second caller .image)

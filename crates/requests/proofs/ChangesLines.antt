@@ -1,7 +1,7 @@
--- Adding several payloads changes no other word than the entry's 6 to 8, the blocks that are taken and the link of the last block; so do lines written and ended.
+-- Adding several payloads changes no other word than the entry's 6 to 8, the blocks that are taken with their bits, and the link of the last block; so do lines written and ended.
 use Prim.Native.Nat.{ℕ, _+_, _≤_, _<_}
 use mathlib.Core.Path.{_≡_, refl, ap, subst, subst₂, _∙_}
-use mathlib.Core.Logic.{inl, inr}
+use mathlib.Core.Logic.{_⊎_, inl, inr}
 use mathlib.Core.Bool.{Bool, false}
 use mathlib.Core.List.{List, [], _∷_}
 use native.Mathlib.Omega.{arith}
@@ -24,7 +24,7 @@ use Rattle.stream.specs.BytesWriting.{gatheredIn, writingRows, bytesWritten}
 use Rattle.lines.specs.LineWriting.{nulsFor, lineWrite, lineEnd}
 use Rattle.requests.specs.Request.{LINKED-ADD, LINE-WRITE, LINE-END}
 use Rattle.requests.specs.Changes.{IsLastLink, MayAdd, MayChange}
-use Rattle.frame.specs.Framed.{ChangesOnly}
+use Rattle.frame.specs.Framed.{ChangesOnly, MapWord}
 use Rattle.frame.proofs.ChangesWritten.{changes-nothing, changes-then, changes-wider}
 use Rattle.requests.proofs.ChangesWritten.{changes-settled}
 
@@ -39,8 +39,9 @@ module _ (key : Key) (caller : ℕ) (img payload : List ℕ) (more : List (List 
 
   wider-first : (w : ℕ) → MayChange (LINKED-ADD key caller payload) img w → MayAdd img key caller (payload ∷ more) w
   wider-first w (inl words) = inl words
-  wider-first w (inr (inl block)) = inr (inl (addedBlock img, (first-taken, block)))
-  wider-first w (inr (inr link)) = inr (inr link)
+  wider-first w (inr (inl block)) = inr (inl (addedBlock img, (first-taken, inl block)))
+  wider-first w (inr (inr (inl link))) = inr (inr link)
+  wider-first w (inr (inr (inr word))) = inr (inl (addedBlock img, (first-taken, inr word)))
 
   -- what the other payloads may change, where measures and entry stay, by what the link of the last block then is
   wider-rest : geometryOf image ≡ geometryOf img → entryNo image key ≡ entryNo img key
@@ -53,7 +54,7 @@ module _ (key : Key) (caller : ℕ) (img payload : List ℕ) (more : List (List 
         b,
         (
           omega (arith, among, count-more b (addedBlock img) (takenBlocks image key caller more)),
-          subst (λ (g : Geometry). (blockAt g b ≤ w) × (w < blockAt g b + blockWords g)) measures block,
+          subst (λ (g : Geometry). ((blockAt g b ≤ w) × (w < blockAt g b + blockWords g)) ⊎ MapWord g b w) measures block,
         ),
       ))
   wider-rest measures number last w (inr (inr link)) = last w link
@@ -70,7 +71,7 @@ module _ (key : Key) (caller : ℕ) (img payload : List ℕ) (more : List (List 
     link-taken w (some, link) =
         let at : w ≡ blockAt (geometryOf img) (addedBlock img) = link ∙ rw (again-measures img key caller payload success, ends) refl in
         let sized = header-sized img (linked-add-admitted img key caller payload success .file .right .header) in
-        inr (inl (addedBlock img, (first-taken, (omega (arith, at), omega (arith, at, sized .some)))))
+        inr (inl (addedBlock img, (first-taken, inl (omega (arith, at), omega (arith, at, sized .some)))))
 
   -- accepted or refused
   wider : (w : ℕ) → MayAdd image key caller more w → MayAdd img key caller (payload ∷ more) w

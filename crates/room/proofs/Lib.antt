@@ -1,4 +1,4 @@
--- The laws of what is free in a pack, and of blocks that are cleared.
+-- The laws of what is free in a pack, of blocks that are cleared, and of bits made on the map.
 pub mod RoomHighest
 pub mod RoomMapRun
 pub mod RoomMapCount
@@ -9,3 +9,5 @@ pub mod RoomNeeds
 pub mod Cleared
 pub mod ClearedRun
 pub mod ClearedKept
+pub mod MapMarking
+pub mod Taken

@@ -10,10 +10,11 @@ ghost use lib.ListN.{length, set};
 ghost use Rattle.answers.specs.Refusals.{row};
 ghost use Rattle.answers.specs.Stage.{verdictOf};
 ghost use Rattle.pack.specs.GeometrySized.{mostBlocks, Sized};
-ghost use Rattle.room.specs.Room.{InRun};
 ghost use Rattle.pack.specs.File.{blocksOf, count};
 ghost use Rattle.room.specs.RoomMap.{runOn, freeAfter, startIn, freeOn, FreeOn, SomeBelow, HeldFrom, markedFrom, unmarked};
-ghost use Rattle.room.specs.Cleared.{cleared};
+ghost use Rattle.pack.specs.Map.{bitsSet};
+ghost use Rattle.room.specs.Room.{InRun, runFrom};
+ghost use Rattle.room.specs.Cleared.{cleared, taken};
 use answers::Verdict;
 use pack::BlockNo;
 use pack::Entry;
@@ -142,8 +143,8 @@ pub fn judge_room(map: &[u8], g: Geometry, needed: Blocks) -> Verdict
     Verdict::Refused(0o42)
 }
 
-// A block taken for any use is cleared first, whatever was in it: document 02 §2. Who takes a block takes it here.
-pub fn take_block(img: &mut [u8], map: &mut [u8], g: Geometry, b: BlockNo)
+// All bytes of a block 0, and the block taken on the map that the check filled.
+fn clear_block(img: &mut [u8], map: &mut [u8], g: Geometry, b: BlockNo)
     requires { ⌜ Sized (now img) g ⌝ }
     requires { ⌜ (g .blocks ≤ length (now map)) × FreeOn (now map) g (b .0) ⌝ }
     ensures { λ r. ⌜ now (img .exit) ≡ cleared (now (img .entry)) g (b .0) 1 ⌝ }
@@ -158,8 +159,8 @@ pub fn take_block(img: &mut [u8], map: &mut [u8], g: Geometry, b: BlockNo)
     map[at] = 1;
 }
 
-// A run of free blocks, each taken by itself.
-pub fn take_run(img: &mut [u8], map: &mut [u8], g: Geometry, start: BlockNo, count: Blocks)
+// A run of free blocks, each by itself.
+fn clear_run(img: &mut [u8], map: &mut [u8], g: Geometry, start: BlockNo, count: Blocks)
     requires { ⌜ Sized (now img) g ⌝ }
     requires { ⌜ (g .blocks ≤ length (now map)) × (start .0 + count .0 ≤ g .blocks) ⌝ }
     requires { ⌜ ((b : ℕ) → InRun (start .0) (count .0) b → FreeOn (now map) g b) ⌝ }
@@ -169,9 +170,49 @@ pub fn take_run(img: &mut [u8], map: &mut [u8], g: Geometry, start: BlockNo, cou
     let end = start.0 + count.0;
     let mut left = count.0;
     while 0 < left {
-        take_block(img, map, g, BlockNo(end - left));
+        clear_block(img, map, g, BlockNo(end - left));
         left -= 1;
     }
+}
+
+// The bits of a run made 1 on the pack's own map, where it has one.
+pub fn mark_run(img: &mut [u8], g: Geometry, start: BlockNo, count: Blocks)
+    requires { ⌜ Sized (now img) g ⌝ }
+    requires { ⌜ start .0 + count .0 ≤ g .blocks ⌝ }
+    ensures { λ r. ⌜ now (img .exit) ≡ bitsSet (now (img .entry)) g (runFrom (start .0) (count .0)) 1 ⌝ }
+{
+    if !pack::has_map(g) {
+        return;
+    }
+    let end = start.0 + count.0;
+    let mut b = start.0;
+    while b < end {
+        pack::set_bit(img, g, BlockNo(b), 1);
+        b += 1;
+    }
+}
+
+// A block taken for any use is cleared first, whatever was in it (document 02 §2), and has its bit on the pack's own map (§7). Who takes a block takes it here.
+pub fn take_block(img: &mut [u8], map: &mut [u8], g: Geometry, b: BlockNo)
+    requires { ⌜ Sized (now img) g ⌝ }
+    requires { ⌜ (g .blocks ≤ length (now map)) × FreeOn (now map) g (b .0) ⌝ }
+    ensures { λ r. ⌜ now (img .exit) ≡ taken (now (img .entry)) g (b .0) 1 ⌝ }
+    ensures { λ r. ⌜ now (map .exit) ≡ set (now (map .entry)) (b .0) 1 ⌝ }
+{
+    clear_block(img, map, g, b);
+    mark_run(img, g, b, Blocks(1));
+}
+
+// Who takes several in a row takes them here.
+pub fn take_run(img: &mut [u8], map: &mut [u8], g: Geometry, start: BlockNo, count: Blocks)
+    requires { ⌜ Sized (now img) g ⌝ }
+    requires { ⌜ (g .blocks ≤ length (now map)) × (start .0 + count .0 ≤ g .blocks) ⌝ }
+    requires { ⌜ ((b : ℕ) → InRun (start .0) (count .0) b → FreeOn (now map) g b) ⌝ }
+    ensures { λ r. ⌜ now (img .exit) ≡ taken (now (img .entry)) g (start .0) (count .0) ⌝ }
+    ensures { λ r. ⌜ now (map .exit) ≡ markedFrom (now (map .entry)) (start .0) (count .0) ⌝ }
+{
+    clear_run(img, map, g, start, count);
+    mark_run(img, g, start, count);
 }
 
 // Who gives up a block gives it up here.
@@ -197,5 +238,32 @@ pub fn give_up(img: &[u8], map: &mut [u8], g: Geometry, x: Entry)
         give_up_block(map, b);
         b = pack::next_block(img, g, kind, b);
         more -= 1;
+    }
+}
+
+// The bits of a file's blocks made 0 on the pack's own map, one after another.
+fn clear_each(img: &mut [u8], g: Geometry, x: Entry)
+    requires { ⌜ Sized (now img) g ⌝ }
+    requires { ⌜ ((z : ℕ) → 0 < count z (blocksOf (now img) g x) → (g .bodies .0 ≤ z) × (z < g .blocks)) ⌝ }
+    ensures { λ r. ⌜ now (img .exit) ≡ bitsSet (now (img .entry)) g (blocksOf (now (img .entry)) g x) 0 ⌝ }
+{
+    let kind = x.kind;
+    let mut rest = x.length;
+    let mut b = x.first;
+    while 0 < rest {
+        pack::set_bit(img, g, b, 0);
+        b = pack::next_block(img, g, kind, b);
+        rest -= 1;
+    }
+}
+
+// Where the pack has no map, no block is walked.
+pub fn clear_bits(img: &mut [u8], g: Geometry, x: Entry)
+    requires { ⌜ Sized (now img) g ⌝ }
+    requires { ⌜ ((z : ℕ) → 0 < count z (blocksOf (now img) g x) → (g .bodies .0 ≤ z) × (z < g .blocks)) ⌝ }
+    ensures { λ r. ⌜ now (img .exit) ≡ bitsSet (now (img .entry)) g (blocksOf (now (img .entry)) g x) 0 ⌝ }
+{
+    if pack::has_map(g) {
+        clear_each(img, g, x);
     }
 }

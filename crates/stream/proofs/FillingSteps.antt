@@ -19,7 +19,7 @@ use Rattle.asking.proofs.AskedStage.{Given}
 use Rattle.room.specs.RoomMap.{Says, NoneFrom}
 use Rattle.room.proofs.RoomMapRun.{none-above}
 use Rattle.adding.specs.LinkedAddRows.{linkedAddRows}
-use Rattle.adding.specs.LinkedAdd.{addedBlock, added, linkedAdd}
+use Rattle.adding.specs.LinkedAdd.{addedBlock, enlargedBy, linkedAdd}
 use Rattle.adding.specs.LinkedAddStage.{Ready}
 use Rattle.adding.proofs.LinkedAddStage.{Admitted, admitted, linked-add-clear}
 use Rattle.adding.proofs.LinkedAddEffect.{linked-add-image}
@@ -68,7 +68,7 @@ module _ {img map : List ℕ} {g : Geometry} {e : ℕ} {gather : List ℕ} {at :
     laid-ready = layable .ready (omega (arith, layable .room, length-set gather (at .filled) byte))
 
     pub laid-full : {img′ map′ : List ℕ} {b : BlockNo} → b .0 ≡ addedBlock img
-        → img′ ≡ added img g e (entryOf img g e) (addedBlock img) (set gather (at .filled) byte) → length map′ ≡ length map → Says map′ img′
+        → img′ ≡ enlargedBy img g e (entryOf img g e) (addedBlock img) (set gather (at .filled) byte) → length map′ ≡ length map → Says map′ img′
         → NoneFrom map′ g (b .0) → LaidByte img map g e at (set gather (at .filled) byte) img′ map′ (record { filled = 0; from = b })
     laid-full block image long says above = full (omega (arith, layable .room, length-set gather (at .filled) byte)) block image long says above
 
@@ -111,7 +111,7 @@ module _ {key : Key} {caller : ℕ} {img map : List ℕ} {g : Geometry} {e : ℕ
         again-accepted img key caller (set gather (at .filled) byte) (length (due .full) + 1) (omega arith) clear-now
         (long-laid ∙ ap payloadBytes (sym (writing .measures)))
 
-    image-now : added img g e (entryOf img g e) (addedBlock img) (set gather (at .filled) byte) ≡ linkedAdd img key caller (set gather (at .filled) byte) .image
+    image-now : enlargedBy img g e (entryOf img g e) (addedBlock img) (set gather (at .filled) byte) ≡ linkedAdd img key caller (set gather (at .filled) byte) .image
     image-now = rw (← writing .measures, ← writing .number) (sym (linked-add-image img key caller (set gather (at .filled) byte) success))
 
   pub writing-layable : Layable img map g e gather at byte
@@ -167,5 +167,5 @@ module _ {key : Key} {caller : ℕ} {img map : List ℕ} {g : Geometry} {e : ℕ
   writing-next laid (within other) = rw laid (next-within (λ is. other (is ∙ sym (ap length laid ∙ length-set gather (at .filled) byte))))
   writing-next {map′} laid (full {b} is block image long says above) =
       let filled : at .filled + 1 ≡ length gather = is ∙ ap length laid ∙ length-set gather (at .filled) byte in
-      let now = image ∙ ap (added img g e (entryOf img g e) (addedBlock img)) laid ∙ image-now filled in
+      let now = image ∙ ap (enlargedBy img g e (entryOf img g e) (addedBlock img)) laid ∙ image-now filled in
       rw (laid, now) (next-full filled long (subst (Says map′) now says) above)

@@ -13,7 +13,7 @@ use Rattle.pack.specs.Entry.{entryOf}
 use Rattle.asking.specs.Asked.{entryNo}
 use Rattle.room.specs.RoomMap.{Says, NoneFrom}
 use Rattle.adding.specs.LinkedAddRows.{linkedAddRows}
-use Rattle.adding.specs.LinkedAdd.{addedBlock, added}
+use Rattle.adding.specs.LinkedAdd.{addedBlock, enlargedBy}
 use Rattle.adding.specs.LinkedAddStage.{Ready}
 use Rattle.stream.specs.declared.Filling.{Filling}
 use Rattle.stream.specs.Gather.{gathered}
@@ -28,7 +28,7 @@ pub record Layable (img map : List ℕ) (g : Geometry) (e : ℕ) (gather : List 
 pub data LaidByte (img map : List ℕ) (g : Geometry) (e : ℕ) (at : Filling) (gather : List ℕ) : List ℕ → List ℕ → Filling → Type 0 where
   within : (at .filled + 1 ≡ length gather → ⊥) → LaidByte img map g e at gather img map (record { filled = at .filled + 1; from = at .from })
   full : {img′ map′ : List ℕ} {b : BlockNo} → at .filled + 1 ≡ length gather → b .0 ≡ addedBlock img
-      → img′ ≡ added img g e (entryOf img g e) (addedBlock img) gather → length map′ ≡ length map → Says map′ img′ → NoneFrom map′ g (b .0)
+      → img′ ≡ enlargedBy img g e (entryOf img g e) (addedBlock img) gather → length map′ ≡ length map → Says map′ img′ → NoneFrom map′ g (b .0)
       → LaidByte img map g e at gather img′ map′ (record { filled = 0; from = b })
 
 -- so many blocks are free as the bytes still to lay will fill

@@ -108,6 +108,7 @@ module _ {img : List ℕ} {key : Key} {wrong : Bool} {g : Geometry} {e : ℕ} {x
         extension = ap (λ (y : Entry). y .extension) same;
         uic = ap (λ (y : Entry). y .uic) same;
       }))
+      (λ b is. omega (arith, is, asked .body))
 
   pub written-measures : geometryOf (blockWritten img g x place buffer) ≡ geometryOf img
   written-measures = geometry-framed (sym (asked .file .measures)) (asked .file .right) written-framed

@@ -23,6 +23,7 @@ Inv-loop img map₀ marks₀ g end e₀ map marks e = (length map ≡ length map
     × (scanTest img g map₀ 0 (slots g) ≡ scanTest img g map e (slots g - e))
     × (markAll img g map₀ 0 (slots g) ≡ markAll img g map e (slots g - e))
     × (differTest img g 0 (slots g) ≡ differTest img g e (slots g - e))
+    × (length marks ≡ length marks₀)
 
 abbrev μ-loop : tie.MeasureT-loop
 μ-loop img map₀ marks₀ g end e₀ map marks e = end - e
@@ -32,7 +33,7 @@ used-end-requires c κs = search needs
 
 loop-holds : tie.Need-loop-holds Inv-loop μ-loop
 loop-holds c = let pre = c .before .before .before .before .pre .1 .1 in
-    (refl, pre .1, marked-none _ _ _ (pre .2), scan-start _ _ _ _, marks-start _ _ _ _, differ-start _ _ _)
+    (refl, pre .1, marked-none _ _ _ (pre .2), scan-start _ _ _ _, marks-start _ _ _ _, differ-start _ _ _, refl)
 
 is-entry-right-requires : tie.Need-is-entry-right-requires Inv-loop μ-loop
 is-entry-right-requires c κs = let pre = c .before .before .before .before .before .before .before .before .pre in
@@ -48,7 +49,7 @@ same-length-2 c =
     let pre = c .before .before .before .before .before .before .before .before .before .before .before .before .before .before .pre in
     let loop = c .before .before .before .before .before .before .before .before .before .loop in
     let is-entry-right = c .before .before .before .before .before .is-entry-right in
-    is-entry-right .kept .1 .1 .0 ∙ (loop .inv .2 .long ∙ sym (pre .1 .1 .2))
+    is-entry-right .kept .1 .1 .0 ∙ loop .inv .6
 
 returns : tie.Need-returns Inv-loop μ-loop
 returns c =
@@ -85,13 +86,14 @@ loop-again c =
       loop .inv .3 ∙ scan-step _ _ _ _ _ below (both .0) _ marked,
       loop .inv .4 ∙ marks-step _ _ _ _ _ below _ marked,
       loop .inv .5 ∙ differ-step _ _ _ _ below (both .1),
+      is-entry-right .kept .1 .1 .0 ∙ loop .inv .6,
     )
 
 same-length-3 : tie.Need-same-length-3 Inv-loop μ-loop
 same-length-3 c = search needs
 
 same-length-4 : tie.Need-same-length-4 Inv-loop μ-loop
-same-length-4 c = c .before .loop .inv .2 .long ∙ sym (c .before .before .before .before .before .before .pre .1 .1 .2)
+same-length-4 c = c .before .loop .inv .6
 
 returns-2 : tie.Need-returns-2 Inv-loop μ-loop
 returns-2 c = let loop = c .before .loop in

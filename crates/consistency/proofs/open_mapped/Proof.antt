@@ -1,9 +1,9 @@
--- Rests on `ConsistentTestOpened`: what header and entries decide one after another, and that the map then says how often each block is held.
+-- Rests on `ConsistentTestOpened`: what the header and what stands behind it decide one after another, and that the map then says how often each block is held.
 use borrow.Author.Needs.{needs}
 use native.Mathlib.Omega.{arith}
-use mathlib.Core.Path.{refl, sym, _∙_}
+use mathlib.Core.Path.{sym, _∙_}
 use borrow.Author.Tests.{not-true, not-false}
-use Rattle.consistency.proofs.ConsistentTestOpened.{open-wrong, open-header, open-sized, open-room, open-long, open-system, open-entries, open-good}
+use Rattle.consistency.proofs.ConsistentTestOpened.{open-wrong, open-header, open-sized, open-room, open-map, open-long, open-whole, open-files, open-good}
 use Rattle.consistency.proofs.open_mapped.Statement.{statement}
 use Rattle.consistency.proofs.open_mapped.Tie as tie
 
@@ -26,59 +26,51 @@ set-system-requires c κs =
     let g = c .before .before .g in
     open-room _ _ (read-header .ensures) _ (g .given .1) pre
 
-slice-aggregate-are-entries-right : tie.Need-slice-aggregate-are-entries-right
-slice-aggregate-are-entries-right c = search needs
-
-are-entries-right-requires : tie.Need-are-entries-right-requires
-are-entries-right-requires c κs = let is = c .before .before .before .before .before .before .before .before .before .read-header .ensures in
-    let right = c .before .before .before .before .before .before .before .g .given .1 in
-    let lent = c .before .before .before .before .before .before .before .before .before .before .before .before .pre in
-    let system = c .before .before .before .before .set-system .ensures in
-    (open-sized _ _ is _ right, (open-header _ _ is _ right, (open-long _ _ is _ right _ _ lent system, open-system _ _ is _ right _ _ lent system, refl)))
+are-files-right-requires : tie.Need-are-files-right-requires
+are-files-right-requires c κs =
+    let is = c .before .before .before .before .before .before .before .before .read-header .ensures in
+    let right = c .before .before .before .before .before .before .g .given .1 in
+    let lent = c .before .before .before .before .before .before .before .before .before .before .before .pre in
+    let system = c .before .before .before .set-system .ensures in (
+      open-sized _ _ is _ right,
+      (
+        open-header _ _ is _ right,
+        (open-map _ _ is _ right _ _ lent system, open-long _ _ is _ right _ _ lent system, open-whole _ _ is _ right _ _ lent system),
+      ),
+    )
 
 same-length : tie.Need-same-length
 same-length c = search needs
 
 returns-2 : tie.Need-returns-2
-returns-2 c = let is = c .before .before .before .before .before .before .before .before .before .before .before .before .before .before .read-header .ensures in
-    let right = c .before .before .before .before .before .before .before .before .before .before .before .before .g .given .1 in
-    let lent = c .before .before .before .before .before .before .before .before .before .before .before .before .before .before .before .before .before .pre in
-    let system = c .before .before .before .before .before .before .before .before .before .set-system .ensures in
-    open-entries _ _ is _ right _ _ lent system (sym (c .before .before .before .before .are-entries-right .ensures .0) ∙ not-true _ (c .if1 .taken))
+returns-2 c =
+    let is = c .before .before .before .before .before .before .before .before .before .before .before .before .read-header .ensures in
+    let right = c .before .before .before .before .before .before .before .before .before .before .g .given .1 in
+    let lent = c .before .before .before .before .before .before .before .before .before .before .before .before .before .before .before .pre in
+    let system = c .before .before .before .before .before .before .before .set-system .ensures in
+    open-files _ _ is _ right _ _ lent system (sym (c .before .before .before .are-files-right .ensures .0) ∙ not-true _ (c .if1 .taken))
 
 set-system-requires-2 : tie.Need-set-system-requires-2
 set-system-requires-2 c κs =
-    let pre = c .before .before .before .before .before .before .before .before .before .before .before .before .before .before .before .before .before .before .pre in
-    let read-header = c .before .before .before .before .before .before .before .before .before .before .before .before .before .before .before .read-header in
-    let g = c .before .before .before .before .before .before .before .before .before .before .before .before .before .g in
-    let set-system = c .before .before .before .before .before .before .before .before .before .before .set-system in
-    let are-entries-right = c .before .before .before .before .before .are-entries-right in
-    let is = read-header .ensures in
-    let right = g .given .1 in
-    let lent = pre in
-    let system = set-system .ensures in
+    let is = c .before .before .before .before .before .before .before .before .before .before .before .before .before .read-header .ensures in
+    let right = c .before .before .before .before .before .before .before .before .before .before .before .g .given .1 in
+    let lent = c .before .before .before .before .before .before .before .before .before .before .before .before .before .before .before .before .pre in
     let sized = open-sized _ _ is _ right in
-    omega (arith, are-entries-right .kept .1 .0, open-long _ _ is _ right _ _ lent system, sized .bodies)
+    let system = c .before .before .before .before .before .before .before .before .set-system .ensures in
+    omega (arith, c .before .before .before .before .are-files-right .kept .1 .0, open-long _ _ is _ right _ _ lent system, sized .bodies)
 
 same-length-2 : tie.Need-same-length-2
 same-length-2 c = search needs
 
 returns-3 : tie.Need-returns-3
 returns-3 c =
-    let pre = c .before .before .before .before .before .before .before .before .before .before .before .before .before .before .before .before .before .before .before .before .before .pre in
-    let read-header = c .before .before .before .before .before .before .before .before .before .before .before .before .before .before .before .before .before .before .read-header in
-    let g = c .before .before .before .before .before .before .before .before .before .before .before .before .before .before .before .before .g in
-    let set-system = c .before .before .before .before .before .before .before .before .before .before .before .before .before .set-system in
-    let are-entries-right = c .before .before .before .before .before .before .before .before .are-entries-right in
-    let if1 = c .before .before .before .before .if1 in
-    let set-system2 = c .before .before .set-system2 in
-    let is = read-header .ensures in
-    let right = g .given .1 in
-    let lent = pre in
-    let system = set-system .ensures in
-    let entries = are-entries-right in
-    let good = not-false _ (if1 .left) in
-    open-good _ _ is _ right _ _ lent system _ _ (sym (entries .ensures .0) ∙ good) (entries .ensures .1 good) (set-system2 .ensures)
+    let is = c .before .before .before .before .before .before .before .before .before .before .before .before .before .before .before .before .read-header .ensures in
+    let right = c .before .before .before .before .before .before .before .before .before .before .before .before .before .before .g .given .1 in
+    let lent = c .before .before .before .before .before .before .before .before .before .before .before .before .before .before .before .before .before .before .before .pre in
+    let files = c .before .before .before .before .before .before .before .are-files-right in
+    let good = not-false _ (c .before .before .before .before .if1 .left) in
+    let system = c .before .before .before .before .before .before .before .before .before .before .before .set-system .ensures in
+    open-good _ _ is _ right _ _ lent system _ _ (sym (files .ensures .0) ∙ good) (files .ensures .1 good) (c .before .before .set-system2 .ensures)
 
 pub open-mapped-spec : {M : Type 1} → statement M
 open-mapped-spec =
@@ -89,8 +81,7 @@ open-mapped-spec =
     enum-told
     returns
     set-system-requires
-    slice-aggregate-are-entries-right
-    are-entries-right-requires
+    are-files-right-requires
     same-length
     returns-2
     set-system-requires-2

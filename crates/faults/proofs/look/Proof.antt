@@ -1,4 +1,4 @@
--- Rests on `LookedWhole`: the header as it was read, the entries, the shared blocks.
+-- Rests on `LookedWhole`: the header as it was read, the entries, the blocks by number.
 use borrow.Author.Needs.{needs}
 use Rattle.faults.proofs.LookedWhole.{read-wrong, read-right, report-contents, all-right, report-behind}
 use Rattle.faults.proofs.look.Statement.{statement}
@@ -27,8 +27,8 @@ returns-2 c =
     report-contents (read-right _ (c .before .before .before .before .before .before .read-header .ensures) (c .before .before .before .before .g .given .1))
     (c .before .before .look-entries .ensures) (c .if1 .taken)
 
-look-shared-requires : tie.Need-look-shared-requires
-look-shared-requires c κs =
+look-blocks-requires : tie.Need-look-blocks-requires
+look-blocks-requires c κs =
     all-right (read-right _ (c .before .before .before .before .before .before .read-header .ensures) (c .before .before .before .before .g .given .1))
     (c .before .before .look-entries .ensures) (c .if1 .left)
 
@@ -36,7 +36,7 @@ returns-3 : tie.Need-returns-3
 returns-3 c =
     report-behind
     (read-right _ (c .before .before .before .before .before .before .before .read-header .ensures) (c .before .before .before .before .before .g .given .1))
-    (c .before .before .before .look-entries .ensures) (c .before .if1 .left) (c .look-shared .ensures)
+    (c .before .before .before .look-entries .ensures) (c .before .if1 .left) (c .look-blocks .ensures)
 
 pub look-spec : {M : Type 1} → statement M
 look-spec =
@@ -49,5 +49,5 @@ look-spec =
     returns
     look-entries-requires
     returns-2
-    look-shared-requires
+    look-blocks-requires
     returns-3)

@@ -2,7 +2,7 @@
 use mathlib.Core.Path.{refl}
 use native.Mathlib.Omega.{arith}
 use borrow.Author.Needs.{needs}
-use Rattle.consistency.proofs.MappedLent.{lent-few, lent-most}
+use Rattle.consistency.proofs.MappedLent.{lent-few, lent-many}
 use Rattle.printing.proofs.Listing.{too-long, put-listing}
 use Rattle.printing.proofs.print_listing.Statement.{statement}
 use Rattle.printing.proofs.print_listing.Tie as tie
@@ -34,7 +34,7 @@ slice-aggregate-print-lent-2 : tie.Need-slice-aggregate-print-lent-2
 slice-aggregate-print-lent-2 c = search needs
 
 print-lent-requires-2 : tie.Need-print-lent-requires-2
-print-lent-requires-2 c κs = (c .before .before .before .before .before .before .pre, (lent-most refl, c .before .before .before .if1 .left))
+print-lent-requires-2 c κs = (c .before .before .before .before .before .before .pre, (lent-many (omega (arith, c .before .before .before .if1 .left)) refl, c .before .before .before .if1 .left))
 
 same-length-3 : tie.Need-same-length-3
 same-length-3 c = search needs

@@ -1,6 +1,6 @@
--- Rests on `DeletStage`: the decision's code and image are the request's; the blocks of a file that it found can be given up, and its entry cleared.
+-- Rests on `DeletStage`: the decision's code and image are the request's; the blocks of a file that it found can be given up on both maps, and its entry cleared.
 use borrow.Author.Needs.{needs}
-use Rattle.directory.proofs.DeletStage.{deleting-refused, deleting-room, deleting-held, deleting-done}
+use Rattle.directory.proofs.DeletStage.{deleting-refused, deleting-room, deleting-bits, deleting-held, deleting-done}
 use Rattle.directory.proofs.delet.delet_opened.Statement.{statement}
 use Rattle.directory.proofs.delet.delet_opened.Tie as tie
 
@@ -18,10 +18,16 @@ give-up-requires c κs =
     let at-g = c .before .before .before in
     deleting-held _ _ _ _ (at-g .before .before .decide-delet .ensures) _ _ _ (at-g .g .given .1) _ (at-g .before .before .before .before .before .before .pre .1)
 
+clear-bits-requires : tie.Need-clear-bits-requires
+clear-bits-requires c κs =
+    let at-g = c .before .before .before .before .before .before .before in
+    deleting-bits _ _ _ _ (at-g .before .before .decide-delet .ensures) _ _ _ (at-g .g .given .1)
+
 clear-entry-requires : tie.Need-clear-entry-requires
 clear-entry-requires c κs =
-    let at-g = c .before .before .before .before .before .before .before in
-    deleting-room _ _ _ _ (at-g .before .before .decide-delet .ensures) _ _ _ (at-g .g .given .1)
+    let at-clear-bits = c .before .before .before in
+    let at-g = at-clear-bits .before .before .before .before .before .before .before .before in
+    deleting-room _ _ _ _ (at-g .before .before .decide-delet .ensures) _ _ _ (at-g .g .given .1) (at-clear-bits .clear-bits .kept .0)
 
 same-length : tie.Need-same-length
 same-length c = search needs
@@ -37,9 +43,11 @@ same-length-3 c = search needs
 
 returns-2 : tie.Need-returns-2
 returns-2 c =
-    let at-give-up = c .before .before .before .before .before .before in
+    let at-clear-bits = c .before .before .before .before .before .before in
+    let at-give-up = at-clear-bits .before .before .before .before in
     let at-g = at-give-up .before .before .before .before in
-    deleting-done _ _ _ _ (at-g .before .before .decide-delet .ensures) _ _ _ (at-g .g .given .1) _ (c .before .before .clear-entry .ensures) _ _ (at-give-up .give-up .ensures)
+    deleting-done _ _ _ _ (at-g .before .before .decide-delet .ensures) _ _ _ (at-g .g .given .1) _ _
+    (at-clear-bits .clear-bits .ensures) (c .before .before .clear-entry .ensures) _ _ (at-give-up .give-up .ensures)
 
 pub delet-opened-spec : {M : Type 1} → statement M
 delet-opened-spec =
@@ -49,6 +57,7 @@ delet-opened-spec =
     enum-known-code
     enum-known-g
     give-up-requires
+    clear-bits-requires
     clear-entry-requires
     same-length
     returns

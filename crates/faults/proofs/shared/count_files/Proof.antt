@@ -1,13 +1,11 @@
 -- Rests on `LookedShared`: what is counted with the files that are left.
 use Prim.Native.Nat.{_-_}
-use mathlib.Core.Path.{_≡_, sym, ap, _∙_}
+use mathlib.Core.Path.{_≡_, refl, _∙_}
 use native.Mathlib.Omega.{arith}
 use lib.ListN.{length}
 use Rattle.pack.specs.Geometry.{slots}
-use Rattle.pack.specs.GeometrySized.{mostBlocks}
 use Rattle.pack.specs.Consistent.{held}
 use Rattle.pack.proofs.GeometryRoom.{sized-few, below-count, past-count}
-use Rattle.consistency.proofs.ConsistentTestIff.{empty-long}
 use Rattle.faults.specs.Counting.{Counted, filesFrom}
 use Rattle.faults.proofs.LookedEntry.{measures-sized}
 use Rattle.faults.proofs.LookedShared.{entry-bodies, counted-start, counted-next, counted-end}
@@ -15,7 +13,7 @@ use Rattle.faults.proofs.shared.count_files.Statement.{statement}
 use Rattle.faults.proofs.shared.count_files.Tie as tie
 
 abbrev Inv-loop : tie.InvT-loop
-Inv-loop img counts₀ g end e₀ counts e = (end ≡ slots g) × (length counts ≡ mostBlocks) × Counted counts (filesFrom img g e) (held img)
+Inv-loop img counts₀ g end e₀ counts e = (end ≡ slots g) × (length counts ≡ length counts₀) × Counted counts (filesFrom img g e) (held img)
 
 abbrev μ-loop : tie.MeasureT-loop
 μ-loop img counts₀ g end e₀ counts e = end - e
@@ -26,8 +24,8 @@ slot-count-requires c κs = sized-few (measures-sized (c .before .before .pre .0
 loop-holds : tie.Need-loop-holds Inv-loop μ-loop
 loop-holds c = (
   c .slot-count .ensures .0,
-  ap length (c .before .before .before .pre .1) ∙ empty-long mostBlocks,
-  counted-start (c .before .before .before .pre .0) mostBlocks (c .before .before .before .pre .1),
+  refl,
+  counted-start (c .before .before .before .pre .0) (c .before .before .before .pre .1 .0),
 )
 
 read-entry-requires : tie.Need-read-entry-requires Inv-loop μ-loop
@@ -36,7 +34,7 @@ read-entry-requires c κs =
 
 count-file-requires : tie.Need-count-file-requires Inv-loop μ-loop
 count-file-requires c κs = let sized = measures-sized (c .before .before .before .before .before .before .before .pre .0 .measures) in (
-  (sized, omega (arith, sized .most, c .before .before .before .loop .inv .1)),
+  (sized, omega (arith, c .before .before .before .before .before .before .before .pre .1 .1, c .before .before .before .loop .inv .1)),
   entry-bodies (c .before .before .before .before .before .before .before .pre .0)
       (below-count (c .before .before .before .loop .inv .0) (c .before .before .loop-test .taken)) (c .read-entry .ensures .0),
 )
@@ -58,14 +56,11 @@ loop-again c = let l = c .before .before .before .before .before .before .loop .
 )
 
 same-length : tie.Need-same-length Inv-loop μ-loop
-same-length c = c .before .loop .inv .1 ∙ sym (ap length (c .before .before .before .before .before .pre .1) ∙ empty-long mostBlocks)
+same-length c = c .before .loop .inv .1
 
 returns : tie.Need-returns Inv-loop μ-loop
-returns c = (
-  counted-end (c .before .before .before .before .before .pre .0) (past-count (c .before .loop .inv .0) (c .loop-test .left))
-      (c .before .loop .inv .2),
-  c .before .loop .inv .1,
-)
+returns c =
+    counted-end (c .before .before .before .before .before .pre .0) (past-count (c .before .loop .inv .0) (c .loop-test .left)) (c .before .loop .inv .2)
 
 pub count-files-spec : {M : Type 1} → statement M
 count-files-spec =

@@ -4,7 +4,7 @@ use mathlib.Core.Path.{_≡_}
 use native.Mathlib.Omega.{arith}
 use Rattle.pack.specs.Geometry.{slots}
 use Rattle.pack.proofs.GeometryRoom.{sized-few, below-count, past-count}
-use Rattle.finishing.proofs.FinishLoop.{Remaining, remaining-start, remaining-sized, remaining-small, remaining-step, remaining-end}
+use Rattle.finishing.proofs.FinishLoop.{Remaining, remaining-start, remaining-sized, remaining-bodies, remaining-small, remaining-step, remaining-end}
 use Rattle.finishing.proofs.finish.clear_all.Statement.{statement}
 use Rattle.finishing.proofs.finish.clear_all.Tie as tie
 
@@ -23,7 +23,8 @@ loop-holds c = (c .slot-count .ensures .0, remaining-start _ (c .before .before 
 clear-scratch-requires : tie.Need-clear-scratch-requires Inv-loop μ-loop
 clear-scratch-requires c κs =
     let inv = c .before .before .loop .inv in
-    (remaining-sized (inv .1), below-count (inv .0) (c .before .loop-test .taken))
+    let inside = below-count (inv .0) (c .before .loop-test .taken) in
+    (remaining-sized (inv .1), (inside, remaining-bodies (inv .1) inside))
 
 add-number : tie.Need-add-number Inv-loop μ-loop
 add-number c =

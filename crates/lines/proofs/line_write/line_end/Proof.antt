@@ -1,7 +1,7 @@
 -- Rests on `MappedLent`: a map of zeros, large enough for an image of that length, can be lent.
 use borrow.Author.Needs.{needs}
 use mathlib.Core.Path.{refl}
-use Rattle.consistency.proofs.MappedLent.{lent-few, lent-most}
+use Rattle.consistency.proofs.MappedLent.{lent-few, lent-many, lent-most}
 use Rattle.lines.proofs.line_write.line_end.Statement.{statement}
 use Rattle.lines.proofs.line_write.line_end.Tie as tie
 
@@ -24,7 +24,7 @@ slice-aggregate-line-end-lent-2 : tie.Need-slice-aggregate-line-end-lent-2
 slice-aggregate-line-end-lent-2 c = search needs
 
 line-end-lent-requires-2 : tie.Need-line-end-lent-requires-2
-line-end-lent-requires-2 c κs = lent-most refl
+line-end-lent-requires-2 c κs = lent-many (c .before .before .before .if2 .taken) refl
 
 same-length-3 : tie.Need-same-length-3
 same-length-3 c = search needs
@@ -34,6 +34,21 @@ same-length-4 c = search needs
 
 returns-2 : tie.Need-returns-2
 returns-2 c = search needs
+
+slice-aggregate-line-end-lent-3 : tie.Need-slice-aggregate-line-end-lent-3
+slice-aggregate-line-end-lent-3 c = search needs
+
+line-end-lent-requires-3 : tie.Need-line-end-lent-requires-3
+line-end-lent-requires-3 c κs = lent-most refl
+
+same-length-5 : tie.Need-same-length-5
+same-length-5 c = search needs
+
+same-length-6 : tie.Need-same-length-6
+same-length-6 c = search needs
+
+returns-3 : tie.Need-returns-3
+returns-3 c = search needs
 
 pub line-end-spec : {M : Type 1} → statement M
 line-end-spec =
@@ -48,4 +63,9 @@ line-end-spec =
     line-end-lent-requires-2
     same-length-3
     same-length-4
-    returns-2)
+    returns-2
+    slice-aggregate-line-end-lent-3
+    line-end-lent-requires-3
+    same-length-5
+    same-length-6
+    returns-3)

@@ -10,11 +10,15 @@ returns c = rw (eq-eqb _ 1 (c .if1 .taken))
 
 returns-2 : tie.Need-returns-2
 unfolding segmentsOf
-returns-2 c = rw (ne-eqb _ 1 (c .before .if1 .left), eq-eqb _ 3 (c .if2 .taken))
+returns-2 c = rw (ne-eqb _ 1 (c .before .if1 .left), eq-eqb _ 2 (c .if2 .taken))
 
 returns-3 : tie.Need-returns-3
 unfolding segmentsOf
-returns-3 c = rw (ne-eqb _ 1 (c .before .if1 .left), ne-eqb _ 3 (c .if2 .left))
+returns-3 c = rw (ne-eqb _ 1 (c .before .before .if1 .left), ne-eqb _ 2 (c .before .if2 .left), eq-eqb _ 3 (c .if3 .taken))
+
+returns-4 : tie.Need-returns-4
+unfolding segmentsOf
+returns-4 c = rw (ne-eqb _ 1 (c .before .before .if1 .left), ne-eqb _ 2 (c .before .if2 .left), ne-eqb _ 3 (c .if3 .left))
 
 pub segments-of-spec : {M : Type 1} → statement M
-segments-of-spec = tie.close (tie.spec returns returns-2 returns-3)
+segments-of-spec = tie.close (tie.spec returns returns-2 returns-3 returns-4)

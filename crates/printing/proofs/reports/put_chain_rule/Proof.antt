@@ -63,8 +63,26 @@ unfolding chainRuleName
 returns-4 c =
     let put = c .before .before .put-bytes4 .ensures in (put-chain-is _ 9 (c .before .before .before .before .before .if4 .taken) refl put, omega (arith, put .behind))
 
+slice-aggregate-put-bytes-5 : tie.Need-slice-aggregate-put-bytes-5
+slice-aggregate-put-bytes-5 c = search needs
+
+put-bytes-requires-5 : tie.Need-put-bytes-requires-5
+put-bytes-requires-5 c κs = search needs
+
+same-length-5 : tie.Need-same-length-5
+same-length-5 c = search needs
+
 returns-5 : tie.Need-returns-5
-returns-5 c = (put-chain-none _ (c .before .before .before .if1 .left) (c .before .before .if2 .left) (c .before .if3 .left) (c .if4 .left), omega arith)
+unfolding chainRuleName
+returns-5 c =
+    let put = c .before .before .put-bytes5 .ensures in (put-chain-is _ 10 (c .before .before .before .before .before .if5 .taken) refl put, omega (arith, put .behind))
+
+returns-6 : tie.Need-returns-6
+returns-6 c = (
+  put-chain-none _ (c .before .before .before .before .if1 .left) (c .before .before .before .if2 .left) (c .before .before .if3 .left)
+      (c .before .if4 .left) (c .if5 .left),
+  omega arith,
+)
 
 pub put-chain-rule-spec : {M : Type 1} → statement M
 put-chain-rule-spec =
@@ -86,4 +104,8 @@ put-chain-rule-spec =
     put-bytes-requires-4
     same-length-4
     returns-4
-    returns-5)
+    slice-aggregate-put-bytes-5
+    put-bytes-requires-5
+    same-length-5
+    returns-5
+    returns-6)
