@@ -3,6 +3,7 @@
 mod disk;
 mod finish;
 mod lines;
+mod map;
 mod writing;
 
 use crate::answers::SpecificationAnswer;
@@ -180,6 +181,9 @@ fn formats([word, block]: [usize; 2], blocks: usize, contents: usize, uics: usiz
         set_word(&mut image, index, number as u16);
     }
     image[8..8 + bytes.len()].copy_from_slice(&bytes);
+    if word == 2 {
+        map::lay(&mut image, contents);
+    }
     let formatted = requests::format(&mut vec![0; block * blocks], word, blocks, contents, &bytes).is_ok();
     assert_eq!(formatted, examine(&image).is_ok());
     formatted
@@ -188,19 +192,22 @@ fn formats([word, block]: [usize; 2], blocks: usize, contents: usize, uics: usiz
 /// Format takes each number at its bound and refuses it beyond, and so does the check.
 #[test]
 fn bounds_of_each_form() {
-    for (form, most_contents, most_uics) in [([1, 512], 8, 64), ([3, 128], 32, 60)] {
+    let forms = [([1, 512], 1024, 8, 64), ([2, 512], 4096, 32, 64), ([3, 128], 1024, 32, 60)];
+    for (form, most_blocks, most_contents, most_uics) in forms {
         assert!(formats(form, 16, 1, 0) && !formats(form, 15, 1, 0));
-        assert!(formats(form, 1024, 1, 0) && !formats(form, 1025, 1, 0));
+        assert!(formats(form, most_blocks, 1, 0) && !formats(form, most_blocks + 1, 1, 0));
         assert!(!formats(form, 16, 0, 0));
-        assert!(formats(form, 1024, most_contents, 0) && !formats(form, 1024, most_contents + 1, 0));
+        assert!(formats(form, most_blocks, most_contents, 0) && !formats(form, most_blocks, most_contents + 1, 0));
         assert!(formats(form, 16, 1, most_uics) && !formats(form, 16, 1, most_uics + 1));
     }
     // The contents of form 1 are always fewer than the blocks.
     assert!(formats([1, 512], 16, 8, 0) && !formats([1, 512], 16, 9, 0));
+    assert!(formats([2, 512], 16, 13, 0) && !formats([2, 512], 16, 14, 0));
+    assert!(formats([2, 512], 35, 32, 0) && !formats([2, 512], 34, 32, 0));
     assert!(formats([3, 128], 16, 14, 0) && !formats([3, 128], 16, 15, 0));
     assert!(formats([3, 128], 34, 32, 0) && !formats([3, 128], 33, 32, 0));
     // The blocks of one form are no blocks of the other.
-    assert!(!formats([1, 128], 16, 1, 0) && !formats([3, 512], 16, 1, 0));
+    assert!(!formats([1, 128], 16, 1, 0) && !formats([2, 128], 16, 1, 0) && !formats([3, 512], 16, 1, 0));
 }
 
 #[test]

@@ -1,6 +1,6 @@
-//! The file service of document 01, with the lines, cleared blocks, bounds, writing, report, 64-word disk and Finish of 02 (§1 to §4, §6, §11 and §12), as a
-//! plain program, written from those papers and not from the library, so that the two can be run side by side. Nothing here is proved; what counts is that it
-//! was written apart.
+//! The file service of document 01, with the lines, cleared blocks, bounds, writing, report, free map, 64-word disk and Finish of 02 (§1 to §4, §6, §7, §11
+//! and §12), as a plain program, written from those papers and not from the library, so that the two can be run side by side. Nothing here is proved; what
+//! counts is that it was written apart.
 
 pub mod answers;
 pub mod boundary;

@@ -5,7 +5,7 @@ use crate::pack::consistency::examine;
 use crate::pack::entry::{self, Entry, CONTIGUOUS, EXTEND, LINKED, MOST_OPENS, OUTPUT, UPDATE};
 use crate::pack::form::Form;
 use crate::pack::header::FIRST_UIC;
-use crate::pack::name;
+use crate::pack::{map, name};
 use crate::words::word;
 
 /// The rule, 0 where none fails, and what it names; 0 in a member that it does not name.
@@ -19,7 +19,10 @@ pub struct ReportAnswer {
 }
 
 /// How many rules there are, with 0.
-pub const RULES: usize = 10;
+pub const RULES: usize = 11;
+
+/// The rule of the map, which only some forms have.
+pub const MAP: usize = 10;
 
 /// A rule that fails.
 #[derive(Clone, Copy, Debug, PartialEq, Eq)]
@@ -33,6 +36,7 @@ enum Fault {
     Loop { entry: usize, block: usize },
     End { entry: usize, block: usize },
     Shared { entry: usize, block: usize },
+    Map { block: usize },
 }
 
 impl From<Fault> for ReportAnswer {
@@ -47,6 +51,7 @@ impl From<Fault> for ReportAnswer {
             Fault::Loop { entry, block } => (7, entry, 0, block),
             Fault::End { entry, block } => (8, entry, 0, block),
             Fault::Shared { entry, block } => (9, entry, 0, block),
+            Fault::Map { block } => (MAP, 0, 0, block),
         };
         ReportAnswer { rule, entry, word, block }
     }
@@ -81,7 +86,8 @@ fn first_fault(image: &[u8]) -> Option<Fault> {
             files.push(file);
         }
     }
-    shared(image, &files)
+    let holders = holders(image, &files);
+    shared(&holders).or_else(|| map_fault(form, image, &holders))
 }
 
 /// A word of block 0, alone.
@@ -213,16 +219,31 @@ impl File<'_> {
     }
 }
 
-/// "a block is shared if two files reach it, and the second is named", the lowest block first.
-fn shared(image: &[u8], files: &[File]) -> Option<Fault> {
+/// The entries whose files reach each block, in stored order.
+fn holders(image: &[u8], files: &[File]) -> Vec<Vec<usize>> {
     let mut holders = vec![Vec::new(); word(image, 1) as usize];
     for file in files {
         for block in file.blocks() {
             holders[block].push(file.index);
         }
     }
+    holders
+}
+
+/// "a block is shared if two files reach it, and the second is named", the lowest block first.
+fn shared(holders: &[Vec<usize>]) -> Option<Fault> {
     let (block, reached) = holders.iter().enumerate().find(|(_, reached)| reached.len() > 1)?;
     Some(Fault::Shared { entry: reached[1], block })
+}
+
+/// The lowest block whose bit of the map is wrong, "1 if system or held, 0 otherwise and for b from n up" (02, §7).
+fn map_fault(form: Form, image: &[u8], holders: &[Vec<usize>]) -> Option<Fault> {
+    let contents = word(image, 2) as usize;
+    let map = form.block(image, form.map_block(contents)?);
+    let system = |block: usize| block <= contents + 1;
+    let held = |block: usize| holders.get(block).is_some_and(|reached| !reached.is_empty());
+    let block = (0..8 * map.len()).find(|&block| map::bit(map, block) != (system(block) || held(block)))?;
+    Some(Fault::Map { block })
 }
 
 #[cfg(test)]

@@ -7,6 +7,7 @@ use model::boundary;
 use model::conversions;
 use model::pack::entry::{self, Entry, LINKED};
 use model::pack::form::{Form, ALL};
+use model::pack::map;
 use model::requests::{self, File};
 use model::words::set_word;
 use std::hint::black_box;
@@ -154,7 +155,7 @@ macro_rules! timed {
     }};
 }
 
-/// A file of the owner's. The names of the first 128 are in no order, so that none is found sorted.
+/// A file of the owner's. The names of the first 512 are in no order, so that none is found sorted.
 fn file(number: usize) -> File {
     let name = format!("F{:05}", 7919 * number % 99991);
     let word = |at: usize| conversions::radpk(&name.as_bytes()[at..at + 3]).expect("they are of the set");
@@ -235,6 +236,7 @@ fn fullest(form: Form) -> Vec<u8> {
         }
         .write(form.entry_mut(&mut image, number));
     }
+    map::renew(&mut image);
     requests::look(&image, OWNER, file(0)).expect("the pack is consistent");
     image
 }
@@ -317,10 +319,15 @@ fn alloc_delet_500(form: Form, way: Way, times: usize) -> Duration {
     alloc_delet(way, times, &mut formatted(form, form.most_blocks, 1), 500 * form.segments)
 }
 
-/// Makes the only file of a pack, which is linked, empty again.
+/// Makes the only file of a pack with a block of contents, which is linked, empty again.
 fn empty(form: Form, image: &mut [u8]) {
     for word in [entry::FIRST, entry::LENGTH, entry::LAST] {
         set_word(form.entry_mut(image, 0), word, 0);
+    }
+    // The map of a pack without files.
+    if let Some(number) = form.map_block(1) {
+        form.block_mut(image, number).fill(0);
+        set_word(form.block_mut(image, number), 0, (1 << form.first_body(1)) - 1);
     }
 }
 
@@ -459,7 +466,7 @@ fn line_write_60(form: Form, way: Way, times: usize) -> Duration {
     line_write(form, way, times, TEXT)
 }
 
-/// Ten blocks of form 1, and 40 of form 3.
+/// Ten blocks of forms 1 and 2, and 40 of form 3.
 fn line_write_5100(form: Form, way: Way, times: usize) -> Duration {
     line_write(form, way, times, &TEXT.repeat(85))
 }

@@ -26,7 +26,7 @@ fn numbered(number: usize) -> File {
 fn blocks_payloads_and_entries() {
     let numbers =
         |form: &Form| [form.word as usize, form.block_bytes(), form.payload_bytes(), form.entries_per_block()];
-    assert_eq!(ALL.iter().map(numbers).collect::<Vec<_>>(), [[1, 512, 510, 16], [3, 128, 126, 4]]);
+    assert_eq!(ALL.iter().map(numbers).collect::<Vec<_>>(), [[1, 512, 510, 16], [2, 512, 510, 16], [3, 128, 126, 4]]);
 }
 
 /// "ALLOC of N takes N blocks."

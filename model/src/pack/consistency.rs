@@ -4,7 +4,7 @@ use super::blocks::BlockSet;
 use super::entry::{self, Entry, CONTIGUOUS, EXTEND, LINKED, MOST_OPENS, OUTPUT, UPDATE};
 use super::form::{Form, ENTRY_BYTES};
 use super::header::Header;
-use super::name;
+use super::{map, name};
 use crate::refusal::Refusal;
 use crate::words::word;
 
@@ -19,7 +19,7 @@ impl Pack {
         self.header.form
     }
 
-    /// "Free: above c and in no file."
+    /// "Free: above c and in no file." Where there is a map, above that (02, §7).
     pub fn is_free(&self, block: usize) -> bool {
         self.header.bodies().contains(&block) && !self.held.contains(block)
     }
@@ -49,10 +49,12 @@ impl Pack {
 
 /// Takes an image for a pack, or refuses it as not consistent.
 pub fn examine(image: &[u8]) -> Result<Pack, Refusal> {
-    consistent(image).ok_or(Refusal::Inconsistent)
+    // "Consistent now includes that the map agrees, checked last" (02, §7).
+    walk(image).filter(|pack| map::agrees(image, pack)).ok_or(Refusal::Inconsistent)
 }
 
-fn consistent(image: &[u8]) -> Option<Pack> {
+/// Takes an image for a pack if all is right but for the map, which is not looked at.
+pub fn walk(image: &[u8]) -> Option<Pack> {
     let header = Header::read(image)?;
     let mut held = BlockSet::new(header.blocks);
     let mut keys = Vec::with_capacity(header.entries());

@@ -27,15 +27,28 @@ pub struct Form {
     pub most_contents: usize,
     /// The most UICs that a pack lists.
     pub most_uics: usize,
+    /// Whether a pack has a free map.
+    pub has_map: bool,
 }
 
 /// Every form that is known.
-pub const ALL: &[Form] = &[Form::ONE, Form::THREE];
+pub const ALL: &[Form] = &[Form::ONE, Form::TWO, Form::THREE];
 
 impl Form {
     /// The form of 01: "n, the blocks in all, 16 to 1024", "c, 1 to 8".
-    pub const ONE: Form =
-        Form { word: 1, segments: 4, system: 1, least_blocks: 16, most_blocks: 1024, most_contents: 8, most_uics: 64 };
+    pub const ONE: Form = Form {
+        word: 1,
+        segments: 4,
+        system: 1,
+        least_blocks: 16,
+        most_blocks: 1024,
+        most_contents: 8,
+        most_uics: 64,
+        has_map: false,
+    };
+
+    /// The form with a free map (02, §7): "n to 4096 and c to 32, with c + 2 below n", "blocks 0 to c + 1 are system".
+    pub const TWO: Form = Form { word: 2, system: 2, most_blocks: 4096, most_contents: 32, has_map: true, ..Form::ONE };
 
     /// The form of the 64-word disk (02, §11): "form 1 with blocks of 64 words", "at most 60 UICs, c to 32".
     pub const THREE: Form = Form { word: 3, segments: 1, most_contents: 32, most_uics: 60, ..Form::ONE };
@@ -75,6 +88,11 @@ impl Form {
     /// The block at which the bodies begin; all below are the system's.
     pub const fn first_body(&self, contents: usize) -> usize {
         self.system + contents
+    }
+
+    /// The block that is the free map, which is the last of the system's; `None` in a form without one.
+    pub fn map_block(&self, contents: usize) -> Option<usize> {
+        self.has_map.then(|| self.first_body(contents) - 1)
     }
 
     /// Whether n can be so many.

@@ -5,6 +5,7 @@ pub mod consistency;
 pub mod entry;
 pub mod form;
 pub mod header;
+pub mod map;
 pub mod name;
 pub mod owner;
 mod places;

@@ -3,6 +3,7 @@
 use super::{require_protect, File};
 use crate::pack::consistency::{examine, Pack};
 use crate::pack::entry::{Entry, CONTIGUOUS, LINKED, OUTPUT};
+use crate::pack::map;
 use crate::refusal::{require, Refusal};
 
 /// ALLOC: a closed contiguous file large enough for so many segments, "every block it takes all zero" (02 §2); answers its first block.
@@ -27,6 +28,7 @@ pub fn alloc(image: &mut [u8], caller: usize, file: File, protect: usize, segmen
     for number in first..=last {
         form.block_mut(image, number).fill(0);
     }
+    map::renew(image);
     Ok(first)
 }
 

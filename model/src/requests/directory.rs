@@ -3,6 +3,7 @@
 use super::{require_protect, File};
 use crate::pack::consistency::examine;
 use crate::pack::entry::{Entry, EXTENSION, NAME1, NAME2, PROTECT};
+use crate::pack::map;
 use crate::pack::rights::rights;
 use crate::refusal::{require, Refusal};
 use crate::words::set_word;
@@ -33,6 +34,7 @@ pub fn delet(image: &mut [u8], caller: usize, file: File) -> Result<(), Refusal>
     require(rights(caller, &found).delete, Refusal::Right)?;
     require(!found.is_open(), Refusal::Open)?;
     pack.form().entry_mut(image, index).fill(0);
+    map::renew(image);
     Ok(())
 }
 

@@ -2,6 +2,7 @@
 
 use crate::pack::consistency::examine;
 use crate::pack::entry::{self, Entry};
+use crate::pack::map;
 use crate::pack::rights::rights;
 use crate::refusal::Refusal;
 
@@ -22,5 +23,6 @@ pub fn finish(image: &mut [u8], caller: usize) -> Result<usize, Refusal> {
             number += 1;
         }
     }
+    map::renew(image);
     Ok(number)
 }

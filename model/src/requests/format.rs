@@ -1,7 +1,8 @@
-//! Format: "writes blocks 0 to c, bodies untouched".
+//! Format: "writes blocks 0 to c, bodies untouched"; where there is a map (02, §7), that too.
 
 use crate::pack::form::Form;
 use crate::pack::header::{Uics, FIRST_UIC};
+use crate::pack::map;
 use crate::refusal::{require, Refusal};
 use crate::words::set_word;
 
@@ -18,5 +19,6 @@ pub fn format(image: &mut [u8], form: usize, blocks: usize, contents: usize, uic
     set_word(image, 2, contents as u16);
     set_word(image, 3, (uics.len() / 2) as u16);
     image[2 * FIRST_UIC..2 * FIRST_UIC + uics.len()].copy_from_slice(uics);
+    map::renew(image);
     Ok(())
 }

@@ -4,6 +4,7 @@ use super::File;
 use crate::pack::consistency::{examine, Pack};
 use crate::pack::entry::{Entry, EXTEND, FIRST, LAST, LENGTH, LINKED, OUTPUT};
 use crate::pack::form::Form;
+use crate::pack::map;
 use crate::pack::rights::rights;
 use crate::refusal::{require, Refusal};
 use crate::words::set_word;
@@ -29,6 +30,7 @@ pub fn linked_add(image: &mut [u8], caller: usize, file: File, payload: &[u8]) -
     let index = require_writable(image, &pack, caller, &file)?;
     let added = pack.free().next().ok_or(Refusal::NoRoom)?;
     join(pack.form(), image, index, added, payload);
+    map::renew(image);
     Ok(added)
 }
 
@@ -50,7 +52,7 @@ pub(super) fn require_writable(image: &[u8], pack: &Pack, caller: usize, file: &
     Ok(index)
 }
 
-/// Joins a free block with its payload to the end of the linked file of an entry.
+/// Joins a free block with its payload to the end of the linked file of an entry. The map is left to be made anew.
 pub(super) fn join(form: Form, image: &mut [u8], index: usize, added: usize, payload: &[u8]) {
     let found = Entry::read(form.entry(image, index));
     let number = added as u16;

@@ -3,21 +3,32 @@
 use crate::packs::{Seen, UICS};
 use crate::random::Random;
 use crate::wrong::device_block;
+use model::pack::consistency::walk;
 use model::pack::entry::{Entry, CONTIGUOUS};
 use model::pack::form::{Form, ALL};
 use model::pack::header::FIRST_UIC;
+use model::pack::map;
 use model::words::{set_word, word};
 
 /// Damages a consistent pack. Some damage leaves a consistent pack behind, which is then to be taken as one.
 pub fn damage(random: &mut Random, image: &mut Vec<u8>) {
     let seen = Seen::of(image);
+    if seen.form.has_map && random.chance(1, 5) {
+        return damage_map(random, image, &seen);
+    }
     match random.below(20) {
         0..=2 => damage_size(random, image, &seen),
         3 => {
             let from = *seen.form.entry(image, random.below(seen.entries()));
             *seen.form.entry_mut(image, random.below(seen.entries())) = from;
         }
-        4..=8 => damage_blocks(random, image, &seen),
+        4..=8 => {
+            damage_blocks(random, image, &seen);
+            // Where that is all, the files hold other blocks, and only the map says that it was not so.
+            if random.chance(1, 2) && walk(image).is_some() {
+                map::renew(image);
+            }
+        }
         9..=11 => damage_header(random, image, &seen),
         12..=16 => damage_entry(random, image, &seen),
         17 | 18 => damage_word(random, image, seen.form),
@@ -157,7 +168,7 @@ fn damage_header(random: &mut Random, image: &mut [u8], seen: &Seen) {
 fn header_edges(seen: &Seen, at: usize) -> Vec<usize> {
     let Form { system, least_blocks, most_blocks, most_contents, most_uics, .. } = seen.form;
     match at {
-        0 => vec![0, 1, 2, 3, 257],
+        0 => vec![0, 1, 2, 3, 4, 257, 258],
         1 => vec![0, least_blocks - 1, least_blocks, most_blocks, most_blocks + 1],
         2 => {
             let most = seen.blocks - system;
@@ -191,6 +202,28 @@ fn damage_entry(random: &mut Random, image: &mut [u8], seen: &Seen) {
         _ => random.pick(edges),
     };
     set_word(bytes, at, value);
+}
+
+/// Turns over a bit of the map, or a few, mostly of blocks at the edges of what they mean; or writes a word of it.
+fn damage_map(random: &mut Random, image: &mut [u8], seen: &Seen) {
+    let number = seen.form.map_block(seen.contents).expect("the form has a map");
+    let (bodies, bits) = (seen.bodies(), 8 * seen.form.block_bytes());
+    let edges = [0, 1, 15, 16, number, bodies.start, bodies.end - 1, bodies.end, bodies.end + 1, bits - 1];
+    for _ in 0..random.pick(&[1, 1, 1, 2, 3]) {
+        let block = match random.below(4) {
+            0 => random.pick(&edges) % bits,
+            1 => random.below(bits),
+            // From n up.
+            2 => (bodies.end + random.below(40)) % bits,
+            _ => random.below(seen.blocks),
+        };
+        let map = seen.form.block_mut(image, number);
+        if random.chance(1, 8) {
+            set_word(map, block / 16, random.number() as u16);
+        } else {
+            map::set(map, block, !map::bit(map, block));
+        }
+    }
 }
 
 /// Changes a word anywhere, mostly a link or what would be one.

@@ -74,15 +74,17 @@ fn format(random: &mut Random) -> (Numbers, Vec<u8>) {
         form.most_blocks,
         form.most_blocks + 1,
         blocks + 1,
+        // At the bound of some form.
+        random.pick(ALL).most_blocks,
         blocks + 65536,
         // So that the bytes of all blocks would be as many as there are.
         blocks + (1 << 57),
     ];
-    let most = form.most_contents;
+    let (most, other) = (form.most_contents, random.pick(ALL).most_contents);
     let (word, blocks, contents) = match random.below(12) {
         0 => (random.pick(&[0, 1, 2, 3, 4, word + 65536]), blocks, contents),
         1 => (word, random.pick(&edges), contents),
-        2 => (word, blocks, random.pick(&[0, most + 1, most + 2, blocks - form.system, 65537, usize::MAX])),
+        2 => (word, blocks, random.pick(&[0, most + 1, most + 2, other, blocks - form.system, 65537, usize::MAX])),
         _ => (word, blocks, contents),
     };
     (Numbers::Format { form: word, blocks, contents }, format_uics(random, form))

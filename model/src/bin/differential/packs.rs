@@ -6,6 +6,7 @@ use model::conversions::radpk;
 use model::pack::entry::{self, Entry, CONTIGUOUS, EXTEND, LINKED, OUTPUT, UPDATE};
 use model::pack::form::{Form, ALL, LEAST_CONTENTS};
 use model::pack::header::FIRST_UIC;
+use model::pack::map;
 use model::words::{set_word, word};
 use std::ops::Range;
 
@@ -52,7 +53,7 @@ impl Seen {
         self.form.first_body(self.contents)..self.blocks
     }
 
-    /// How many blocks are free: "c + 1, the stored lengths and the free blocks .. add to n".
+    /// How many blocks are free: "c + 1, the stored lengths and the free blocks .. add to n", and with a map c + 2.
     pub fn free(&self) -> usize {
         self.bodies().len() - self.files.iter().map(|file| file.length as usize).sum::<usize>()
     }
@@ -114,15 +115,24 @@ pub fn consistent(random: &mut Random) -> Vec<u8> {
     for (index, &uic) in uics.iter().enumerate() {
         set_word(&mut image, FIRST_UIC + index, uic);
     }
-    if !uics.is_empty() {
-        let empty = Seen::of(&image);
-        files(random, &mut image, &empty);
-    }
+    let empty = Seen::of(&image);
+    let free = if uics.is_empty() { empty.bodies().collect() } else { files(random, &mut image, &empty) };
+    write_map(&mut image, &empty, &free);
     image
 }
 
-/// Fills the contents of a pack: from no file to as many as there are entries, and sometimes so that no block is free.
-fn files(random: &mut Random, image: &mut [u8], empty: &Seen) {
+/// The map of a form that has one, by what was left free (02, §7).
+fn write_map(image: &mut [u8], empty: &Seen, free: &[usize]) {
+    if let Some(number) = empty.form.map_block(empty.contents) {
+        let map = empty.form.block_mut(image, number);
+        (0..empty.blocks).for_each(|block| map::set(map, block, true));
+        free.iter().for_each(|&block| map::set(map, block, false));
+    }
+}
+
+/// Fills the contents of a pack: from no file to as many as there are entries, and sometimes so that no block is free. Gives
+/// the blocks that are left.
+fn files(random: &mut Random, image: &mut [u8], empty: &Seen) -> Vec<usize> {
     let entries = empty.entries();
     let used = match random.below(8) {
         0 => 0,
@@ -149,6 +159,7 @@ fn files(random: &mut Random, image: &mut [u8], empty: &Seen) {
         };
         file(random, name, uic, kind, &held).write(empty.form.entry_mut(image, slot));
     }
+    free
 }
 
 /// A file of some blocks.

@@ -6,12 +6,15 @@ use crate::random::Random;
 use model::boundary;
 use model::pack::consistency::examine;
 use model::pack::form::{Form, ALL};
-use model::report::{report, RULES};
+use model::report::{report, MAP, RULES};
+use model::words::word;
 
 #[derive(Default)]
 pub struct Reports {
     /// By form, in the order of all, and rule.
     rules: [[usize; RULES]; ALL.len()],
+    /// Faults of a map of which the lowest is that of no block.
+    behind: usize,
 }
 
 impl Reports {
@@ -43,6 +46,7 @@ impl Reports {
         }
         let index = ALL.iter().position(|&other| other == form).expect("it was drawn from all");
         self.rules[index][model.rule] += 1;
+        self.behind += (model.rule == MAP && model.block >= word(image, 1) as usize) as usize;
         Ok(())
     }
 
@@ -54,14 +58,16 @@ impl Reports {
             }
             println!();
         }
+        println!("{:19}  of maps from n up: {}", "", self.behind);
     }
 
-    /// The rules that were never told of a pack of a form.
+    /// The rules that were never told of a pack of a form that has them.
     pub fn missed(&self) -> Vec<String> {
         let of_form = |(form, rules): (&Form, &[usize; RULES])| {
-            let never = (0..RULES).filter(|&rule| rules[rule] == 0);
+            let never = (0..RULES).filter(|&rule| rules[rule] == 0 && (rule != MAP || form.has_map));
             never.map(|rule| format!("rule {rule} of a report in form {}", form.word)).collect::<Vec<_>>()
         };
-        ALL.iter().zip(&self.rules).flat_map(of_form).collect()
+        let behind = (self.behind == 0).then(|| String::from("a fault of a map from n up"));
+        ALL.iter().zip(&self.rules).flat_map(of_form).chain(behind).collect()
     }
 }

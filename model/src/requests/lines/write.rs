@@ -2,6 +2,7 @@
 
 use super::{is_terminator, Mode, FORM_FEED, INVALID_LINE, NUL, RUBOUT, TAB};
 use crate::pack::consistency::{examine, Pack};
+use crate::pack::map;
 use crate::refusal::{require, Refusal};
 use crate::requests::linked::{join, require_writable};
 use crate::requests::File;
@@ -40,6 +41,7 @@ pub fn line_write(
     require(pack.free().take(full).count() == full, Refusal::NoRoom)?;
 
     let filled = write_all(image, &pack, index, taken, gather, filled);
+    map::renew(image);
     // "both return the count taken, and bit 0 says that its last character was none, or that it is 0."
     let terminated = taken.last().is_some_and(|&character| is_terminator(character));
     Ok(Written { count: taken.len(), status: if terminated { 0 } else { INVALID_LINE }, filled })
@@ -57,6 +59,7 @@ pub fn line_end(image: &mut [u8], caller: usize, file: File, gather: &mut [u8], 
     let added = pack.free().next().ok_or(Refusal::NoRoom)?;
     gather[filled..].fill(NUL);
     join(pack.form(), image, index, added, gather);
+    map::renew(image);
     Ok(())
 }
 
