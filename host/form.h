@@ -8,6 +8,7 @@
 
 #include "abezolit.h"
 
+#include <stdbool.h>
 #include <stddef.h>
 #include <stdint.h>
 
@@ -18,12 +19,14 @@ typedef struct {
     size_t blocks_least, blocks_most;     /* of a pack */
     size_t contents_least, contents_most; /* blocks of contents */
     size_t uics_most;
-    size_t system; /* blocks that are neither contents nor bodies: the header */
+    size_t system; /* blocks that are neither contents nor bodies: the header, and a free map */
 } pack_form;
 
 static const pack_form forms[] = {
     { ABZ_FORM, ABZ_BLOCK_BYTES, ABZ_PAYLOAD_BYTES, ABZ_BLOCK_SEGMENTS, ABZ_BLOCK_ENTRIES, ABZ_BLOCKS_LEAST,
       ABZ_BLOCKS_MOST, ABZ_CONTENTS_LEAST, ABZ_CONTENTS_MOST, ABZ_UICS_MOST, 1 },
+    { ABZ_FORM_2, ABZ_BLOCK_BYTES, ABZ_PAYLOAD_BYTES, ABZ_BLOCK_SEGMENTS, ABZ_BLOCK_ENTRIES, ABZ_BLOCKS_LEAST,
+      ABZ_BLOCKS_MOST_2, ABZ_CONTENTS_LEAST, ABZ_CONTENTS_MOST_2, ABZ_UICS_MOST, 2 },
     { ABZ_FORM_3, ABZ_BLOCK_BYTES_3, ABZ_PAYLOAD_BYTES_3, ABZ_BLOCK_SEGMENTS_3, ABZ_BLOCK_ENTRIES_3, ABZ_BLOCKS_LEAST,
       ABZ_BLOCKS_MOST, ABZ_CONTENTS_LEAST, ABZ_CONTENTS_MOST_3, ABZ_UICS_MOST_3, 1 },
 };
@@ -34,9 +37,9 @@ enum { FORMS = sizeof forms / sizeof *forms };
 enum {
     BLOCK_MOST   = ABZ_BLOCK_BYTES,
     PAYLOAD_MOST = ABZ_PAYLOAD_BYTES,
-    BLOCKS_MOST  = ABZ_BLOCKS_MOST,
-    IMAGE_MOST   = ABZ_BLOCK_BYTES * ABZ_BLOCKS_MOST,     /* bytes of a pack */
-    ENTRIES_MOST = ABZ_BLOCK_ENTRIES * ABZ_CONTENTS_MOST, /* of a pack */
+    BLOCKS_MOST  = ABZ_BLOCKS_MOST_2,
+    IMAGE_MOST   = ABZ_BLOCK_BYTES * ABZ_BLOCKS_MOST_2,     /* bytes of a pack */
+    ENTRIES_MOST = ABZ_BLOCK_ENTRIES * ABZ_CONTENTS_MOST_2, /* of a pack */
     UICS_MOST    = ABZ_UICS_MOST
 };
 
@@ -61,6 +64,17 @@ static inline const pack_form *form_of(const uint8_t *image)
 static inline size_t first_body(const pack_form *form, size_t contents)
 {
     return form->system + contents;
+}
+
+/* Whether a pack has a free map, and the block that it is, behind so many blocks of contents. */
+static inline bool has_map(const pack_form *form)
+{
+    return form->system == 2;
+}
+
+static inline size_t map_block(size_t contents)
+{
+    return contents + 1;
 }
 
 #endif

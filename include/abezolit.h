@@ -113,18 +113,20 @@ size_t abz_bin2o(size_t number, uint8_t *chars, size_t chars_len);
  * measures, whoever calls; that of a new pack is an argument of abz_format. Where a block's bytes, a payload's bytes or
  * a bound is told of below, those of the image's form are meant:
  *
- *   form                             1            3
- *   bytes of a block                 512          128
- *   bytes of a payload               510          126          a block's but for its link, in a linked file; a gather
- *                                                              buffer's
- *   segments of a block              4            1            of 64 words; ALLOC counts in them
- *   entries of a block of contents   16           4
- *   n, blocks                        16 to 1024   16 to 1024
- *   c, blocks of contents            1 to 8       1 to 32      and c + 1 below n
- *   u, UICs                          0 to 64      0 to 60
- *   first block of the bodies        c + 1        c + 1
+ *   form                             1            2            3
+ *   bytes of a block                 512          512          128
+ *   bytes of a payload               510          510          126          a block's but for its link, in a linked file;
+ *                                                                           a gather buffer's
+ *   segments of a block              4            4            1            of 64 words; ALLOC counts in them
+ *   entries of a block of contents   16           16           4
+ *   n, blocks                        16 to 1024   16 to 4096   16 to 1024
+ *   c, blocks of contents            1 to 8       1 to 32      1 to 32
+ *   u, UICs                          0 to 64      0 to 64      0 to 60
+ *   block of the free map            none         c + 1        none
+ *   first block of the bodies        c + 1        c + 2        c + 1        below n: a body is left
  *
- * Form 3 is that of the 64-word disk. A buffer that has the size of the other form is one of a wrong size.
+ * Form 2 is for larger packs and has a free map; form 3 is that of the 64-word disk. A buffer that has the size of another
+ * form is one of a wrong size.
  *
  * The blocks of an image are:
  *
@@ -143,7 +145,10 @@ size_t abz_bin2o(size_t number, uint8_t *chars, size_t chars_len);
  *                     9         writer: 0 none, 1 open for update, 2 for output, 3 for extension
  *                     10        readers, how many
  *                     11 to 15  0
- *   c + 1 to n-1  the bodies, each free or of one file. A contiguous file has all blocks from its first to its last,
+ *   c + 1         in form 2 the free map: block b is bit b % 16 of its word b / 16. The bit is 1 for each block that is
+ *                 the system's (0 to c + 1) or a file's, and 0 for each that is free and for every number from n up to
+ *                 the end of the map, 4095.
+ *   up to n - 1   the bodies, each free or of one file. A contiguous file has all blocks from its first to its last,
  *                 and all their bytes. A linked file is a chain: word 0 of each block is the number of the next, 0 in
  *                 the last, and the payload, all bytes behind it, is the file's. One with no block has words 6, 7 and
  *                 8 all 0.
@@ -188,6 +193,13 @@ enum {
     ABZ_UICS_MOST      = 64
 };
 
+/* Those of form 2 that are others. */
+enum {
+    ABZ_FORM_2          = 2,
+    ABZ_BLOCKS_MOST_2   = 4096,
+    ABZ_CONTENTS_MOST_2 = 32
+};
+
 /* Those of form 3 that are others. */
 enum {
     ABZ_FORM_3           = 3,
@@ -207,11 +219,11 @@ enum {
 
 /*
  * Makes an empty pack of an image, whatever that held: block 0 becomes the header with form, n = blocks, c = contents
- * and the UICs in uics, two bytes each, low byte first; blocks 1 to c become 0. All other blocks are free then, and
- * keep their bytes, so what earlier files had there can still be seen in the image.
- *   ABZ_ARGUMENT  form is neither 1 nor 3; blocks or contents are not within the form's bounds, or no body would be
- *                 left; image_len is not that of so many blocks; uics_len is odd, or of more UICs than the form has; a
- *                 UIC is 0, or is twice in uics.
+ * and the UICs in uics, two bytes each, low byte first; blocks 1 to c become 0; in form 2 block c + 1 becomes the map.
+ * All other blocks are free then, and keep their bytes, so what earlier files had there can still be seen in the image.
+ *   ABZ_ARGUMENT  form is not 1, 2 or 3; blocks or contents are not within the form's bounds, or no body would be left;
+ *                 image_len is not that of so many blocks; uics_len is odd, or of more UICs than the form has; a UIC is
+ *                 0, or is twice in uics.
  */
 size_t abz_format(uint8_t *image, size_t image_len, size_t form, size_t blocks, size_t contents,
                   const uint8_t *uics, size_t uics_len);
@@ -232,7 +244,7 @@ abz_look_answer abz_look(const uint8_t *image, size_t image_len, size_t caller,
 
 /* What a block can be. */
 enum {
-    ABZ_SYSTEM = 0, /* header or contents: 0 to c */
+    ABZ_SYSTEM = 0, /* header, contents or free map: all below the first body */
     ABZ_FREE   = 1, /* a body that no file holds */
     ABZ_HELD   = 2  /* a body that one file holds */
 };
@@ -265,7 +277,8 @@ enum {
     ABZ_RULE_LINK    = 6, /* entry and block, whose link, before the last place, leads to no body */
     ABZ_RULE_LOOP    = 7, /* entry and block, to which a link leads a second time */
     ABZ_RULE_END     = 8, /* entry and block, the last of a chain, whose link is not 0 */
-    ABZ_RULE_SHARED  = 9  /* block, which two files reach, and the entry of the second of them */
+    ABZ_RULE_SHARED  = 9, /* block, which two files reach, and the entry of the second of them */
+    ABZ_RULE_MAP     = 10 /* block, also one from n up, whose bit of the map is wrong: form 2 only */
 };
 
 typedef struct {
@@ -278,7 +291,8 @@ typedef struct {
  * takes the image for consistent. There is no code and no refusal: any bytes of any length get a report, and nothing is
  * written. Looked at are, in this order: the size; the words of block 0 by number; the entries one by one, of each words
  * 0 to 5 (the name with word 3) and 9 to 15 by number, then words 6 to 8 of a contiguous file, or of a linked one word 6,
- * each link in the order of the chain, word 8 and the last link; then, all entries being right, the bodies by number.
+ * each link in the order of the chain, word 8 and the last link; then, all entries being right, the bodies by number; and
+ * last of all in form 2 the bits of the map by block number.
  */
 abz_report_answer abz_report(const uint8_t *image, size_t image_len);
 
@@ -300,7 +314,8 @@ abz_report_answer abz_report(const uint8_t *image, size_t image_len);
  *
  * Each call that follows is one request on one file, or two; Finish is one on the caller's files. It changes what is said
  * at it and nothing else: the other words of that entry, the other entries, the header and all bodies stay, but for a
- * block that is taken: it is cleared first. So the blocks of a file that is deleted keep their bytes until then.
+ * block that is taken: it is cleared first. So the blocks of a file that is deleted keep their bytes until then. In form
+ * 2 the bits of the blocks that are taken are set in the map, and those of blocks that are given up are cleared.
  */
 
 /* How a file can be open: its writer, and for CLOSE also a reader. */
@@ -440,9 +455,9 @@ size_t abz_appnd(uint8_t *image, size_t image_len, size_t caller,
  *   ABZ_NO_ROOM       ALLOC only: nowhere are so many blocks free in a row.
  *
  * ALLOC makes a contiguous file that is closed and large enough for so many segments of 64 words: it has as many blocks
- * as have these, segments / 4 rounded up in form 1, and segments in form 3; any number may be asked for. Of all places
- * where so many blocks are free in a row, it gets the one that starts highest; number is its first block. Every byte of
- * the blocks is then 0, whatever they held.
+ * as have these, segments / 4 rounded up in forms 1 and 2, and segments in form 3; any number may be asked for. Of all
+ * places where so many blocks are free in a row, it gets the one that starts highest; number is its first block. Every
+ * byte of the blocks is then 0, whatever they held.
  *
  * OPENO makes a linked file that has no block and is open for output: its writer is ABZ_OUTPUT. It needs no free block.
  */

@@ -129,6 +129,7 @@ static void add_examples(void)
     set_field(pack, EMPTY, LAST, small(14));
     memcpy(pack + block * small(14) + 2, filled, payload);
     set_link(pack, small(14), 0);
+    put_map(pack);
     expect_add(length, none, filled, payload, 0, small(14));
     CHECK_BYTES(image, pack, length, "example: linked add, first block");
 
@@ -138,6 +139,7 @@ static void add_examples(void)
     memcpy(pack + block * small(13) + 2, filled, payload);
     set_link(pack, small(13), 0);
     set_link(pack, small(14), small(13));
+    put_map(pack);
     expect_add(length, none, filled, payload, 0, small(13));
     CHECK_BYTES(image, pack, length, "example: linked add, second block");
 

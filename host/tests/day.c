@@ -1,6 +1,7 @@
 /*
  * A station's day, from format to delete. After each call of the library the text of the listing program, and whose
- * each block is, are what is written out here.
+ * each block is, are what is written out here, for a form without a map. Where there is one it is block 2, which is free
+ * all day in the others, and so one block fewer is free.
  */
 #define _POSIX_C_SOURCE 200809L
 
@@ -34,6 +35,18 @@ static const char *part, *whose, *text;
         shows(whose, text);                           \
     } while (0)
 
+/* A text in the form that is tried: the second number in it is that of the free blocks. */
+static const char *text_here(const char *written)
+{
+    static char here[LISTING_ROOM];
+    unsigned blocks_in_all, free_blocks;
+
+    CHECK_NUMBER((size_t)sscanf(written, "BLOCKS %u FREE %u", &blocks_in_all, &free_blocks), 2, "%s: numbers", part);
+    sprintf(here, "BLOCKS %05u FREE %05u", blocks_in_all, free_blocks - has_map(tried));
+    strcat(here, strchr(written, '\n'));
+    return here;
+}
+
 /* For each block in turn: s for the system's, a point if it is free, or the digit of the entry that holds it. */
 static void shows(const char *new_whose, const char *new_text)
 {
@@ -42,10 +55,11 @@ static void shows(const char *new_whose, const char *new_text)
     for (size_t block = 0; block < 16; block++) {
         const abz_owner_answer owner = abz_owner(image, pack, block);
         const size_t letter = owner.kind == ABZ_SYSTEM ? 's' : owner.kind == ABZ_FREE ? '.' : '0' + owner.entry;
+        const bool map = has_map(tried) && block == map_block(1);
         DONE(owner.code);
-        CHECK_NUMBER(letter, (size_t)whose[block], "%s: whose block %zu is", part, block);
+        CHECK_NUMBER(letter, (size_t)(map ? 's' : whose[block]), "%s: whose block %zu is", part, block);
     }
-    try_listing(image, pack, text, part);
+    try_listing(image, pack, text_here(text), part);
 }
 
 /* The nine characters of a name and its extension, as a host makes words of them. */
@@ -326,7 +340,8 @@ static void night(void)
     shows(whose, text);
     DONE(abz_delet(image, pack, ME, FILE4(table)));
     shows("ss..............", "BLOCKS 00016 FREE 00014\n");
-    CHECK_BYTES(image + 2 * tried->block, before + 2 * tried->block, pack - 2 * tried->block, "%s: bodies", part);
+    const size_t bodies = system_bytes(image);
+    CHECK_BYTES(image + bodies, before + bodies, pack - bodies, "%s: bodies", part);
 }
 
 int main(void)

@@ -169,7 +169,7 @@ static void nobody(void)
 /* Contents that are full, with all of the files the caller's, none, or some of them. */
 static void full_contents(void)
 {
-    for (size_t c = tried->contents_least; c <= tried->contents_most; c++)
+    for (size_t c = tried->contents_least; c <= tried->contents_most; c += tried->entries * c < 128 ? 1 : 8)
         for (size_t sort = 0; sort < 6; sort++) {
             const size_t entries = tried->entries * c, first = first_body(tried, c);
             const size_t length = make_pack(image, first + entries + 16, c, users, COUNT(users));
@@ -191,7 +191,8 @@ static void full_contents(void)
 static void by_chance(void)
 {
     for (size_t i = 0; i < 200; i++) {
-        const size_t c = 1 + chance(tried->contents_most), n = first_body(tried, c) + 14 + chance(i % 10 ? 100 : 900);
+        const size_t c = 1 + chance(i % 16 ? contents_like(8) : tried->contents_most);
+        const size_t n = first_body(tried, c) + 14 + chance(i % 10 ? 100 : 900);
         size_t files = chance(tried->entries * c + 1), length;
 
         length = chance_pack(image, n, c, files < 90 ? files : 90);

@@ -85,6 +85,28 @@ static inline void set_link(uint8_t *image, size_t block, size_t next)
     set_word(image, link_word(image, block), next);
 }
 
+/* ---- The free map ---- */
+
+enum { MAP_BITS = 8 * ABZ_BLOCK_BYTES };
+
+/* The bit of a block in the map of a pack: "bit b mod 16 of word b / 16". */
+static inline size_t map_word(const uint8_t *image, size_t block)
+{
+    return link_word(image, map_block(get_word(image, CONTENTS))) + block / 16;
+}
+
+static inline bool get_bit(const uint8_t *image, size_t block)
+{
+    return get_word(image, map_word(image, block)) >> block % 16 & 1;
+}
+
+static inline void turn_bit(uint8_t *image, size_t block)
+{
+    const size_t word = map_word(image, block);
+
+    set_word(image, word, get_word(image, word) ^ (size_t)1 << block % 16);
+}
+
 /* ---- Names ---- */
 
 #define LETTERS_AND_DIGITS "ABCDEFGHIJKLMNOPQRSTUVWXYZ0123456789"
@@ -169,12 +191,11 @@ static inline file_key entry_key(const uint8_t *image, size_t entry)
 /* The first used entry below end that has this key, or end. There is no caller here, for whom UIC 0 could stand. */
 static inline size_t find_below(const uint8_t *image, file_key key, size_t end)
 {
-    for (size_t entry = 0; entry < end; entry++) {
-        file_key there = entry_key(image, entry);
-        if (used(image, entry) && there.name1 == key.name1 && there.name2 == key.name2
-            && there.extension == key.extension && there.uic == key.uic)
+    for (size_t entry = 0; entry < end; entry++)
+        if (get_field(image, entry, NAME1) == key.name1 && get_field(image, entry, NAME2) == key.name2
+            && get_field(image, entry, EXTENSION) == key.extension && get_field(image, entry, UIC) == key.uic
+            && used(image, entry))
             return entry;
-    }
     return end;
 }
 
@@ -263,6 +284,21 @@ static inline bool blocks_right(const uint8_t *image, size_t entry, block_owner 
     return contiguous ? length > 0 : block == 0; /* behind the last; the first itself at length 0 */
 }
 
+/* "1 if system or held, 0 otherwise and for b from n up", word by word of the map. */
+static inline bool map_right(const uint8_t *image, const block_owner *owners)
+{
+    const size_t n = get_word(image, BLOCKS), map = map_word(image, 0);
+
+    for (size_t word = 0; has_map(form_of(image)) && word < MAP_BITS / 16; word++) {
+        size_t due = 0;
+        for (size_t block = 16 * word; block < 16 * word + 16 && block < n; block++)
+            due += (size_t)(owners[block].kind != FREE) << block % 16;
+        if (get_word(image, map + word) != due)
+            return false;
+    }
+    return true;
+}
+
 /* Whether an image is consistent. If so, owners[b] says whose block b is, for every b below n. */
 static inline bool judge(const uint8_t *image, size_t length, block_owner owners[BLOCKS_MOST])
 {
@@ -276,10 +312,33 @@ static inline bool judge(const uint8_t *image, size_t length, block_owner owners
     for (size_t entry = 0; entry < entry_count(image); entry++)
         if (used(image, entry) && !(entry_right(image, entry) && blocks_right(image, entry, owners)))
             return false;
-    return true;
+    return map_right(image, owners);
 }
 
 /* ---- Making packs, right ones and wrong ones: nothing is tested ---- */
+
+/*
+ * Makes the map what the files say, in a form that has one. Where a file leaves the bodies it is followed no further, and
+ * a block of two files is held.
+ */
+static inline void put_map(uint8_t *image)
+{
+    const size_t first = bodies_from(image), end = get_word(image, BLOCKS);
+
+    if (!has_map(form_of(image)))
+        return;
+    memset(image + 2 * map_word(image, 0), 0, form_of(image)->block);
+    for (size_t block = 0; block < first; block++)
+        turn_bit(image, block);
+    for (size_t entry = 0; entry < entry_count(image); entry++) {
+        size_t block = get_field(image, entry, FIRST), left = get_field(image, entry, LENGTH);
+        for (; left > 0 && block >= first && block < end; left--) {
+            if (!get_bit(image, block))
+                turn_bit(image, block);
+            block = get_field(image, entry, KIND) == CONTIGUOUS ? block + 1 : get_link(image, block);
+        }
+    }
+}
 
 /* An empty pack; the bodies keep what they hold. Returns the length of the image. */
 static inline size_t make_form(const pack_form *form, uint8_t *image, size_t n, size_t c, const size_t *uics, size_t u)
@@ -291,6 +350,7 @@ static inline size_t make_form(const pack_form *form, uint8_t *image, size_t n, 
     set_word(image, UICS, u);
     for (size_t i = 0; i < u; i++)
         set_word(image, UIC_LIST + i, uics[i]);
+    put_map(image);
     return form->block * n;
 }
 
@@ -299,7 +359,7 @@ static inline size_t make_pack(uint8_t *image, size_t n, size_t c, const size_t 
     return make_form(tried, image, n, c, uics, u);
 }
 
-/* A closed file with protect code 0; what is to be otherwise is set afterwards. */
+/* A closed file with protect code 0; what is to be otherwise is set afterwards. The map is made right, also with its links. */
 static inline void put_file(uint8_t *image, size_t entry, file_key key, size_t kind, size_t first, size_t length,
                             size_t last)
 {
@@ -312,6 +372,7 @@ static inline void put_file(uint8_t *image, size_t entry, file_key key, size_t k
     set_field(image, entry, FIRST, first);
     set_field(image, entry, LENGTH, length);
     set_field(image, entry, LAST, last);
+    put_map(image);
 }
 
 static inline void put_contiguous(uint8_t *image, size_t entry, file_key key, size_t first, size_t length)
@@ -321,9 +382,9 @@ static inline void put_contiguous(uint8_t *image, size_t entry, file_key key, si
 
 static inline void put_linked(uint8_t *image, size_t entry, file_key key, const size_t *blocks, size_t length)
 {
-    put_file(image, entry, key, LINKED, length ? blocks[0] : 0, length, length ? blocks[length - 1] : 0);
     for (size_t i = 0; i < length; i++)
         set_link(image, blocks[i], i + 1 < length ? blocks[i + 1] : 0);
+    put_file(image, entry, key, LINKED, length ? blocks[0] : 0, length, length ? blocks[length - 1] : 0);
 }
 
 static inline void set_open(uint8_t *image, size_t entry, size_t writer, size_t readers)
@@ -355,6 +416,15 @@ static inline size_t block_like(size_t c, size_t block)
 static inline size_t small(size_t block)
 {
     return block_like(1, block);
+}
+
+/*
+ * Whether a pack of the form that is tried is one also where word 0 is this number: only its own; but what is right in
+ * form 2 and not too large is right in form 1, where the block of the map is a free one.
+ */
+static inline bool right_as(size_t number)
+{
+    return number == tried->number || (number == ABZ_FORM && has_map(tried));
 }
 
 enum { SMALL_ROOM = 24 * BLOCK_MOST };
@@ -430,13 +500,14 @@ static inline void chance_fields(uint8_t *image, const size_t *free, size_t coun
 static inline size_t chance_pack(uint8_t *image, size_t n, size_t c, size_t files)
 {
     const size_t entries = tried->entries * c, step = entries % 13 ? 13 : 11; /* which comes to every entry */
+    const size_t least = 2 + files / 48; /* UICs, so that there are twice as many keys as files */
     size_t uics[UICS_MOST], rest[BLOCKS_MOST], count = 0, next = first_body(tried, c);
 
     chance_bytes(image, tried->block * n);
     uics[0] = 65535;
     for (size_t i = 1; i < tried->uics_most; i++)
         uics[i] = 100 * i + chance(100);
-    make_pack(image, n, c, uics, 2 + chance(tried->uics_most - 1));
+    make_pack(image, n, c, uics, least + chance(tried->uics_most + 1 - least));
 
     for (size_t entry = chance(entries); files > 0; files--) {
         size_t gap = chance(3), length = 1 + chance(5);

@@ -604,7 +604,7 @@ static void damaged_packs(void)
     }
 }
 
-/* A pack whose word 0 is another number, of no form or of another one: 40, whatever is asked. */
+/* A pack whose word 0 is another number, of no form or of one that it is not of: 40, whatever is asked. */
 static void other_form_words(void)
 {
     static uint8_t sound[SMALL_ROOM];
@@ -617,7 +617,7 @@ static void other_form_words(void)
             memcpy(image, sound, length);
             set_word(image, FORM, form_words[i]);
             const size_t code = try_line("form", form_words[i], length, it).code;
-            CHECK_NUMBER(code == 040, form_words[i] != tried->number, "%s: form %zu for form %zu", call_names[what],
+            CHECK_NUMBER(code != 040, right_as(form_words[i]), "%s: form %zu for form %zu", call_names[what],
                          form_words[i], tried->number);
         }
 }

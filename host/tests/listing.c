@@ -59,18 +59,21 @@ static void build_example(void)
 static void example(void)
 {
     build_example();
-    try_image("BLOCKS 00016 FREE 00011\n"
-              "FREQ  .DAT C 00003 [023,010] 003\n",
+    try_image(has_map(tried) ? "BLOCKS 00016 FREE 00010\n"
+                               "FREQ  .DAT C 00003 [023,010] 003\n"
+                             : "BLOCKS 00016 FREE 00011\n"
+                               "FREQ  .DAT C 00003 [023,010] 003\n",
               "example");
 }
 
 static void empty_pack(void)
 {
     format(16, 1, 0, NULL);
-    try_image("BLOCKS 00016 FREE 00014\n", "empty pack");
+    try_image(has_map(tried) ? "BLOCKS 00016 FREE 00013\n" : "BLOCKS 00016 FREE 00014\n", "empty pack");
 
     format(100, 8, 2, (size_t[]){ uic(1, 0), uic(0, 1) });
-    try_image("BLOCKS 00100 FREE 00091\n", "empty pack of 8 blocks of contents");
+    try_image(has_map(tried) ? "BLOCKS 00100 FREE 00090\n" : "BLOCKS 00100 FREE 00091\n",
+              "empty pack of 8 blocks of contents");
 }
 
 /* A block of the mixed pack, as form 1 numbers it. */
@@ -149,11 +152,16 @@ static void damaged(void)
         set_word(image, changes[i].word, changes[i].value);
         try_image(REFUSED, changes[i].rule);
     }
+    for (size_t block = 0; has_map(tried) && block < MAP_BITS; block += block < at(20) ? 1 : MAP_BITS - 1 - at(20)) {
+        build_mixed();
+        turn_bit(image, block);
+        try_image(REFUSED, "a bit of the map");
+    }
 #undef LINK
 #undef ENTRY
 }
 
-/* Another number in word 0: of no form, or of one with other measures. */
+/* Another number in word 0: of no form, or of one that the pack is not of. */
 static void other_forms(void)
 {
     for (size_t i = 0; i < FORM_WORDS; i++) {
@@ -162,7 +170,7 @@ static void other_forms(void)
         build_mixed();
         set_word(image, FORM, form_words[i]);
         sprintf(name, "form %zu for form %zu", form_words[i], tried->number);
-        if (form_words[i] != tried->number)
+        if (!right_as(form_words[i]))
             try_image(REFUSED, name);
     }
 }
@@ -186,21 +194,21 @@ static void other_lengths(void)
 }
 
 /*
- * Each entry of the most blocks of contents has a file, so that the text is as long as it can be. Of the blocks as many
- * are taken, from 0 on.
+ * Each entry of the most blocks of contents has a file, so that the text is as long as it can be. Of the blocks 128 are
+ * taken, from 0 on.
  */
 static void build_largest(size_t blocks, char *text)
 {
-    const size_t files = tried->entries * tried->contents_most, held = files - first_body(tried, tried->contents_most);
+    const size_t files = tried->entries * tried->contents_most, held = 128 - first_body(tried, tried->contents_most);
 
     format(blocks, tried->contents_most, 1, (size_t[]){ uic(2, 3) });
-    text += sprintf(text, "BLOCKS %05zu FREE %05zu\n", blocks, blocks - files);
+    text += sprintf(text, "BLOCKS %05zu FREE %05zu\n", blocks, blocks - 128);
     for (size_t e = 0; e < files; e++) {
         char name[32];
 
         sprintf(name, "N%05zuEXT", e);
         if (e < held) {
-            set_contiguous(e, name, uic(2, 3), 0, files - 1 - e, 1);
+            set_contiguous(e, name, uic(2, 3), 0, 128 - 1 - e, 1);
             text += sprintf(text, "%.6s.EXT C 00001 [002,003] 000\n", name);
         } else {
             set_linked(e, name, uic(2, 3), 0, NULL, 0);
@@ -218,7 +226,7 @@ static void largest(void)
 
     build_largest(blocks, text);
     CHECK_NUMBER(length, LONGEST, "largest: length");
-    CHECK_NUMBER(strlen(text), 24 + 128 * 33, "largest: length of the text");
+    CHECK_NUMBER(strlen(text), 24 + (has_map(tried) ? 512 : 128) * 33, "largest: length of the text");
     try_image(text, "largest");
     try_command(parts, text, "largest, from a pipe");
 

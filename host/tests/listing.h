@@ -11,7 +11,7 @@
 #define LISTING "$EMULATOR target/bin/listing"
 #define LISTED "target/host/listed.image"
 
-enum { LISTING_ROOM = 8192 }; /* more than any listing needs */
+enum { LISTING_ROOM = 20480 }; /* more than any listing needs: form 2 has up to 512 files */
 
 /* What a command writes is the text, all of it and nothing else, and the command's status is 0. */
 static inline void try_command(const char *command, const char *text, const char *name)

@@ -250,7 +250,7 @@ static void fill_uics(size_t count)
         set_word(uics, i, 65535 - 1021 * i); /* distinct up to 65536 of them; 0 is none of the first 66 */
 }
 
-/* After Format: a consistent pack, of which all behind the contents is free. */
+/* After Format: a consistent pack, of which every body is free. */
 static void try_formatted(size_t length, size_t contents)
 {
     static block_owner owners[BLOCKS_MOST];
@@ -268,10 +268,10 @@ static void try_formatted(size_t length, size_t contents)
 
 static void format_sizes(void)
 {
-    const size_t block = tried->block, form = tried->number;
+    const size_t block = tried->block, form = tried->number, most = tried->blocks_most;
 
     fill_uics(66);
-    for (size_t n = 0; n <= tried->blocks_most + 6; n++) {
+    for (size_t n = 0; n <= most + 6; n += n < 1030 || n > most - 3 ? 1 : 211) {
         size_t contents = 1 + n % tried->contents_most, uics_len = 2 * (n % (tried->uics_most + 1)), right = block * n;
         size_t wrong[] = { 0, n, right - 1, right + 1, right - block, right + block, right / 2, right % 65536 };
 
@@ -332,7 +332,7 @@ static void format_uics(void)
     }
 }
 
-/* The bounds of the 64-word disk, written out; the sizes of the other one; and forms that are not there. */
+/* The bounds of forms 2 and 3, written out; sizes of another form; and forms that are not there. */
 static void format_examples(void)
 {
     static const struct {
@@ -345,9 +345,19 @@ static void format_examples(void)
         { 128 * 64, 3, 64, 0, 2, 041 },     { 128 * 16, 3, 16, 15, 2, 041 },    { 128 * 33, 3, 33, 32, 2, 041 },
         { 128 * 16, 3, 16, 1, 122, 041 },   { 128 * 16, 3, 16, 1, 1, 041 },     { 128 * 16, 3, 16, 1, 119, 041 },
         { 128 * 16 + 1, 3, 16, 1, 2, 041 }, { 128 * 16 - 1, 3, 16, 1, 2, 041 }, { 512 * 16, 3, 16, 1, 2, 041 },
-        { 128 * 16, 1, 16, 1, 2, 041 },     { 128 * 64, 1, 64, 1, 2, 041 },     { 512 * 64, 1, 64, 9, 2, 041 },
-        { 512 * 16, 0, 16, 1, 2, 041 },     { 512 * 16, 2, 16, 1, 2, 041 },     { 128 * 16, 2, 16, 1, 2, 041 },
+
+        { 512 * 16, 2, 16, 1, 2, 0 },       { 512 * 16, 2, 16, 13, 0, 0 },      { 512 * 35, 2, 35, 32, 128, 0 },
+        { 512 * 4096, 2, 4096, 32, 128, 0 }, { 512 * 4096, 2, 4096, 1, 2, 0 },  { 512 * 1025, 2, 1025, 9, 2, 0 },
+
+        { 512 * 15, 2, 15, 1, 2, 041 },     { 512 * 4097, 2, 4097, 1, 2, 041 }, { 512 * 64, 2, 64, 33, 2, 041 },
+        { 512 * 64, 2, 64, 0, 2, 041 },     { 512 * 16, 2, 16, 14, 2, 041 },    { 512 * 34, 2, 34, 32, 2, 041 },
+        { 512 * 16, 2, 16, 1, 130, 041 },   { 512 * 16, 2, 16, 1, 1, 041 },     { 512 * 16, 2, 17, 1, 2, 041 },
+        { 512 * 16 + 1, 2, 16, 1, 2, 041 }, { 512 * 16 - 1, 2, 16, 1, 2, 041 }, { 128 * 16, 2, 16, 1, 2, 041 },
+
+        { 512 * 1025, 1, 1025, 1, 2, 041 }, { 512 * 4096, 1, 4096, 1, 2, 041 }, { 512 * 64, 1, 64, 9, 2, 041 },
+        { 128 * 16, 1, 16, 1, 2, 041 },     { 128 * 64, 1, 64, 1, 2, 041 },     { 512 * 16, 0, 16, 1, 2, 041 },
         { 512 * 16, 4, 16, 1, 2, 041 },     { 128 * 16, 4, 16, 1, 2, 041 },     { 128 * 16, 259, 16, 1, 2, 041 },
+        { 512 * 16, 258, 16, 1, 2, 041 },
     };
 
     fill_uics(66);
@@ -548,7 +558,7 @@ static void full_packs(void)
 {
     size_t list[BLOCKS_MOST], length;
 
-    for (size_t n = tried->blocks_least; n <= tried->blocks_most; n += 252) {
+    for (size_t n = tried->blocks_least; n <= tried->blocks_most; n += (tried->blocks_most - tried->blocks_least) / 4) {
         const size_t c = n / 252 + 1, first = first_body(tried, c), bodies = n - first;
         for (size_t i = 0; i < bodies; i++)
             list[i] = first + i;
@@ -741,14 +751,14 @@ static void known_files(void)
     }
 }
 
-/* A pack of each form with another number in word 0: of none, or of one whose measures are others. */
+/* A pack of each form with another number in word 0: of none, or of one that it is not of. */
 static void other_forms(void)
 {
     for (size_t i = 0; i < FORM_WORDS; i++) {
         const size_t length = make_small();
         set_word(image, FORM, form_words[i]);
         call_it("small pack of form", form_words[i]);
-        expect_image(length, form_words[i] == tried->number);
+        expect_image(length, right_as(form_words[i]));
     }
 }
 
@@ -773,6 +783,29 @@ static void word_changes(void)
             set_word(image, word, old ^ bit);
             try_verdict(length, owners);
         }
+    }
+}
+
+/* Each bit of the map of the small pack, also of those from n up, and of one without files; and all of them at once. */
+static void map_bits(void)
+{
+    if (!has_map(tried))
+        return;
+    for (size_t pack = 0; pack < 2; pack++) {
+        const size_t length = pack ? make_pack(image, 16, 13, NULL, 0) : make_small();
+        for (size_t block = 0; block < MAP_BITS; block++) {
+            call_it("bit of the map", block);
+            turn_bit(image, block);
+            expect_verdict(length, false);
+            turn_bit(image, block);
+        }
+        call_it("bits put right", pack);
+        expect_image(length, true);
+        call_it("map all 0, then all 1", pack);
+        memset(image + 2 * map_word(image, 0), 0, tried->block);
+        expect_verdict(length, false);
+        memset(image + 2 * map_word(image, 0), 0xFF, tried->block);
+        expect_verdict(length, false);
     }
 }
 
@@ -1057,6 +1090,11 @@ static void damaged_packs(void)
             pick_files();
             damages[i / TIMES].damage();
             call_it(damages[i / TIMES].name, pack);
+            if (has_map(tried)) { /* which most damage leaves wrong; then it is made right, so that it is not what is seen */
+                try_image(damaged_len);
+                if (header_right(image, damaged_len))
+                    put_map(image);
+            }
             refused[i / TIMES] += !try_image(damaged_len);
         }
     }
@@ -1076,7 +1114,7 @@ static void large_packs(void)
     }
 }
 
-/* The measures that the header names are the numbers of document 01, and of 02 §11. */
+/* The measures that the header names are the numbers of document 01, and of 02 §7 and §11. */
 static void header_numbers(void)
 {
     static const struct {
@@ -1085,6 +1123,8 @@ static void header_numbers(void)
         { ABZ_FORM, 1 },           { ABZ_BLOCK_BYTES, 512 },   { ABZ_PAYLOAD_BYTES, 510 }, { ABZ_BLOCK_SEGMENTS, 4 },
         { ABZ_BLOCKS_LEAST, 16 },  { ABZ_BLOCKS_MOST, 1024 },  { ABZ_CONTENTS_LEAST, 1 },  { ABZ_CONTENTS_MOST, 8 },
         { ABZ_BLOCK_ENTRIES, 16 }, { ABZ_ENTRY_BYTES, 32 },    { ABZ_UICS_MOST, 64 },
+
+        { ABZ_FORM_2, 2 },            { ABZ_BLOCKS_MOST_2, 4096 },  { ABZ_CONTENTS_MOST_2, 32 },
 
         { ABZ_FORM_3, 3 },            { ABZ_BLOCK_BYTES_3, 128 },   { ABZ_PAYLOAD_BYTES_3, 126 },
         { ABZ_BLOCK_SEGMENTS_3, 1 },  { ABZ_CONTENTS_MOST_3, 32 },  { ABZ_BLOCK_ENTRIES_3, 4 },
@@ -1100,6 +1140,7 @@ static void form_numbers(void)
 {
     static const pack_form numbers[] = {
         { 1, 512, 510, 4, 16, 16, 1024, 1, 8, 64, 1 },
+        { 2, 512, 510, 4, 16, 16, 4096, 1, 32, 64, 2 },
         { 3, 128, 126, 1, 4, 16, 1024, 1, 32, 60, 1 },
     };
 
@@ -1115,7 +1156,7 @@ static void form_numbers(void)
                      true, "the most of form %zu", form->number);
     }
     for (size_t number = 0; number <= 4; number++)
-        CHECK_NUMBER(form_numbered(number) != NULL, number == 1 || number == 3, "whether there is form %zu", number);
+        CHECK_NUMBER(form_numbered(number) != NULL, number >= 1 && number <= 3, "whether there is form %zu", number);
 }
 
 int main(void)
@@ -1143,6 +1184,7 @@ int main(void)
         known_files();
         other_forms();
         word_changes();
+        map_bits();
         damaged_packs();
         large_packs();
     }

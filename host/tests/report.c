@@ -1,7 +1,7 @@
 /*
  * The report on an image, from outside: each rule with what it names, every word of header and entries broken in turn,
- * two faults at once in both orders, images cut short, loops, and blocks of several files. Each answer is held to the
- * judgement of report.h, and most to one that is written out here; LOOK refuses with 40 wherever a fault is told.
+ * two faults at once in both orders, images cut short, loops, blocks of several files, and maps. Each answer is held to
+ * the judgement of report.h, and most to one that is written out here; LOOK refuses with 40 wherever a fault is told.
  */
 #include "abezolit.h"
 
@@ -9,13 +9,13 @@
 #include "image.h"
 #include "report.h"
 
-enum { GUARD = 16, ROOM = IMAGE_MOST, ME = 023 * 256 + 010, OTHER = 012 * 256 + 04, N = 32 };
+enum { GUARD = 16, ROOM = IMAGE_MOST + BLOCK_MOST, RULES = 11, ME = 023 * 256 + 010, OTHER = 012 * 256 + 04, N = 32 };
 
 /* The image is lent with bytes around it, which are looked after. */
 static uint8_t lent[GUARD + ROOM + GUARD], kept[sizeof lent];
 static uint8_t *const image = lent + GUARD;
 
-static size_t rules_seen[10];
+static size_t rules_seen[RULES];
 
 static void check_answer(abz_report_answer answer, abz_report_answer expected, const char *name)
 {
@@ -40,7 +40,7 @@ static abz_report_answer try_report(size_t length, const char *name)
     CHECK_BYTES(lent, kept, GUARD + length + GUARD, "%s: bytes", name);
     CHECK_NUMBER(answer.rule == 0, judge(image, length, owners), "%s: consistent", name);
     CHECK_NUMBER(abz_look(image, length, ME, 1600, 0, 0, 0).code == ABZ_INCONSISTENT, answer.rule != 0, "%s: LOOK", name);
-    if (answer.rule < 10)
+    if (answer.rule < RULES)
         rules_seen[answer.rule]++;
     return answer;
 }
@@ -158,13 +158,16 @@ static void try_contents(void)
         }
 }
 
-/* The size by the form that word 0 names, written out: of one length a pack of one form, and none of the other. */
+/* The size and the bound of n by the form that word 0 names, written out: of one length a pack of one form, and none of the other. */
 static void try_forms(void)
 {
     static const struct { size_t form, blocks, length, rule, word; } images[] = {
         { 1, 16, 8192, 0, 0 }, { 1, 64, 8192, 1, 0 }, { 3, 64, 8192, 0, 0 }, { 3, 16, 8192, 1, 0 }, { 3, 16, 2048, 0, 0 },
-        { 1, 16, 2048, 1, 0 }, { 0, 16, 8192, 2, 0 }, { 2, 16, 8192, 2, 0 }, { 2, 64, 8192, 1, 0 }, { 4, 16, 8192, 2, 0 },
+        { 1, 16, 2048, 1, 0 }, { 0, 16, 8192, 2, 0 }, { 2, 64, 8192, 1, 0 }, { 2, 16, 2048, 1, 0 }, { 4, 16, 8192, 2, 0 },
         { 4, 16, 2048, 1, 0 }, { 259, 64, 8192, 1, 0 }, { 3, 15, 1920, 2, 1 }, { 3, 1025, 131200, 2, 1 },
+        { 1, 15, 7680, 2, 1 }, { 1, 1025, 524800, 2, 1 }, { 2, 15, 7680, 2, 1 }, { 2, 4097, 2097664, 2, 1 },
+        /* of form 2 all is right but for the map, in which block 0 is free */
+        { 2, 16, 8192, 10, 0 }, { 2, 1025, 524800, 10, 0 }, { 2, 4096, 2097152, 10, 0 },
     };
 
     for (size_t i = 0; i < sizeof images / sizeof *images; i++) {
@@ -348,6 +351,57 @@ static void try_two(void)
     expect(length, 5, 1, FIRST, 0, "word 6 before all else of a chain");
 }
 
+/* The map alone is wrong: told is the lowest such block, also from n up; and a map that is wrong behind all other rules. */
+static void try_map(void)
+{
+    const size_t length = sample(), some[] = { 0, 1, 2, 3, at(3), 15, 16, at(20), at(N) - 1, at(N), at(N) + 1, 4095 };
+    const size_t count = sizeof some / sizeof *some;
+
+    if (!has_map(tried))
+        return;
+    for (size_t block = 0; block < MAP_BITS; block++) {
+        turn_bit(image, block);
+        check_answer(try_report(length, "one bit"), told(10, 0, 0, block), "one bit");
+        turn_bit(image, block);
+    }
+    for (size_t i = 0; i < count; i++)
+        for (size_t j = 0; j < count; j++)
+            if (some[i] < some[j]) {
+                turn_bit(image, some[i]), turn_bit(image, some[j]);
+                check_answer(try_report(length, "two bits"), told(10, 0, 0, some[i]), "two bits");
+                turn_bit(image, some[i]), turn_bit(image, some[j]);
+            }
+    expect(length, 0, 0, 0, 0, "all bits put right");
+
+    /* All of them, and put right from below. */
+    for (size_t block = 0; block < MAP_BITS; block++)
+        turn_bit(image, block);
+    for (size_t block = 0; block < MAP_BITS; block++) {
+        check_answer(try_report(length, "bits from here on"), told(10, 0, 0, block), "bits from here on");
+        turn_bit(image, block);
+    }
+    expect(length, 0, 0, 0, 0, "all bits put right again");
+
+    /* A file that goes leaves its bits; one that comes has none. */
+    memset(image + 2 * entry_word(image, 5, 0), 0, ABZ_ENTRY_BYTES);
+    check_answer(try_report(length, "a file less"), told(10, 0, 0, at(12)), "a file less");
+    sample();
+    set_field(image, 0, LENGTH, 4), set_like(0, LAST, 7);
+    check_answer(try_report(length, "a block more"), told(10, 0, 0, at(7)), "a block more");
+
+    /* Behind every other rule. */
+    sample();
+    turn_bit(image, 0);
+    set_like(20, FIRST, 31), set_like(20, LAST, 31);
+    expect(length, 9, 20, 0, 31, "a shared block before the map");
+    relink(3, 8);
+    expect(length, 8, 1, 0, 3, "an end before the map");
+    set_field(image, 20, 15, 1);
+    expect(length, 8, 1, 0, 3, "an entry before a later one");
+    set_word(image, CONTENTS, tried->contents_most + 1);
+    expect(length, 2, 0, CONTENTS, 0, "the header before the map");
+}
+
 static void copy_entry(size_t to, size_t from)
 {
     memcpy(image + 2 * entry_word(image, to, 0), image + 2 * entry_word(image, from, 0), ABZ_ENTRY_BYTES);
@@ -357,8 +411,8 @@ static void copy_entry(size_t to, size_t from)
 static void try_chance(void)
 {
     for (int round = 0; round < 3000; round++) {
-        const size_t c = 1 + chance(tried->contents_most), first = first_body(tried, c), entries = tried->entries * c;
-        const size_t n = first + 14 + chance(64);
+        const size_t c = 1 + chance(round % 16 ? contents_like(8) : tried->contents_most);
+        const size_t first = first_body(tried, c), entries = tried->entries * c, n = first + 14 + chance(64);
         const size_t files = chance(entries + 1);
         const size_t length = chance_pack(image, n, c, files);
 
@@ -393,9 +447,10 @@ int main(void)
         try_links();
         try_shared();
         try_two();
+        try_map();
         try_chance();
     }
-    for (size_t rule = 0; rule < 10; rule++)
+    for (size_t rule = 0; rule < RULES; rule++)
         CHECK_NUMBER(rules_seen[rule] > 0, 1, "rule %zu was told", rule);
     return check_end("report");
 }

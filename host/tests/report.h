@@ -1,6 +1,6 @@
 /*
- * The report of document 02, 6, with nothing taken from the library: the rules of 01 in their order, and the first that
- * fails. Plain before it is quick: whether a chain has been at a block is found by walking it again.
+ * The report of document 02, 6 and 7, with nothing taken from the library: the rules of 01 in their order, then the map,
+ * and the first that fails. Plain before it is quick: whether a chain has been at a block is found by walking it again.
  */
 #ifndef REPORT_H
 #define REPORT_H
@@ -128,6 +128,21 @@ static inline abz_report_answer report_shared(const uint8_t *image)
     return told(0, 0, 0, 0);
 }
 
+/* Where no block is shared: the lowest whose bit of the map is wrong, also from n up. */
+static inline abz_report_answer report_map(const uint8_t *image)
+{
+    static bool held[MAP_BITS];
+
+    memset(held, 0, sizeof held);
+    for (size_t entry = 0; entry < entry_count(image); entry++)
+        for (size_t place = 0; place < get_field(image, entry, LENGTH); place++)
+            held[block_at(image, entry, place)] = true;
+    for (size_t block = 0; has_map(form_of(image)) && block < MAP_BITS; block++)
+        if (get_bit(image, block) != (block < bodies_from(image) || held[block]))
+            return told(10, 0, 0, block);
+    return told(0, 0, 0, 0);
+}
+
 static inline abz_report_answer judge_report(const uint8_t *image, size_t length)
 {
     if (length < 4 || length != form_of(image)->block * get_word(image, BLOCKS))
@@ -139,7 +154,9 @@ static inline abz_report_answer judge_report(const uint8_t *image, size_t length
         if (answer.rule != 0)
             return answer;
     }
-    return report_shared(image);
+
+    const abz_report_answer shared = report_shared(image);
+    return shared.rule != 0 ? shared : report_map(image);
 }
 
 #endif

@@ -24,14 +24,15 @@ static void try_image(size_t length, const char *line)
 /* The line of an answer, put together apart from the library. */
 static const char *line_of(abz_report_answer answer)
 {
-    static const char *const names[] = { "", " SIZE", " HEADER", "", " NAME", " EXTENT", " LINK", " LOOP", " END", " SHARED" };
+    static const char *const names[] = { "", " SIZE", " HEADER", "", " NAME", " EXTENT", " LINK", " LOOP", " END", " SHARED",
+                                         " MAP" };
     static char line[64];
     char *end = line;
 
     if (answer.rule == 0)
         return "CONSISTENT\n";
     end += sprintf(end, "FAULT%s", names[answer.rule]);
-    if (answer.rule >= 3)
+    if (answer.rule >= 3 && answer.rule <= 9)
         end += sprintf(end, " ENTRY %05zu", answer.entry);
     if (answer.rule >= 2 && answer.rule <= 5)
         end += sprintf(end, " WORD %05zu", answer.word);
@@ -109,6 +110,17 @@ static void lines(void)
     expect_number(length, "FAULT SHARED ENTRY 00012 BLOCK", at(31));
 }
 
+/* The bits of blocks that are the system's, held, free and not there, each added to those above it. */
+static void maps(void)
+{
+    const size_t length = sample(), some[] = { 0, 3, at(4), at(9), 15, 16, at(N) - 1, at(N), 4095 };
+
+    for (size_t i = sizeof some / sizeof *some; has_map(tried) && i > 0; i--) {
+        turn_bit(image, some[i - 1]);
+        expect_number(length, "FAULT MAP BLOCK", some[i - 1]);
+    }
+}
+
 /* Up to 65536 bytes; longer input is refused, a consistent pack too. */
 static void lengths(void)
 {
@@ -145,6 +157,7 @@ int main(void)
 {
     EACH_FORM {
         lines();
+        maps();
         lengths();
         changed();
     }

@@ -12,7 +12,7 @@
 
 #define COUNT(array) (sizeof(array) / sizeof *(array))
 
-enum { GUARD = 16, ROOM = IMAGE_MOST, CODES = 0100 };
+enum { GUARD = 16, ROOM = IMAGE_MOST + BLOCK_MOST, CODES = 0100 }; /* and a block too many */
 enum { BUFFER_ROOM = 65536 + BLOCK_MOST }; /* so that a size can be wrong in its high bits alone */
 enum { ME = 023 * 256 + 010, GROUP = 023 * 256 + 011, OTHER = 012 * 256 + 04 };
 
@@ -146,13 +146,23 @@ static inline size_t free_run(const uint8_t *image, const block_owner *owners, s
     return 0;
 }
 
+/* The blocks of a linked file, by their places. */
+static inline void chain_of(const uint8_t *image, file it, size_t *blocks)
+{
+    size_t block = get_field(image, it.entry, FIRST);
+
+    for (size_t place = 0; place < it.length; place++) {
+        blocks[place] = block;
+        block = get_link(image, block);
+    }
+}
+
 /* Gives a file more blocks, behind its own. All links of its chain are set, also those that are right already. */
 static inline void lengthen(uint8_t *image, file it, const size_t *more, size_t count)
 {
     size_t blocks[BLOCKS_MOST];
 
-    for (size_t place = 0; place < it.length; place++)
-        blocks[place] = block_at(image, it.entry, place);
+    chain_of(image, it, blocks);
     for (size_t i = 0; i < count; i++)
         blocks[it.length + i] = more[i];
     put_linked(image, it.entry, entry_key(image, it.entry), blocks, it.length + count);
@@ -169,8 +179,7 @@ static inline void join(uint8_t *image, file first, file second)
 {
     size_t blocks[BLOCKS_MOST];
 
-    for (size_t place = 0; place < second.length; place++)
-        blocks[place] = block_at(image, second.entry, place);
+    chain_of(image, second, blocks);
     lengthen(image, first, blocks, second.length);
     clear_entry(image, second.entry);
 }
@@ -376,6 +385,7 @@ static inline abz_answer model(uint8_t *image, size_t length, uint8_t *buffer, c
         set_open(image, empty, 2, 0);
         break;
     }
+    put_map(image); /* by a walk over the files that there are now */
     return answer;
 }
 
@@ -683,7 +693,7 @@ static inline void damaged_images(size_t from, size_t end, size_t packs)
         }
 }
 
-/* A pack whose word 0 is another number, of no form or of another one: 40, whatever is asked. */
+/* A pack whose word 0 is another number, of no form or of one that it is not of: 40, whatever is asked. */
 static inline void other_forms(size_t from, size_t end)
 {
     static uint8_t sound[SMALL_ROOM];
@@ -695,7 +705,7 @@ static inline void other_forms(size_t from, size_t end)
             memcpy(image, sound, length);
             set_word(image, FORM, form_words[i]);
             const size_t code = try_request("form", form_words[i], length, it);
-            CHECK_NUMBER(code == 040, form_words[i] != tried->number, "%s: form %zu for form %zu", request_names[what],
+            CHECK_NUMBER(code != 040, right_as(form_words[i]), "%s: form %zu for form %zu", request_names[what],
                          form_words[i], tried->number);
         }
 }
