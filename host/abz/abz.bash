@@ -41,7 +41,7 @@ _abz_argument() {
     DIRECTORY) option=-d ;;
     CALLER) _abz_offer "$(_abz_uics "$abz" "$pack")" ;;
     FILE | OLD | FIRST | SECOND | PATTERN) _abz_offer "$(_abz_files "$abz" "$pack" "$caller")" ;;
-    FORM) _abz_offer $'1\n3' ;;
+    FORM) _abz_offer $'1\n2\n3' ;;
     MODE) _abz_offer $'update\noutput\nextension\ninput' ;;
     COMMAND) _abz_offer "$(_abz_commands "$abz")" ;;
     esac

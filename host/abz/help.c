@@ -31,8 +31,8 @@ static const struct {
       "one has what it had." },
     { "MODE", "how a file is open: update, output, extension or input, or 1 to 4" },
     { "SEGMENTS", "decimal; of 128 bytes each" },
-    { "FORM", "how a pack is laid out: 1, or 3 for a disk with blocks of 64 words;\n"
-              "1 if left out" },
+    { "FORM", "how a pack is laid out: 1; 2 with a free map, for more blocks; or 3\n"
+              "for a disk with blocks of 64 words. If left out, it is 1." },
     { "BLOCKS, CONTENTS", "decimal" },
     { "HOSTFILE",
       "a file of this computer; - is standard input or standard output.\n"

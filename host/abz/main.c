@@ -24,9 +24,10 @@ static const command commands[] = {
       "make an empty pack in the file PACK, also if there is one already:\n"
       "then all that it held is gone. A file that is no pack is overwritten\n"
       "only with --force. BLOCKS is 16 to 1024, of 512 bytes each. CONTENTS,\n"
-      "1 to 8, is how many of them list the files, 16 in each. With --form 3\n"
-      "blocks have 128 bytes, and CONTENTS is 1 to 32, with 4 files in each.\n"
-      "Only the UICs given here can own files." },
+      "1 to 8, is how many of them list the files, 16 in each. With --form 2\n"
+      "BLOCKS is up to 4096, and CONTENTS up to 32. With --form 3 blocks have\n"
+      "128 bytes, and CONTENTS is 1 to 32, with 4 files in each. Only the UICs\n"
+      "given here can own files." },
     { "list", "[--opens] [--use] PACK", 1, 1, command_list,
       "how many blocks there are and are free; then each file: its name,\n"
       "C contiguous or L linked, its blocks, owner and protect code. With\n"

@@ -25,6 +25,7 @@ static const struct {
     [ABZ_RULE_LOOP] = { " LOOP", true, false, true },
     [ABZ_RULE_END] = { " END", true, false, true },
     [ABZ_RULE_SHARED] = { " SHARED", true, false, true },
+    [ABZ_RULE_MAP] = { " MAP", false, false, true },
 };
 
 /* ---- The line ---- */
@@ -120,6 +121,18 @@ static const char *file_words(const abz_report_answer *report)
     }
 }
 
+/* Whose the block is shows in what its bit should be: nothing else is wrong with the pack. */
+static const char *map_words(size_t block)
+{
+    const uint8_t *map = pack.image + form_of(pack.image)->block * map_block(contents_blocks(pack.image));
+
+    if (block >= word_at(pack.image + 2))
+        return "it has this block as taken, and the pack has none of that number";
+    if (word_at(map + 2 * (block / 16)) >> block % 16 & 1)
+        return "it has this block as taken, which is free";
+    return "it has this block as free, which is the pack's own or a file's";
+}
+
 /* Sizes and bounds are those of the form that the image names. */
 static void show_words(const abz_report_answer *report)
 {
@@ -129,6 +142,7 @@ static void show_words(const abz_report_answer *report)
                form_of(pack.image)->block);
         break;
     case ABZ_RULE_HEADER: show_header_words(report->word); break;
+    case ABZ_RULE_MAP: printf("%s", map_words(report->block)); break;
     default: printf("%s", file_words(report)); break;
     }
     putchar('\n');
@@ -169,6 +183,8 @@ int command_report(char **arguments)
         show_faulty_file(&report);
     else if (rules[report.rule].word)
         printf("the header: ");
+    else if (rules[report.rule].block)
+        printf("the free map: ");
     show_words(&report);
     return show_end() ? STATUS_DONE : STATUS_FAILED;
 }
