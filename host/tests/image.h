@@ -359,7 +359,7 @@ static inline size_t make_pack(uint8_t *image, size_t n, size_t c, const size_t 
     return make_form(tried, image, n, c, uics, u);
 }
 
-/* A closed file with protect code 0; what is to be otherwise is set afterwards. The map is made right, also with its links. */
+/* A closed file with protect code 0; what is to be otherwise is set afterwards. The map is made to agree. */
 static inline void put_file(uint8_t *image, size_t entry, file_key key, size_t kind, size_t first, size_t length,
                             size_t last)
 {

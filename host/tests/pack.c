@@ -266,12 +266,22 @@ static void try_formatted(size_t length, size_t contents)
     try_owner(length, owners, blocks);
 }
 
+/* The next number of blocks to try: all up to 1030 and about the most that there can be, and some between. */
+static size_t next_size(size_t n)
+{
+    const size_t near = tried->blocks_most - 3;
+
+    if (n < 1030 || n >= near)
+        return n + 1;
+    return n + 211 < near ? n + 211 : near;
+}
+
 static void format_sizes(void)
 {
-    const size_t block = tried->block, form = tried->number, most = tried->blocks_most;
+    const size_t block = tried->block, form = tried->number;
 
     fill_uics(66);
-    for (size_t n = 0; n <= most + 6; n += n < 1030 || n > most - 3 ? 1 : 211) {
+    for (size_t n = 0; n <= tried->blocks_most + 6; n = next_size(n)) {
         size_t contents = 1 + n % tried->contents_most, uics_len = 2 * (n % (tried->uics_most + 1)), right = block * n;
         size_t wrong[] = { 0, n, right - 1, right + 1, right - block, right + block, right / 2, right % 65536 };
 
@@ -503,7 +513,7 @@ static void headers(void)
 
     for (size_t i = 0; i < COUNT(users); i++)
         users[i] = 65535 - i;
-    for (size_t n = 0; n <= tried->blocks_most + 6; n++) {
+    for (size_t n = 0; n <= tried->blocks_most + 6; n = next_size(n)) {
         call_it("empty pack of blocks", n);
         expect_verdict(make_pack(image, n, 1, users, 1), n >= tried->blocks_least && n <= tried->blocks_most);
     }

@@ -158,7 +158,7 @@ static void try_contents(void)
         }
 }
 
-/* The size and the bound of n by the form that word 0 names, written out: of one length a pack of one form, and none of the other. */
+/* The size and n by the form that word 0 names, written out: of one length a pack of one form, and none of the other. */
 static void try_forms(void)
 {
     static const struct { size_t form, blocks, length, rule, word; } images[] = {
