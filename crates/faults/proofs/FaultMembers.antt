@@ -135,68 +135,55 @@ module _ {img : List ℕ} where
   fault-members (two-files e b holder body once) = of-block 9 e b (omega arith) (omega arith) (holder .inside) body
   fault-members (wrong-bit b there inside wrong) = of-bit b inside
 
--- a loop is a fault of its own file: that file reaches the block named twice
-pub fault-loop : {img : List ℕ} {answer : ReportAnswer} → Fault img answer → answer .rule ≡ 7 → 2 ≤ count (answer .block) (blocksAt img (geometryOf img) (answer .entry))
-fault-loop (wrong-size fails) is = absurd (omega arith)
-fault-loop (wrong-word w inside fails) is = absurd (omega arith)
-fault-loop (wrong-field e w here of fails) is = absurd (omega arith)
-fault-loop (same-name e f here there less same) is = absurd (omega arith)
-fault-loop (wrong-extent e w here kind between fails) is = absurd (omega arith)
-fault-loop (wrong-chain e w here kind which fails) is = absurd (omega arith)
-fault-loop (wrong-link e place b at within fails) is = absurd (omega arith)
-fault-loop {img} (leads-back e first second b less at again) is =
-    let x = entryOf img (geometryOf img) e in
-    let twice = places-counted (nextOf img (geometryOf img) 2) (x .length) (x .first .0) first second less (again .within) (at .is ∙ sym (again .is)) in
-    subst (λ (z : ℕ). 2 ≤ count z (blocksAt img (geometryOf img) e)) (again .is) (rw (linked-blocks img x (at .linked)) twice)
-fault-loop (no-end e place b at last fails) is = absurd (omega arith)
-fault-loop (two-files e b holder body once) is = absurd (omega arith)
-fault-loop (wrong-bit b there inside wrong) is = absurd (omega arith)
-
 -- a shared block: the second file that reaches it is named, and no file of the pack reaches a block twice
 pub record SharedBlock (img : List ℕ) (e b : ℕ) : Type 0 where
   pub holder : SecondHolder img b e
   pub once : (f c : ℕ) → f < slots (geometryOf img) → count c (blocksAt img (geometryOf img) f) ≤ 1
 
-pub fault-shared : {img : List ℕ} {answer : ReportAnswer} → Fault img answer → answer .rule ≡ 9 → SharedBlock img (answer .entry) (answer .block)
-fault-shared (wrong-size fails) is = absurd (omega arith)
-fault-shared (wrong-word w inside fails) is = absurd (omega arith)
-fault-shared (wrong-field e w here of fails) is = absurd (omega arith)
-fault-shared (same-name e f here there less same) is = absurd (omega arith)
-fault-shared (wrong-extent e w here kind between fails) is = absurd (omega arith)
-fault-shared (wrong-chain e w here kind which fails) is = absurd (omega arith)
-fault-shared (wrong-link e place b at within fails) is = absurd (omega arith)
-fault-shared (leads-back e first second b less at again) is = absurd (omega arith)
-fault-shared (no-end e place b at last fails) is = absurd (omega arith)
-fault-shared (two-files e b holder body once) is = record { holder = holder; once = once }
-fault-shared (wrong-bit b there inside wrong) is = absurd (omega arith)
+-- what a rule says besides: a loop is a fault of its own file, which reaches the block named twice; a shared block; a bit of the map, which is there, is not what it must be
+record Told (img : List ℕ) (answer : ReportAnswer) : Type 0 where
+  loop : answer .rule ≡ 7 → 2 ≤ count (answer .block) (blocksAt img (geometryOf img) (answer .entry))
+  shared : answer .rule ≡ 9 → SharedBlock img (answer .entry) (answer .block)
+  bit : answer .rule ≡ 10 → HasMap (geometryOf img) × WrongBit img (answer .block)
 
--- a bit of the map, which is there: it is not what it must be
-pub fault-bit : {img : List ℕ} {answer : ReportAnswer} → Fault img answer → answer .rule ≡ 10 → HasMap (geometryOf img) × WrongBit img (answer .block)
-fault-bit (wrong-size fails) is = absurd (omega arith)
-fault-bit (wrong-word w inside fails) is = absurd (omega arith)
-fault-bit (wrong-field e w here of fails) is = absurd (omega arith)
-fault-bit (same-name e f here there less same) is = absurd (omega arith)
-fault-bit (wrong-extent e w here kind between fails) is = absurd (omega arith)
-fault-bit (wrong-chain e w here kind which fails) is = absurd (omega arith)
-fault-bit (wrong-link e place b at within fails) is = absurd (omega arith)
-fault-bit (leads-back e first second b less at again) is = absurd (omega arith)
-fault-bit (no-end e place b at last fails) is = absurd (omega arith)
-fault-bit (two-files e b holder body once) is = absurd (omega arith)
-fault-bit (wrong-bit b there inside wrong) is = (there, wrong)
+told-no-more : {img : List ℕ} {answer : ReportAnswer} → (answer .rule ≤ 6) ⊎ (answer .rule ≡ 8) → Told img answer
+told-no-more (inl low) = record { loop = λ is. absurd (omega arith); shared = λ is. absurd (omega arith); bit = λ is. absurd (omega arith) }
+told-no-more (inr end) = record { loop = λ is. absurd (omega arith); shared = λ is. absurd (omega arith); bit = λ is. absurd (omega arith) }
+
+fault-told : {img : List ℕ} {answer : ReportAnswer} → Fault img answer → Told img answer
+fault-told (wrong-size fails) = told-no-more (inl (omega arith))
+fault-told (wrong-word w inside fails) = told-no-more (inl (omega arith))
+fault-told (wrong-field e w here of fails) = told-no-more (inl (omega arith))
+fault-told (same-name e f here there less same) = told-no-more (inl (omega arith))
+fault-told (wrong-extent e w here kind between fails) = told-no-more (inl (omega arith))
+fault-told (wrong-chain e w here kind which fails) = told-no-more (inl (omega arith))
+fault-told (wrong-link e place b at within fails) = told-no-more (inl (omega arith))
+fault-told {img} (leads-back e first second b less at again) =
+    let x = entryOf img (geometryOf img) e in
+    let twice = places-counted (nextOf img (geometryOf img) 2) (x .length) (x .first .0) first second less (again .within) (at .is ∙ sym (again .is)) in
+    record {
+      loop = λ is. subst (λ (z : ℕ). 2 ≤ count z (blocksAt img (geometryOf img) e)) (again .is) (rw (linked-blocks img x (at .linked)) twice);
+      shared = λ is. absurd (omega arith);
+      bit = λ is. absurd (omega arith);
+    }
+fault-told (no-end e place b at last fails) = told-no-more (inr refl)
+fault-told (two-files e b holder body once) =
+    record { loop = λ is. absurd (omega arith); shared = λ is. record { holder = holder; once = once }; bit = λ is. absurd (omega arith) }
+fault-told (wrong-bit b there inside wrong) = record { loop = λ is. absurd (omega arith); shared = λ is. absurd (omega arith); bit = λ is. (there, wrong) }
 
 -- what a report says
 module _ (img : List ℕ) (answer : ReportAnswer) (report : Report img answer) where
   pub report-members : (answer .rule ≡ 0 → ⊥) → Members img answer
   report-members some = fault-members (report-fault img answer report some)
 
+  told : (answer .rule ≡ 0 → ⊥) → Told img answer
+  told some = fault-told (report-fault img answer report some)
+
   pub loop-own : answer .rule ≡ 7 → 2 ≤ count (answer .block) (blocksAt img (geometryOf img) (answer .entry))
-  loop-own is = fault-loop (report-fault img answer report (λ none. omega (arith, is, none))) is
+  loop-own is = told (λ none. omega (arith, is, none)) .loop is
 
   shared-block : answer .rule ≡ 9 → SharedBlock img (answer .entry) (answer .block)
-  shared-block is = fault-shared (report-fault img answer report (λ none. omega (arith, is, none))) is
-
-  pub shared-second : answer .rule ≡ 9 → SecondHolder img (answer .block) (answer .entry)
-  shared-second is = shared-block is .holder
+  shared-block is = told (λ none. omega (arith, is, none)) .shared is
 
   -- a file that reaches a block twice is never told as SHARED
   pub shared-no-loop : answer .rule ≡ 9 → (e b : ℕ) → e < slots (geometryOf img) → count b (blocksAt img (geometryOf img) e) ≤ 1
@@ -205,7 +192,7 @@ module _ (img : List ℕ) (answer : ReportAnswer) (report : Report img answer) w
   -- two files reach the block: the one named, and another before it
   pub shared-two-files : answer .rule ≡ 9 → (first : ℕ) × (first < answer .entry) × (answer .entry < slots (geometryOf img))
       × (0 < count (answer .block) (blocksAt img (geometryOf img) first)) × (0 < count (answer .block) (blocksAt img (geometryOf img) (answer .entry)))
-  shared-two-files is = let h = shared-second is in (h .first, h .before, h .inside, h .too, h .reaches)
+  shared-two-files is = let h = shared-block is .holder in (h .first, h .before, h .inside, h .too, h .reaches)
 
   pub map-wrong : answer .rule ≡ 10 → HasMap (geometryOf img) × WrongBit img (answer .block)
-  map-wrong is = fault-bit (report-fault img answer report (λ none. omega (arith, is, none))) is
+  map-wrong is = told (λ none. omega (arith, is, none)) .bit is

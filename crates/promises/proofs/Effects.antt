@@ -25,8 +25,8 @@ pub use Rattle.directory.proofs.KeepEffect.{keep-entry}
 -- BLOCK output: the bytes of the buffer, which BLOCK input gives back
 pub use Rattle.transfer.proofs.BlockWritten.{block-out-inside}
 pub use Rattle.transfer.proofs.BlockAgain.{block-again}
--- taking a block, for any use: every byte of it is 0 and every other byte is what it was; ALLOC takes its run so, linked add and lines each block
-pub use Rattle.room.proofs.Cleared.{taken-cleared}
+-- taking blocks, for any use: every byte of them is 0, and nothing else is written but their bits on the map; ALLOC takes its run so, linked add and lines each block
+pub use Rattle.room.proofs.Taken.{taken-zero, taken-changes}
 -- linked add: the highest free block, joined at the end, its payload behind the others
 pub use Rattle.adding.proofs.LinkedAddEffect.{linked-add-highest, linked-add-blocks, linked-add-payloads}
 -- Finish, document 02 §12 (`finish-listed`, `finish-deletes`, `finish-again`: Main.antt). Exactly the scratch files are gone, every other entry has its
@@ -58,6 +58,8 @@ pub use Rattle.promises.proofs.LinesAgainAccepted.{lines-accepted, line
 -- five digits; one printed text; a fault named means that every request but Format is refused with 40
 pub use Rattle.faults.proofs.ReportConsistent.{report-consistent, rule-consistent, report-one, fault-there}
 pub use Rattle.faults.proofs.FaultReport.{report-fault}
+-- by its rule: 0 in a member that it does not name; a loop is one of the file named, a shared block is one of two files, and a bit named is wrong
+pub use Rattle.faults.proofs.FaultMembers.{report-members, loop-own, shared-two-files, shared-no-loop, map-wrong}
 pub use Rattle.faults.proofs.SecondSought.{second-is}
 pub use Rattle.faults.proofs.ReportSmall.{report-small}
 pub use Rattle.printing.proofs.ReportText.{prints-one}
