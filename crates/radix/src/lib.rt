@@ -5,13 +5,13 @@ pub mod unpacking;
 
 ghost use mathlib.Core.Path.{_≡_};
 ghost use Prim.Native.Nat.{_<_};
-ghost use mathlib.Core.Bool.{false};
+ghost use mathlib.Core.Bool.{false, _||_};
 ghost use lib.Dec.{eqb};
 ghost use Rattle.radix.specs.Characters.{codeOf, characterOf};
 ghost use Rattle.radix.specs.Lookup.{codeIn, characterIn, charactersIn};
 ghost use Rattle.radix.specs.Packing.{packed, firstCode, secondCode, thirdCode, threeIf};
 ghost use Rattle.radix.specs.Names.{isLetter};
-ghost use Rattle.radix.specs.NamesTest.{isLetterOrDigitIn, filled, legalName, legalExtension};
+ghost use Rattle.radix.specs.NamesTest.{isLetterOrDigitIn, pairEnd, pairNamed, NamedPairs, filled, legalName, legalExtension};
 
 // A word of three characters. A host may pass any number as one: from END up no character is in it.
 pub struct Radix50(pub usize);
@@ -60,34 +60,29 @@ impl Radix50 {
         requires { ⌜ self .0 < 65536 ⌝ }
         ensures { λ r. ⌜ r ≡ filled (self .0) ⌝ }
     {
-        if !is_named(self.first()) {
+        let pair = self.0 / 40;
+        if !are_named(pair) {
             return false;
         }
-        if !is_named(self.second()) {
-            return false;
-        }
-        is_named(self.third())
+        is_named(self.0 - 40 * pair)
     }
 
     // Letters and digits, then blanks only: behind the last letter or digit nothing is left of the word.
     pub fn is_legal_extension(self) -> bool
         ensures { λ r. ⌜ r ≡ legalExtension (self .0) ⌝ }
     {
-        if Self::END <= self.0 {
+        if WORD_END <= self.0 {
             return false;
         }
-        let a = self.first();
-        if !is_named(a) {
-            return self.0 == Self::BLANK;
+        let pair = self.0 / 40;
+        if are_named(pair) {
+            return is_ending(self.0 - 40 * pair);
         }
-        if !is_named(self.second()) {
+        let a = self.first();
+        if is_named(a) {
             return self.0 == 1600 * a;
         }
-        let c = self.third();
-        if is_named(c) {
-            return true;
-        }
-        c == 0
+        self.0 == Self::BLANK
     }
 }
 
@@ -190,6 +185,65 @@ fn is_named(code: usize) -> bool
     ensures { λ r. ⌜ r ≡ isLetterOrDigitIn (characterOf code) ⌝ }
 {
     (NAMED >> code) & 1 == 1
+}
+
+// The same codes, and that of a blank.
+const ENDING: usize = 0xffc7ffffff;
+
+// Is the character of a code a letter, a digit or a blank?
+fn is_ending(code: usize) -> bool
+    requires { ⌜ code < 64 ⌝ }
+    ensures { λ r. ⌜ r ≡ (isLetterOrDigitIn (characterOf code) || eqb code 0) ⌝ }
+{
+    (ENDING >> code) & 1 == 1
+}
+
+// The first number that is no word of 16 bits.
+const WORD_END: usize = 65536;
+
+// The first two codes of a word, 40a + b, are a pair: a bit for each of 64 pairs, 1 where both codes are those of letters or digits. No pair of a
+// word has the one bit of the last number; were it 0 as the numbers behind it, the compiler would ask first which of the two is meant.
+fn named_pairs(part: usize) -> usize
+    requires { ⌜ part < 26 ⌝ }
+    ensures { λ r. ⌜ NamedPairs part r ⌝ }
+{
+    match part {
+        0 => 0xfffffe0000000000,
+        1 => 0xfeffc7fffffeffc7,
+        2 => 0xc7fffffeffc7ffff,
+        3 => 0xfffeffc7fffffeff,
+        4 => 0xffc7fffffeffc7ff,
+        5 => 0xfffffeffc7fffffe,
+        6 => 0xfeffc7fffffeffc7,
+        7 => 0xc7fffffeffc7ffff,
+        8 => 0xfffeffc7fffffeff,
+        9 => 0xffc7fffffeffc7ff,
+        10 => 0xfffffeffc7fffffe,
+        11 => 0xfeffc7fffffeffc7,
+        12 => 0xc7fffffeffc7ffff,
+        13 => 0xfffeffc7fffffeff,
+        14 => 0xffc7fffffeffc7ff,
+        15 => 0xfffffeffc7fffffe,
+        16 => 0x00ffc7fffffeffc7,
+        17 => 0x0000000000000000,
+        18 => 0xfffe000000000000,
+        19 => 0xffc7fffffeffc7ff,
+        20 => 0xfffffeffc7fffffe,
+        21 => 0xfeffc7fffffeffc7,
+        22 => 0xc7fffffeffc7ffff,
+        23 => 0xfffeffc7fffffeff,
+        24 => 0xffc7fffffeffc7ff,
+        25 => 0x8000000000000000,
+        _ => 0,
+    }
+}
+
+// Are both codes of a pair those of letters or digits?
+fn are_named(pair: usize) -> bool
+    requires { ⌜ pair < pairEnd ⌝ }
+    ensures { λ r. ⌜ r ≡ pairNamed pair ⌝ }
+{
+    (named_pairs(pair / 64) >> (pair % 64)) & 1 == 1
 }
 
 pub fn is_legal_name(first: Radix50, second: Radix50) -> bool
