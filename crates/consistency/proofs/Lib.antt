@@ -1,4 +1,5 @@
 -- The laws of the check.
+pub mod EightBytes
 pub mod WalkTaking
 pub mod WalkSystem
 pub mod WalkSteps

@@ -1,44 +1,73 @@
--- The number that bits make: bit by bit from the highest, sixteen are a word, and none is 0.
-use Prim.Native.Nat.{ℕ, suc, zero, _+_, _-_, _*_, _^_, _≤_, _<_}
-use mathlib.Core.Path.{_≡_, refl, ap, _∙_}
+-- The number that bits make: eight are laid together, twice eight are a word, and none is 0.
+use Prim.Native.Nat.{ℕ, suc, zero, _+_, _*_, _/_, _%_, _≤_, _<_}
+use mathlib.Core.Path.{_≡_, refl, sym, ap, _∙_}
 use mathlib.Core.List.{List}
 use native.Mathlib.Omega.{arith}
-use native.Mathlib.Nat.{pow-suc, pow-le-pow-right}
 use lib.ListN.{length}
+use Rattle.consistency.specs.EightBytes.{eightAt}
 use Rattle.consistency.specs.MapTest.{bitsFrom, markOn, Marks}
-
-bits-small : (bit : ℕ → ℕ) → ((i : ℕ) → bit i ≤ 1) → (b k : ℕ) → bitsFrom bit b k < 2 ^ k
-unfolding bitsFrom
-bits-small bit few b zero = omega arith
-bits-small bit few b (suc k) = omega (arith, few b, bits-small bit few (b + 1) k, pow-suc 2 k)
-
-pub bits-begun : (bit : ℕ → ℕ) (b : ℕ) → 0 ≡ bitsFrom bit (b + 16) (16 - 16)
-unfolding bitsFrom
-bits-begun bit b = refl
-
-pub bits-word : (bit : ℕ → ℕ) → ((i : ℕ) → bit i ≤ 1) → (b left : ℕ) {word : ℕ} → word ≡ bitsFrom bit (b + left) (16 - left) → word < 65536
-bits-word bit few b left is =
-    omega (arith, is, bits-small bit few (b + left) (16 - left), pow-le-pow-right {n = 2} (omega arith) (let less : 16 - left ≤ 16 = omega arith in less))
-
--- one bit more below those that were read
-pub bits-lower : (bit : ℕ → ℕ) (b left : ℕ) {word lower : ℕ} → 0 < left → left ≤ 16 → word ≡ bitsFrom bit (b + left) (16 - left) → lower ≡ left - 1
-    → {here : ℕ} → here ≡ bit (b + lower) → 2 * word + here ≡ bitsFrom bit (b + lower) (16 - lower)
-unfolding bitsFrom
-bits-lower bit b left {word} {lower} some most is low {here} read =
-    let size : 16 - lower ≡ suc (16 - left) = omega arith in
-    let next : b + lower + 1 ≡ b + left = omega arith in
-    omega (arith, is, read, ap (bitsFrom bit (b + lower)) size, ap (λ (z : ℕ). bitsFrom bit z (16 - left)) next)
-
-pub bits-whole : (bit : ℕ → ℕ) (b : ℕ) {word left : ℕ} → word ≡ bitsFrom bit (b + left) (16 - left) → left ≤ 0 → word ≡ bitsFrom bit b 16
-bits-whole bit b {word} {left} is none =
-    let size : 16 - left ≡ 16 = omega arith in
-    let place : b + left ≡ b = omega arith in
-    is ∙ ap (bitsFrom bit (b + left)) size ∙ ap (λ (z : ℕ). bitsFrom bit z 16) place
+use Rattle.consistency.proofs.EightBytes.{laid-eight, laid-small}
 
 pub bits-nothing : (bit : ℕ → ℕ) (b k : ℕ) → ((i : ℕ) → b ≤ i → bit i ≡ 0) → 0 ≡ bitsFrom bit b k
 unfolding bitsFrom
 bits-nothing bit b zero none = refl
 bits-nothing bit b (suc k) none = omega (arith, none b (omega arith), bits-nothing bit (b + 1) k (λ i low. none i (omega arith)))
+
+-- the first bit, and the others from the next place on
+front : (bit : ℕ → ℕ) (b k next : ℕ) → next ≡ b + 1 → bitsFrom bit b (suc k) ≡ bit b + 2 * bitsFrom bit next k
+unfolding bitsFrom
+front bit b k next is = omega (arith, ap (λ (n : ℕ). bitsFrom bit n k) is)
+
+no-bits : (bit : ℕ → ℕ) (b : ℕ) → bitsFrom bit b 0 ≡ 0
+unfolding bitsFrom
+no-bits bit b = refl
+
+-- eight of them, as they are read of a map of marks and laid together
+module _ (bit : ℕ → ℕ) (b : ℕ) where
+  pub bits-eight : bitsFrom bit b 8
+      ≡ bit b + 2 * bit (b + 1) + 4 * bit (b + 2) + 8 * bit (b + 3) + 16 * bit (b + 4) + 32 * bit (b + 5) + 64 * bit (b + 6) + 128 * bit (b + 7)
+  bits-eight =
+      omega (
+        arith,
+        front bit b 7 (b + 1) (omega arith),
+        front bit (b + 1) 6 (b + 2) (omega arith),
+        front bit (b + 2) 5 (b + 3) (omega arith),
+        front bit (b + 3) 4 (b + 4) (omega arith),
+        front bit (b + 4) 3 (b + 5) (omega arith),
+        front bit (b + 5) 2 (b + 6) (omega arith),
+        front bit (b + 6) 1 (b + 7) (omega arith),
+        front bit (b + 7) 0 (b + 8) (omega arith),
+        no-bits bit (b + 8),
+      )
+
+  pub bits-sixteen : bitsFrom bit b 8 + 256 * bitsFrom bit (b + 8) 8 ≡ bitsFrom bit b 16
+  bits-sixteen =
+      omega (
+        arith,
+        bits-eight,
+        front bit b 15 (b + 1) (omega arith),
+        front bit (b + 1) 14 (b + 2) (omega arith),
+        front bit (b + 2) 13 (b + 3) (omega arith),
+        front bit (b + 3) 12 (b + 4) (omega arith),
+        front bit (b + 4) 11 (b + 5) (omega arith),
+        front bit (b + 5) 10 (b + 6) (omega arith),
+        front bit (b + 6) 9 (b + 7) (omega arith),
+        front bit (b + 7) 8 (b + 8) (omega arith),
+      )
+
+module _ (marks : List ℕ) (few : (i : ℕ) → markOn marks i ≤ 1) (b : ℕ) {spread : ℕ} (read : spread ≡ eightAt marks b) where
+  pub spread-small : spread ≤ 72340172838076673
+  unfolding markOn eightAt
+  spread-small = laid-small (few b) (few (b + 1)) (few (b + 2)) (few (b + 3)) (few (b + 4)) (few (b + 5)) (few (b + 6)) (few (b + 7)) read
+
+  byte-read : {two four : ℕ} → two ≡ spread + spread / 128 → four ≡ two + two / 16384 → (four + four / 268435456) % 256
+      ≡ markOn marks b + 2 * markOn marks (b + 1) + 4 * markOn marks (b + 2) + 8 * markOn marks (b + 3)
+      + 16 * markOn marks (b + 4) + 32 * markOn marks (b + 5) + 64 * markOn marks (b + 6) + 128 * markOn marks (b + 7)
+  unfolding markOn eightAt
+  byte-read = laid-eight (few b) (few (b + 1)) (few (b + 2)) (few (b + 3)) (few (b + 4)) (few (b + 5)) (few (b + 6)) (few (b + 7)) read
+
+  pub byte-made : {two four : ℕ} → two ≡ spread + spread / 128 → four ≡ two + two / 16384 → (four + four / 268435456) % 256 ≡ bitsFrom (markOn marks) b 8
+  byte-made made made₂ = byte-read made made₂ ∙ sym (bits-eight (markOn marks) b)
 
 -- the marks of the sixteen blocks of word w
 module _ {marks : List ℕ} {blocks : ℕ} (m : Marks marks blocks) (w : ℕ) where

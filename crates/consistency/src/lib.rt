@@ -1,5 +1,6 @@
 // The check of a whole image: its header, then each entry, with its blocks taken on a map and its file unlike those before it.
 mod differing;
+mod eights;
 mod mapping;
 
 ghost use mathlib.Core.Path.{_≡_};

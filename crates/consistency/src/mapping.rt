@@ -5,7 +5,22 @@ ghost use lib.ListN.{length};
 ghost use Rattle.pack.specs.GeometrySized.{Sized};
 ghost use Rattle.pack.specs.Map.{HasMap, mapBits};
 ghost use Rattle.consistency.specs.MapTest.{agreeFrom, mapTest, bitsFrom, markOn, Marks};
+use crate::eights;
 use pack::Geometry;
+
+// The eight bits of a byte, from the marks of as many blocks, which are 0 or 1: each is laid beside the one below it, then two beside two, and four
+// beside four.
+fn byte_of(marks: &[u8], b: usize) -> usize
+    requires { ⌜ b + 8 ≤ length (now marks) ⌝ }
+    requires { ⌜ ((i : ℕ) → markOn (now marks) i ≤ 1) ⌝ }
+    ensures { λ r. ⌜ r ≡ bitsFrom (markOn (now (marks .entry))) b 8 ⌝ }
+    ensures { λ r. ⌜ r < 256 ⌝ }
+{
+    let spread = eights::eight_at(marks, b);
+    let two = spread + spread / 128;
+    let four = two + two / 16384;
+    (four + four / 268435456) % 256
+}
 
 // The sixteen bits of a word, from the marks of as many blocks.
 fn bits_of(marks: &[u8], b: usize) -> usize
@@ -13,13 +28,7 @@ fn bits_of(marks: &[u8], b: usize) -> usize
     requires { ⌜ ((i : ℕ) → markOn (now marks) i ≤ 1) ⌝ }
     ensures { λ r. ⌜ r ≡ bitsFrom (markOn (now (marks .entry))) b 16 ⌝ }
 {
-    let mut word = 0;
-    let mut left = 16;
-    while 0 < left {
-        left -= 1;
-        word = 2 * word + marks[b + left] as usize;
-    }
-    word
+    byte_of(marks, b) + 256 * byte_of(marks, b + 8)
 }
 
 // The word that the map must have at place w: from the last block on all bits are 0.
