@@ -11,8 +11,8 @@ use Rattle.pack.specs.declared.Entry.{Entry}
 use Rattle.pack.specs.Geometry.{entryAt}
 use Rattle.pack.specs.HeaderTest.{zeros, listed}
 use Rattle.pack.specs.File.{nextOf, after, lastOf, blocksOf, one}
-use Rattle.pack.specs.Entry.{entryOf}
-use Rattle.consistency.specs.Walk.{takes}
+use Rattle.pack.specs.Entry.{entryWord, entryOf}
+use Rattle.consistency.specs.Walk.{takes, blocksFrom}
 
 -- a legal name, a legal extension, a UIC of the list
 unfoldable pub keyTest : List ℕ → Entry → Bool
@@ -51,6 +51,29 @@ bodyTest img g map x = takes (g .bodies .0) (g .blocks) map (blocksOf img g x) &
 -- the words of entry e from word i on are 0
 unfoldable pub restTest : List ℕ → Geometry → ℕ → ℕ → Bool
 restTest img g e i = zeros img (entryAt g e + i) (16 - i)
+
+-- the same of a contiguous file that has a block, and of a chain, whose last block is `other` where it has none; `stored` is the last block by the entry
+unfoldable pub runTest : List ℕ → Geometry → List ℕ → ℕ → ℕ → ℕ → Bool
+runTest img g map length first stored =
+    ltb 0 length
+    && (takes (g .bodies .0) (g .blocks) map (blocksFrom img g 1 length first) && eqb (lastOf (nextOf img g 1) 0 length first) stored)
+
+unfoldable pub chainTest : List ℕ → Geometry → List ℕ → ℕ → ℕ → ℕ → ℕ → Bool
+chainTest img g map other length first stored =
+    takes (g .bodies .0) (g .blocks) map (blocksFrom img g 2 length first)
+    && (eqb (lastOf (nextOf img g 2) other length first) stored && eqb (after (nextOf img g 2) length first) 0)
+
+-- the writer goes with the kind, he and the readers are few, and the words behind them are 0
+unfoldable pub openTest : List ℕ → Geometry → ℕ → ℕ → Bool
+openTest img g e kind =
+    writerTest kind (entryWord img g e 9) && (opensTest (entryWord img g e 9) (entryWord img g e 10) && restTest img g e 11)
+
+-- what is judged of entry e, one in use, beside its name, extension and UIC (`file-parts`)
+unfoldable pub heldTest : List ℕ → Geometry → List ℕ → ℕ → Bool
+heldTest img g map e =
+    leb (entryOf img g e .protect) 255
+    && (openTest img g e (entryOf img g e .kind)
+    && (not (eqb (entryOf img g e .kind) 1 && ltb (entryOf img g e .length) 1) && bodyTest img g map (entryOf img g e)))
 
 -- an entry whose first word is 0 is all zero; another is that of a file
 unfoldable pub entryTest : List ℕ → Geometry → List ℕ → ℕ → Bool

@@ -1,14 +1,12 @@
 -- Means: a walk over the blocks of a file, which takes each on a map. The map has 1 at a block that is taken and 0 at another.
-use Prim.Native.Nat.{ℕ, suc, zero, _<_}
-use mathlib.Core.Bool.{Bool, true, false, cond, _&&_}
+use Prim.Native.Nat.{ℕ, suc, zero, _-_, _≤_, _<_}
+use mathlib.Core.Bool.{Bool, true, _&&_}
 use mathlib.Core.List.{List, [], _∷_}
 use mathlib.Core.Path.{_≡_}
 use lib.Dec.{eqb, leb, ltb}
 use lib.ListN.{getD, set}
 use Rattle.pack.specs.declared.Geometry.{Geometry}
-use Rattle.pack.specs.File.{nextOf, chain, after, lastOf}
-use Rattle.consistency.specs.declared.Walked.{Walked}
-use Rattle.consistency.specs.declared.Walked.the-variants.{End, Stopped}
+use Rattle.pack.specs.File.{nextOf, chain}
 
 -- each block in turn lies from `low` on and below `end`, and is not taken yet
 unfoldable pub takes : ℕ → ℕ → List ℕ → List ℕ → Bool
@@ -33,13 +31,8 @@ pub record SystemTaken (map : List ℕ) (g : Geometry) : Type 0 where
 unfoldable pub blocksFrom : List ℕ → Geometry → ℕ → ℕ → ℕ → List ℕ
 blocksFrom img g kind length first = chain (nextOf img g kind) length first
 
--- all of them are bodies that can be taken: then the last of them, or `other` where there is none, and the number behind it
-unfoldable pub walkOf : List ℕ → Geometry → ℕ → List ℕ → ℕ → ℕ → ℕ → Walked
-walkOf img g kind map other length first =
-    cond (takes (g .bodies .0) (g .blocks) map (blocksFrom img g kind length first))
-    (End (record { 0 = lastOf (nextOf img g kind) other length first }) (record { 0 = after (nextOf img g kind) length first }))
-    Stopped
-
-abbrev pub ended : Walked → Bool
-ended (End last next) = true
-ended Stopped = false
+-- the blocks from `first` to `behind` taken on a map that is left as map′: `fine` says whether all could be, in whatever pack has them
+pub record RunTaken (map : List ℕ) (first behind : ℕ) (fine : Bool) (map′ : List ℕ) : Type 0 where
+  pub taken : (img : List ℕ) (g : Geometry) → SystemTaken map g → behind ≤ g .blocks
+      → fine ≡ takes (g .bodies .0) (g .blocks) map (blocksFrom img g 1 (behind - first) first)
+  pub marked : (img : List ℕ) (g : Geometry) → fine ≡ true → map′ ≡ mark map (blocksFrom img g 1 (behind - first) first)

@@ -2,24 +2,23 @@
 mod differing;
 mod eights;
 mod mapping;
+mod walking;
 
 ghost use mathlib.Core.Path.{_≡_};
 ghost use mathlib.Core.Bool.{true, _&&_};
-ghost use Prim.Native.Nat.{_+_, _%_, _<_, _≤_};
+ghost use Prim.Native.Nat.{ℕ, _+_, _%_, _<_, _≤_};
 ghost use lib.ListN.{length};
 ghost use Rattle.radix.specs.NamesTest.{legalName};
 ghost use Rattle.pack.specs.GeometrySized.{Sized};
 ghost use Rattle.pack.specs.Geometry.{slots};
 ghost use Rattle.pack.specs.Header.{RightHeader};
-ghost use Rattle.pack.specs.File.{blocksOf};
 ghost use Rattle.pack.specs.Entry.{entryWord, entryOf, blocksAt};
-ghost use Rattle.consistency.specs.Walk.{mark, blocksFrom, walkOf, ended, systemSet, SystemTaken};
-ghost use Rattle.consistency.specs.EntryTest.{keyTest, writerTest, kindTest, opensTest, fieldsTest, bodyTest, restTest, entryTest};
+ghost use Rattle.consistency.specs.Walk.{mark, systemSet, SystemTaken};
+ghost use Rattle.consistency.specs.EntryTest.{keyTest, writerTest, opensTest, openTest, heldTest, restTest, entryTest};
 ghost use Rattle.consistency.specs.DifferTest.{TableSize, newTest, differTest, Marked};
 ghost use Rattle.consistency.specs.ConsistentTest.{scanTest, markAll, systemMap, UsedEnd, filesTest, openedOf};
 ghost use Rattle.consistency.specs.Mapped.{Lent, MappedIf};
 use pack::BlockNo;
-use pack::Entry;
 use pack::Geometry;
 use pack::Header;
 use radix::Radix50;
@@ -33,12 +32,6 @@ pub const FEW_BLOCKS: usize = 64;
 pub const MANY_BYTES: usize = 524288;
 
 pub const MANY_BLOCKS: usize = 1024;
-
-// What a walk over the blocks of a file finds: its last block and the number behind it, or a block that cannot be taken.
-enum Walked {
-    End(BlockNo, BlockNo),
-    Stopped,
-}
 
 // What a pack is opened as: the measures of a consistent image, or no consistent image.
 pub enum Opened {
@@ -57,41 +50,6 @@ fn set_system(map: &mut [u8], g: Geometry, taken: u8)
         map[b] = taken;
         b += 1;
     }
-}
-
-// A walk has as many steps as the file has blocks by its entry, so that it ends on a chain that loops. Where the system's blocks are taken on the
-// map, a block that is none of the bodies is one that cannot be taken.
-fn walk(
-    img: &[u8],
-    map: &mut [u8],
-    g: Geometry,
-    kind: usize,
-    first: BlockNo,
-    count: usize,
-) -> Walked
-    requires { ⌜ Sized (now img) g ⌝ }
-    requires { ⌜ (g .blocks ≤ length (now map)) × SystemTaken (now map) g ⌝ }
-    ensures { λ r. ⌜ r ≡ walkOf (now (img .entry)) g kind (now (map .entry)) 0 count (first .0) ⌝ }
-    ensures { λ r. ⌜ (ended r ≡ true → now (map .exit) ≡ mark (now (map .entry)) (blocksFrom (now (img .entry)) g kind count (first .0))) ⌝ }
-{
-    let end = g.blocks;
-    let mut left = count;
-    let mut last = BlockNo(0);
-    let mut b = first;
-    while 0 < left {
-        let at = b.0;
-        if end <= at {
-            return Walked::Stopped;
-        }
-        if map[at] != 0 {
-            return Walked::Stopped;
-        }
-        map[at] = 1;
-        last = b;
-        b = pack::next_block(img, g, kind, b);
-        left -= 1;
-    }
-    Walked::End(last, b)
 }
 
 // Most names fill their first word: then nothing is to be said of blanks behind it.
@@ -138,15 +96,6 @@ pub fn is_writer_right(kind: usize, writer: usize) -> bool
     writer <= 3
 }
 
-fn is_kind_right(kind: usize, count: usize, writer: usize) -> bool
-    ensures { λ r. ⌜ r ≡ kindTest kind count writer ⌝ }
-{
-    if (kind == 1) & (count < 1) {
-        return false;
-    }
-    is_writer_right(kind, writer)
-}
-
 // "readers, plus 1 if there is a writer, are at most 62": so is this.
 pub fn is_few_opens(writer: usize, readers: usize) -> bool
     ensures { λ r. ⌜ r ≡ opensTest writer readers ⌝ }
@@ -155,29 +104,6 @@ pub fn is_few_opens(writer: usize, readers: usize) -> bool
         return readers < 62;
     }
     readers <= 62
-}
-
-// Each word is read where it is judged.
-fn are_fields_right(img: &[u8], g: Geometry, e: usize) -> bool
-    requires { ⌜ Sized (now img) g ⌝ }
-    requires { ⌜ RightHeader (now img) × (e < slots g) ⌝ }
-    ensures { λ r. ⌜ r ≡ fieldsTest (now (img .entry)) (entryOf (now (img .entry)) g e) ⌝ }
-{
-    if !is_key_right(img, g, e) {
-        return false;
-    }
-    if 255 < pack::entry_word(img, g, e, 4) {
-        return false;
-    }
-    let writer = pack::entry_word(img, g, e, 9);
-    if !is_kind_right(
-        pack::entry_word(img, g, e, 5),
-        pack::entry_word(img, g, e, 7),
-        writer,
-    ) {
-        return false;
-    }
-    is_few_opens(writer, pack::entry_word(img, g, e, 10))
 }
 
 // Are the words of entry e from word i on all zero?
@@ -190,25 +116,58 @@ fn is_rest_zero(img: &[u8], g: Geometry, e: usize, i: usize) -> bool
     pack::are_words_zero(img, segments.words() + 16 * e + i, 16 - i)
 }
 
-// Do the blocks of a file end as its entry says? They are taken on the map.
-fn is_body_right(img: &[u8], map: &mut [u8], g: Geometry, x: Entry) -> bool
+// Most files are not open. Their last words, 9 to 15, are 0, and two numbers of eight bytes say so.
+fn is_closed(img: &[u8], g: Geometry, e: usize) -> bool
     requires { ⌜ Sized (now img) g ⌝ }
-    requires { ⌜ (g .blocks ≤ length (now map)) × SystemTaken (now map) g ⌝ }
-    ensures { λ r. ⌜ r ≡ bodyTest (now (img .entry)) g (now (map .entry)) x ⌝ }
-    ensures { λ r. ⌜ (r ≡ true → now (map .exit) ≡ mark (now (map .entry)) (blocksOf (now (img .entry)) g x)) ⌝ }
+    requires { ⌜ e < slots g ⌝ }
+    ensures { λ r. ⌜ (r ≡ true → (i : ℕ) → 9 ≤ i → i < 16 → entryWord (now (img .entry)) g e i ≡ 0) ⌝ }
 {
-    let first = x.first;
-    let stored = x.last;
-    let Walked::End(last, next) = walk(img, map, g, x.kind, first, x.length) else {
-        return false;
-    };
-    if last.0 != stored.0 {
+    let segments = g.segments;
+    let at = segments.bytes() + 32 * e;
+    (eights::eight_at(img, at + 18) | eights::eight_at(img, at + 24)) == 0
+}
+
+// Each word is read where it is judged.
+fn is_open_right(img: &[u8], g: Geometry, e: usize, kind: usize) -> bool
+    requires { ⌜ Sized (now img) g ⌝ }
+    requires { ⌜ e < slots g ⌝ }
+    ensures { λ r. ⌜ r ≡ openTest (now (img .entry)) g e kind ⌝ }
+{
+    if is_closed(img, g, e) {
+        return (kind == 1) | (kind == 2);
+    }
+    let writer = pack::entry_word(img, g, e, 9);
+    if !is_writer_right(kind, writer) {
         return false;
     }
-    if x.kind == 1 {
-        return true;
+    if !is_few_opens(writer, pack::entry_word(img, g, e, 10)) {
+        return false;
     }
-    next.0 == 0
+    is_rest_zero(img, g, e, 11)
+}
+
+// What is judged of an entry in use beside its name, extension and UIC.
+fn is_held_right(img: &[u8], map: &mut [u8], g: Geometry, e: usize) -> bool
+    requires { ⌜ Sized (now img) g ⌝ }
+    requires { ⌜ e < slots g ⌝ }
+    requires { ⌜ (g .blocks ≤ length (now map)) × SystemTaken (now map) g ⌝ }
+    ensures { λ r. ⌜ r ≡ heldTest (now (img .entry)) g (now (map .entry)) e ⌝ }
+    ensures { λ r. ⌜ (r ≡ true → now (map .exit) ≡ mark (now (map .entry)) (blocksAt (now (img .entry)) g e)) ⌝ }
+{
+    if 255 < pack::entry_word(img, g, e, 4) {
+        return false;
+    }
+    let kind = pack::entry_word(img, g, e, 5);
+    if !is_open_right(img, g, e, kind) {
+        return false;
+    }
+    let first = BlockNo(pack::entry_word(img, g, e, 6));
+    let count = pack::entry_word(img, g, e, 7);
+    let stored = BlockNo(pack::entry_word(img, g, e, 8));
+    if kind == 1 {
+        return walking::is_run_right(map, g, first, count, stored);
+    }
+    walking::is_chain_right(img, map, g, first, count, stored)
 }
 
 // Entry e is one in use.
@@ -219,13 +178,10 @@ fn is_file_right(img: &[u8], map: &mut [u8], g: Geometry, e: usize) -> bool
     ensures { λ r. ⌜ r ≡ entryTest (now (img .entry)) g (now (map .entry)) e ⌝ }
     ensures { λ r. ⌜ (r ≡ true → now (map .exit) ≡ mark (now (map .entry)) (blocksAt (now (img .entry)) g e)) ⌝ }
 {
-    if !are_fields_right(img, g, e) {
+    if !is_key_right(img, g, e) {
         return false;
     }
-    if !is_rest_zero(img, g, e, 11) {
-        return false;
-    }
-    is_body_right(img, map, g, pack::read_entry(img, g, e))
+    is_held_right(img, map, g, e)
 }
 
 fn is_entry_right(img: &[u8], map: &mut [u8], marks: &mut [u8], g: Geometry, e: usize) -> bool
