@@ -9,13 +9,13 @@ use Rattle.pack.specs.declared.Geometry.{Geometry}
 use Rattle.pack.specs.declared.Header.{Header}
 use Rattle.pack.specs.declared.Header.the-variants.{Right, Wrong}
 use Rattle.pack.specs.Geometry.{geometryOf, slots}
-use Rattle.pack.specs.GeometrySized.{Sized}
+use Rattle.pack.specs.GeometrySized.{mostEntries, Sized}
 use Rattle.pack.specs.Header.{RightHeader}
 use Rattle.pack.specs.HeaderTest.{headerTest, headerOf}
 use Rattle.pack.specs.Consistent.{heldIn, held}
 use Rattle.answers.proofs.RefusalsTests.{and-left, go-on, stop, true-not-false}
 use Rattle.pack.proofs.HeaderTestWhole.{header-iff}
-use Rattle.pack.proofs.HeaderRules.{header-sized}
+use Rattle.pack.proofs.HeaderRules.{header-sized, entries-few}
 use Rattle.consistency.specs.declared.Opened.{Opened}
 use Rattle.consistency.specs.declared.Opened.the-variants.{Good, Bad}
 use Rattle.consistency.specs.Walk.{systemSet}
@@ -53,6 +53,9 @@ module _ (img : List ℕ) (r : Header) (is : r ≡ headerOf img) where
 
     pub open-header : RightHeader img
     open-header = header-iff img .0 (passed .0)
+
+    pub open-few : slots g ≤ mostEntries
+    open-few = subst (λ (h : Geometry). slots h ≤ mostEntries) (passed .1) (entries-few img open-header)
 
     pub open-sized : Sized img g
     open-sized = subst (Sized img) (passed .1) (header-sized img open-header)

@@ -1,71 +1,67 @@
 -- That files differ: each test of pairs is true exactly if no two entries have one name, extension and UIC; and the tests step by step.
-use Prim.Native.Nat.{ℕ, suc, zero, _+_, _-_, _*_, _/_, _%_, _^_, _≤_, _<_}
+use Prim.Native.Nat.{ℕ, suc, zero, _+_, _-_, _*_, _/_, _%_, _≤_, _<_}
 use mathlib.Core.Path.{_≡_, refl, sym, ap, subst, _∙_}
 use mathlib.Core.Bool.{Bool, true, false, not}
 use mathlib.Core.List.{List}
 use mathlib.Core.Logic.{_↔_}
 use native.Mathlib.Omega.{arith}
-use native.Mathlib.Nat.{pow-le-pow-right}
-use native.Mathlib.Decide.{ℕ-discrete}
-use lib.ListN.{length, getD, set, length-set}
+use native.Mathlib.Decide.{ℕ-discrete, decLt}
+use lib.ListN.{length, getD, set, replicate, length-set, length-replicate, getD-replicate, List·getD-eq-default}
 use lib.Seq.{getD-set-same, getD-set-other}
 use borrow.Author.Tests.{eq-eqb, ne-eqb, not-true}
+use Rattle.words.specs.Word.{wordAt}
 use Rattle.pack.specs.declared.Geometry.{Geometry}
+use Rattle.pack.specs.Geometry.{blockBytes, entryAt}
 use Rattle.pack.specs.Entry.{entryWord, entryOf}
 use Rattle.pack.specs.Key.{keyIn, SameKey}
-use Rattle.pack.specs.Map.{bitOf, withBit}
 use Rattle.pack.proofs.KeySame.{same-key-iff}
-use Rattle.pack.proofs.MapBits.{bit-own, bit-other, with-small, shift-bit}
 use Rattle.answers.proofs.RefusalsTests.{and-left, and-right, and-both, true-not-false}
-use Rattle.consistency.specs.DifferTest.{sameTest, keyRemainder, TableSize, few, many, markBit, markSet, apartTest, newTest, differTest, Marked}
+use Rattle.consistency.specs.EightBytes.{eightAt}
+use Rattle.consistency.specs.DifferTest.{sameTest, keyNumber, SmallKey, TableSize, few, many, slotOf, InList, here, later, Compared, apartTest, newTest, differTest, Listing}
 
--- a number marked, and the others as they were
-mark-long : (marks : List ℕ) (at : ℕ) → length (markSet marks at) ≡ length marks
-unfolding markSet
-mark-long marks at = length-set marks (at / 8) _
+-- the list of a file is one of them
+slot-in : (long key : ℕ) → TableSize long → slotOf long key < long
+unfolding slotOf
+slot-in long key few = omega arith
+slot-in long key many = omega arith
 
-module _ (marks : List ℕ) (at : ℕ) (inside : at < 8 * length marks) where
-  mark-own : markBit (markSet marks at) at ≡ 1
-  unfolding markBit markSet
-  mark-own =
-      ap (λ (byte : ℕ). (byte / 2 ^ (at % 8)) % 2) (getD-set-same marks (at / 8) _ 0 (omega (arith, inside)))
-      ∙ bit-own (getD marks (at / 8) 0) (at % 8) 1 (omega arith)
+pub table-small : {long : ℕ} → TableSize long → long ≤ 1024
+table-small few = omega arith
+table-small many = omega arith
 
-  mark-other : (r : ℕ) → (r ≡ at → ⊥) → markBit (markSet marks at) r ≡ markBit marks r
-  unfolding markBit markSet
-  mark-other r other = by (ℕ-discrete (r / 8) (at / 8))
-    where
-      new : ℕ
-      new = withBit (getD marks (at / 8) 0) (at % 8) 1
+larger : {long : ℕ} → TableSize long → (long ≡ 256 → ⊥) → long ≡ 1024
+larger few other = absurd (other refl)
+larger many other = refl
 
-      by : Dec (r / 8 ≡ at / 8) → (getD (set marks (at / 8) new) (r / 8) 0 / 2 ^ (r % 8)) % 2 ≡ (getD marks (r / 8) 0 / 2 ^ (r % 8)) % 2
-      by (yes same) =
-          ap (λ (k : ℕ). (getD (set marks (at / 8) new) k 0 / 2 ^ (r % 8)) % 2) same
-          ∙ ap (λ (byte : ℕ). (byte / 2 ^ (r % 8)) % 2) (getD-set-same marks (at / 8) new 0 (omega (arith, inside)))
-          ∙ bit-other (getD marks (at / 8) 0) (at % 8) (r % 8) 1 (omega arith) (λ is. other (omega (arith, is, same)))
-          ∙ ap (λ (k : ℕ). (getD marks k 0 / 2 ^ (r % 8)) % 2) (sym same)
-      by (no apart) = ap (λ (byte : ℕ). (byte / 2 ^ (r % 8)) % 2) (getD-set-other marks (at / 8) (r / 8) new 0 apart)
+-- either size, as the code asks for it
+module _ (long key : ℕ) (size : TableSize long) {mixed : ℕ} (is : mixed ≡ ((key % 4294967296 + key / 4294967296) * 1580693937) / 8388608) where
+  pub slot-few : long ≡ 256 → (mixed % 256 ≡ slotOf long key) × (mixed % 256 < long)
+  unfolding slotOf
+  slot-few one = (rw (is, one), omega (arith, one))
 
--- the same as the code shifts it: a bit that is 0 made 1 is a power more
-module _ (byte i : ℕ) (place : i < 8) (small : byte < 256) where
-  pub mark-fits : 1 * 2 ^ i % 18446744073709551616 ≤ 128
-  mark-fits = omega (arith, shift-bit i 1 (omega (arith, place)) (omega arith), pow-le-pow-right {n = 2} (omega arith) (let less : i ≤ 7 = omega (arith, place) in less))
-
-  pub mark-made : bitOf byte i ≡ 0 → byte + 1 * 2 ^ i % 18446744073709551616 ≡ withBit byte i 1
-  unfolding withBit
-  mark-made none = omega (arith, shift-bit i 1 (omega (arith, place)) (omega arith), ap (λ (v : ℕ). 2 ^ i * v) none)
-
-  pub mark-byte : withBit byte i 1 < 256
-  mark-byte = with-small 8 byte i 1 place small (omega arith)
-
--- the larger of the two sizes
-pub table-many : {long : ℕ} → TableSize long → (long ≡ 256 → ⊥) → long ≡ 2048
-table-many few other = absurd (other refl)
-table-many many other = refl
+  pub slot-many : (long ≡ 256 → ⊥) → (mixed % 1024 ≡ slotOf long key) × (mixed % 1024 < long)
+  unfolding slotOf
+  slot-many other = let one = larger size other in (rw (is, one), omega (arith, one))
 
 -- entries left to count from e on
 pub left-of : (e end : ℕ) → e < end → end - e ≡ suc (end - (e + 1))
 left-of e end below = omega arith
+
+-- a word by its bytes, and words by their number
+word-in : (img : List ℕ) (w low high : ℕ) → low ≡ 2 * w → high ≡ 2 * w + 1 → getD img low 0 + 256 * getD img high 0 ≡ wordAt img w
+unfolding wordAt
+word-in img w low high is next = rw (is, next)
+
+word-small : (img : List ℕ) (w : ℕ) → ((i : ℕ) → getD img i 0 < 256) → wordAt img w < 65536
+unfolding wordAt
+word-small img w bytes = omega (arith, bytes (2 * w), bytes (2 * w + 1))
+
+parts-of : {a b c d number : ℕ} → a < 65536 → b < 65536 → c < 65536 → number ≡ a + 65536 * b + 4294967296 * c + 281474976710656 * d
+    → (number % 65536 ≡ a) × (number / 65536 % 65536 ≡ b) × (number / 4294967296 % 65536 ≡ c) × (number / 281474976710656 ≡ d)
+parts-of {a} {b} {c} {d} {number} x y z is =
+    let one : number / 65536 ≡ b + 65536 * (c + 65536 * d) = omega (arith, x, is) in
+    let two : number / 4294967296 ≡ c + 65536 * d = omega (arith, x, y, is) in
+    (omega (arith, x, is), omega (arith, y, one), omega (arith, z, two), omega (arith, x, y, z, is))
 
 module _ (img : List ℕ) (g : Geometry) where
   abbrev Same : ℕ → ℕ → Type 0
@@ -183,65 +179,192 @@ module _ (img : List ℕ) (g : Geometry) where
   pub differ-empty : (e k : ℕ) → ((j : ℕ) → e ≤ j → j < e + k → entryWord img g j 0 ≡ 0) → differTest img g e k ≡ true
   differ-empty e k empty = each-tested e k (λ j low high. new-empty j (empty j low high))
 
-  -- the remainder of what was read
-  pub remainder-of : (size e : ℕ) {w₀ w₁ w₂ w₃ : ℕ} → w₀ ≡ entryWord img g e 0 → w₁ ≡ entryWord img g e 1 → w₂ ≡ entryWord img g e 2 → w₃ ≡ entryWord img g e 3
-      → (w₀ + w₁ + (w₂ + w₃)) % size ≡ keyRemainder size img g e
-  unfolding keyRemainder
-  remainder-of size e is₀ is₁ is₂ is₃ = rw (is₀, is₁, is₂, is₃)
+  -- the number of what was read, and its words
+  pub number-read : (e : ℕ) {bytes number : ℕ} → bytes ≡ blockBytes g → number ≡ eightAt img (bytes + 32 * e) → number ≡ keyNumber img g e
+  unfolding keyNumber entryWord eightAt
+  number-read e {bytes} size is =
+      omega (
+        arith,
+        is,
+        word-in img (entryAt g e + 0) (bytes + 32 * e) (bytes + 32 * e + 1) (omega (arith, size)) (omega (arith, size)),
+        word-in img (entryAt g e + 1) (bytes + 32 * e + 2) (bytes + 32 * e + 3) (omega (arith, size)) (omega (arith, size)),
+        word-in img (entryAt g e + 2) (bytes + 32 * e + 4) (bytes + 32 * e + 5) (omega (arith, size)) (omega (arith, size)),
+        word-in img (entryAt g e + 3) (bytes + 32 * e + 6) (bytes + 32 * e + 7) (omega (arith, size)) (omega (arith, size)),
+      )
 
-  same-remainder : (size e f : ℕ) → Same e f → keyRemainder size img g e ≡ keyRemainder size img g f
-  unfolding keyRemainder entryOf
-  same-remainder size e f same = rw (same .name1, same .name2, same .extension, same .uic)
+  pub key-small : (e : ℕ) → ((i : ℕ) → getD img i 0 < 256) → SmallKey img g e
+  unfolding entryWord
+  key-small e bytes =
+      record {
+        name1 = word-small img (entryAt g e + 0) bytes;
+        name2 = word-small img (entryAt g e + 1) bytes;
+        extension = word-small img (entryAt g e + 2) bytes;
+        uic = word-small img (entryAt g e + 3) bytes;
+      }
 
-  pub marked-none : (marks : List ℕ) → TableSize (length marks) → Marked img g marks 0
-  marked-none marks size = record { size = size; marked = λ i low used none. absurd (omega arith) }
+  pub number-words : (e : ℕ) {number : ℕ} → number ≡ keyNumber img g e → SmallKey img g e
+      → (number % 65536 ≡ entryWord img g e 0) × (number / 65536 % 65536 ≡ entryWord img g e 1)
+      × (number / 4294967296 % 65536 ≡ entryWord img g e 2) × (number / 281474976710656 ≡ entryWord img g e 3)
+  unfolding keyNumber
+  number-words e is small = parts-of (small .name1) (small .name2) (small .extension) is
 
-  -- an empty entry has no file to mark
-  pub marked-empty : (marks : List ℕ) (e : ℕ) → entryWord img g e 0 ≡ 0 → Marked img g marks e → Marked img g marks (e + 1)
-  marked-empty marks e empty before =
+  -- entries of one key have one number, and the other way where the words are small
+  pub number-same : (e f : ℕ) → Same e f → keyNumber img g e ≡ keyNumber img g f
+  unfolding keyNumber entryOf
+  number-same e f same = rw (same .name1, same .name2, same .extension, same .uic)
+
+  pub same-number : (e f : ℕ) → SmallKey img g e → SmallKey img g f → keyNumber img g e ≡ keyNumber img g f → Same e f
+  unfolding keyNumber entryOf
+  same-number e f a b is =
+      record {
+        name1 = omega (arith, is, a .name1, b .name1);
+        name2 = omega (arith, is, a .name1, b .name1, a .name2, b .name2);
+        extension = omega (arith, is, a .name1, b .name1, a .name2, b .name2, a .extension, b .extension);
+        uic = omega (arith, is, a .name1, b .name1, a .name2, b .name2, a .extension, b .extension);
+      }
+
+  -- nobody stands in the lists at the start
+  listing-none : (heads links : List ℕ) → TableSize (length heads) → ((s : ℕ) → getD heads s 0 ≡ 0) → ((f : ℕ) → getD links f 0 ≡ 0) → Listing img g heads links 0
+  listing-none heads links size empty empty′ =
+      record { size = size; first = λ s. omega (arith, empty s); next = λ f. omega (arith, empty′ f); all = λ i low used. absurd (omega arith) }
+
+  pub listing-fresh : (size room : ℕ) → TableSize size → Listing img g (replicate size 0) (replicate room 0) 0
+  listing-fresh size room is =
+      listing-none (replicate size 0) (replicate room 0) (subst TableSize (sym (length-replicate {A = ℕ} size 0)) is) (zeros size) (zeros room)
+    where
+      zeros : (n i : ℕ) → getD {A = ℕ} (replicate n 0) i 0 ≡ 0
+      zeros n i = elim (decLt i n) [
+        | yes inside ↦ getD-replicate n i 0 0 inside
+        | no outside ↦ let beyond : length {A = ℕ} (replicate n 0) ≤ i = omega (arith, outside, length-replicate {A = ℕ} n 0) in List·getD-eq-default (replicate n 0) 0 beyond
+      ]
+
+  -- an empty entry has no file
+  pub listing-empty : (heads links : List ℕ) (e : ℕ) → entryWord img g e 0 ≡ 0 → Listing img g heads links e → Listing img g heads links (e + 1)
+  listing-empty heads links e empty before =
       record {
         size = before .size;
-        marked = λ i low used none. elim (ℕ-discrete i e) [
-          | yes is ↦ used (ap (λ (n : ℕ). entryWord img g n 0) is ∙ empty)
-          | no other ↦ before .marked i (omega (arith, other)) used none
+        first = λ s. omega (arith, before .first s);
+        next = before .next;
+        all = λ i below used. elim (ℕ-discrete i e) [
+          | yes is ↦ absurd (used (ap (λ (n : ℕ). entryWord img g n 0) is ∙ empty))
+          | no other ↦ before .all i (omega (arith, other, below)) used
         ];
       }
 
-  module _ (marks : List ℕ) (e at : ℕ) (is : at ≡ keyRemainder (8 * length marks) img g e) (before : Marked img g marks e) where
-    earlier : (i : ℕ) → i < e + 1 → (keyRemainder (8 * length marks) img g i ≡ at → ⊥) → i < e
-    earlier i low other = elim (ℕ-discrete i e) [
-      | yes here ↦ absurd (other (ap (keyRemainder (8 * length marks) img g) here ∙ sym is))
-      | no another ↦ omega (arith, another)
-    ]
+  -- a list stays where another entry, behind all of its own, is led on
+  kept-list : (links : List ℕ) (e value : ℕ) → ((f : ℕ) → getD links f 0 ≤ f) → (f i : ℕ) → f ≤ e → InList links f i → InList (set links e value) f i
+  kept-list links e value lower f i low (here is) = here is
+  kept-list links e value lower f i low (later k is rest) =
+      let below : k < e = omega (arith, low, is) in
+      later k is (subst (λ (n : ℕ). InList (set links e value) n i) (sym (getD-set-other links e k value 0 (λ same. omega (arith, same, below))))
+      (kept-list links e value lower (getD links k 0) i (omega (arith, lower k, below)) rest))
 
-    -- marked now, or before by another file
-    pub marked-more : at < 8 * length marks → {marks′ : List ℕ} → marks′ ≡ markSet marks at → Marked img g marks′ (e + 1)
-    marked-more inside {marks′} set =
-        let long : length marks′ ≡ length marks = ap length set ∙ mark-long marks at in
-        let size = before .size in
-        record {
-          size = subst TableSize (sym long) size;
-          marked = λ i low used none.
-              let unmarked : markBit (markSet marks at) (keyRemainder (8 * length marks) img g i) ≡ 0 =
-              ap (λ (m : List ℕ). markBit m (keyRemainder (8 * length marks) img g i)) (sym set)
-              ∙ (ap (λ (n : ℕ). markBit marks′ (keyRemainder (8 * n) img g i)) (sym long) ∙ none) in
-              elim (ℕ-discrete (keyRemainder (8 * length marks) img g i) at) [
-                | yes same ↦ omega (arith, unmarked, ap (markBit (markSet marks at)) same, mark-own marks at inside)
-                | no other ↦ before .marked i (earlier i low other) used (sym (mark-other marks at inside (keyRemainder (8 * length marks) img g i) other) ∙ unmarked)
-              ];
-        }
+  module _ (heads links : List ℕ) (e : ℕ) (before : Listing img g heads links e) where
+    module _ {key slot from : ℕ} (is : key ≡ keyNumber img g e) (at : slot ≡ slotOf (length heads) key) (begins : from ≡ getD heads slot 0) where
+      -- a file before e of its number stands in its list
+      found : (i : ℕ) → i < e → (entryWord img g i 0 ≡ 0 → ⊥) → keyNumber img g i ≡ key → InList links from i
+      found i below used same =
+          subst (λ (n : ℕ). InList links n i) (ap (λ (n : ℕ). getD heads (slotOf (length heads) n) 0) same ∙ ap (λ (n : ℕ). getD heads n 0) (sym at) ∙ sym begins)
+          (before .all i below used)
 
-    pub marked-again : (markBit marks at ≡ 0 → ⊥) → Marked img g marks (e + 1)
-    marked-again there =
-        record {
-          size = before .size;
-          marked = λ i low used none. elim (ℕ-discrete (keyRemainder (8 * length marks) img g i) at) [
-            | yes same ↦ there (ap (markBit marks) (sym same) ∙ none)
-            | no other ↦ before .marked i (earlier i low other) used none
-          ];
-        }
+      -- where none in the list of e has its number, no file before it is the same
+      pub compared-new : {r : Bool} → Compared img g links key from r → r ≡ true → (entryWord img g e 0 ≡ 0 → ⊥) → true ≡ newTest img g e
+      compared-new apart right used = sym (new-tested e (λ _ i low high same.
+          let equal : keyNumber img g i ≡ key = sym (is ∙ number-same e i same) in
+          apart .other right i (found i (omega (arith, high)) (used-same e i same used) equal) equal))
 
-    -- where the remainder of e is not marked, no file before it is the same
-    pub unmarked-new : markBit marks at ≡ 0 → (entryWord img g e 0 ≡ 0 → ⊥) → true ≡ newTest img g e
-    unmarked-new free used = sym (new-tested e (λ _ i low high same.
-        before .marked i (omega arith) (used-same e i same used) (ap (markBit marks) (sym (is ∙ same-remainder (8 * length marks) e i same)) ∙ free)))
+      pub compared-old : {r : Bool} → SmallKey img g e → Compared img g links key from r → r ≡ false → (entryWord img g e 0 ≡ 0 → ⊥) → false ≡ newTest img g e
+      compared-old small apart wrong used =
+          let one = apart .met wrong in
+          let same = same-number e (one .at) small (one .small) (sym (one .same ∙ is)) in
+          by (newTest img g e) (λ test. new-means e test used (one .at) (omega arith) (omega (arith, one .before, begins, before .first slot)) same)
+        where
+          by : (t : Bool) → (t ≡ true → ⊥) → false ≡ t
+          by true never = absurd (never refl)
+          by false never = refl
+
+    -- file e at the head of its list
+    pub listing-more : {key slot : ℕ} → key ≡ keyNumber img g e → slot ≡ slotOf (length heads) key → e < length links → {heads′ links′ : List ℕ}
+        → heads′ ≡ set heads slot (e + 1) → links′ ≡ set links e (getD heads slot 0) → Listing img g heads′ links′ (e + 1)
+    listing-more {key} {slot} is-key of-key inside {heads′} {links′} is₁ is₂ =
+        rw (is₁, is₂)
+        (record {
+          size = subst TableSize (sym long) (before .size);
+          first = first;
+          next = next;
+          all = λ i below used. subst (λ (n : ℕ). InList after (getD first′ (slotOf n (keyNumber img g i)) 0) i) (sym long) (listed i below used);
+        })
+      where
+        at : slot ≡ slotOf (length heads) (keyNumber img g e)
+        at = of-key ∙ ap (slotOf (length heads)) is-key
+
+        first′ : List ℕ
+        first′ = set heads slot (e + 1)
+
+        after : List ℕ
+        after = set links e (getD heads slot 0)
+
+        long : length first′ ≡ length heads
+        long = length-set heads slot (e + 1)
+
+        slot-inside : slot < length heads
+        slot-inside = omega (arith, at, slot-in (length heads) (keyNumber img g e) (before .size))
+
+        own : getD first′ slot 0 ≡ e + 1
+        own = getD-set-same heads slot (e + 1) 0 slot-inside
+
+        first : (s : ℕ) → getD first′ s 0 ≤ e + 1
+        first s = elim (ℕ-discrete s slot) [
+          | yes is ↦ omega (arith, ap (λ (n : ℕ). getD first′ n 0) is, own)
+          | no other ↦ omega (arith, getD-set-other heads slot s (e + 1) 0 other, before .first s)
+        ]
+
+        next : (f : ℕ) → getD after f 0 ≤ f
+        next f = elim (ℕ-discrete f e) [
+          | yes is ↦ omega (arith, is, ap (λ (n : ℕ). getD after n 0) is, getD-set-same links e (getD heads slot 0) 0 inside, before .first slot)
+          | no other ↦ omega (arith, getD-set-other links e f (getD heads slot 0) 0 other, before .next f)
+        ]
+
+        kept : (f i : ℕ) → f ≤ e → InList links f i → InList after f i
+        kept = kept-list links e (getD heads slot 0) (before .next)
+
+        listed : (i : ℕ) → i < e + 1 → (entryWord img g i 0 ≡ 0 → ⊥) → InList after (getD first′ (slotOf (length heads) (keyNumber img g i)) 0) i
+        listed i below used = elim (ℕ-discrete i e) [
+          | yes is ↦ subst (λ (n : ℕ). InList after (getD first′ (slotOf (length heads) (keyNumber img g n)) 0) n) (sym is)
+              (subst (λ (n : ℕ). InList after n e) (sym (ap (λ (n : ℕ). getD first′ n 0) (sym at) ∙ own)) (here (omega arith)))
+          | no other ↦ by (ℕ-discrete (slotOf (length heads) (keyNumber img g i)) slot) (before .all i (omega (arith, other, below)) used)
+        ]
+          where
+            by : Dec (slotOf (length heads) (keyNumber img g i) ≡ slot) → InList links (getD heads (slotOf (length heads) (keyNumber img g i)) 0) i
+                → InList after (getD first′ (slotOf (length heads) (keyNumber img g i)) 0) i
+            by (yes is) old =
+                subst (λ (n : ℕ). InList after n i) (sym (ap (λ (n : ℕ). getD first′ n 0) is ∙ own))
+                (later e (omega arith) (subst (λ (n : ℕ). InList after n i) (sym (getD-set-same links e (getD heads slot 0) 0 inside))
+                (kept (getD heads slot 0) i (before .first slot) (subst (λ (n : ℕ). InList links (getD heads n 0) i) is old))))
+            by (no apart) old =
+                subst (λ (n : ℕ). InList after n i) (sym (getD-set-other heads slot (slotOf (length heads) (keyNumber img g i)) (e + 1) 0 apart))
+                (kept (getD heads (slotOf (length heads) (keyNumber img g i)) 0) i (before .first (slotOf (length heads) (keyNumber img g i))) old)
+
+-- a search through a list: whoever of it has the number is still to come
+module _ (img : List ℕ) (g : Geometry) {links : List ℕ} {key from : ℕ} where
+  pub seek-end : {f : ℕ} → f ≤ 0 → ((i : ℕ) → InList links from i → keyNumber img g i ≡ key → InList links f i) → Compared img g links key from true
+  seek-end {f} none leads =
+      record { other = λ _ i in-list is. nobody f i none (leads i in-list is); met = λ never. true-not-false never }
+    where
+      nobody : (f i : ℕ) → f ≤ 0 → InList links f i → ⊥
+      nobody f i low (here is) = omega (arith, low, is)
+      nobody f i low (later k is rest) = omega (arith, low, is)
+
+  pub seek-on : {f : ℕ} → 0 < f → (keyNumber img g (f - 1) ≡ key → ⊥) → {next : ℕ} → next ≡ getD links (f - 1) 0
+      → ((i : ℕ) → InList links from i → keyNumber img g i ≡ key → InList links f i) → (i : ℕ) → InList links from i → keyNumber img g i ≡ key → InList links next i
+  seek-on {f} more other is leads i in-list same = rw is (rest f (f - 1) i (omega (arith, more)) (leads i in-list same) same other)
+    where
+      rest : (f k i : ℕ) → f ≡ suc k → InList links f i → keyNumber img g i ≡ key → (keyNumber img g k ≡ key → ⊥) → InList links (getD links k 0) i
+      rest f k i at (here is) same other = let own : i ≡ k = omega (arith, at, is) in absurd (other (ap (keyNumber img g) (sym own) ∙ same))
+      rest f k i at (later k′ is found) same other =
+          let own : k′ ≡ k = omega (arith, at, is) in
+          subst (λ (n : ℕ). InList links (getD links n 0) i) own found
+
+  pub seek-met : {f : ℕ} → (0 < f) × (f ≤ from) → SmallKey img g (f - 1) → keyNumber img g (f - 1) ≡ key → Compared img g links key from false
+  seek-met {f} low small same =
+      record { other = λ never. true-not-false (sym never); met = λ _. record { at = f - 1; before = omega (arith, low); small = small; same = same } }

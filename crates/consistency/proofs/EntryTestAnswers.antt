@@ -4,10 +4,9 @@ use mathlib.Core.Path.{_≡_, refl, sym, ap, _∙_}
 use mathlib.Core.Bool.{Bool, true, false, cond, not, _&&_, _||_, and-true}
 use mathlib.Core.List.{List}
 use native.Mathlib.Omega.{arith}
-use native.Mathlib.Decide.{decLt}
+use native.Mathlib.Decide.{ℕ-discrete, decLt}
 use native.Mathlib.Numerals.{add-one}
 use native.Mathlib.Nat.{add-zero}
-use lib.Bits.{bitOr, or-add-and, and-le-l, and-le-r}
 use lib.Dec.{eqb, leb, ltb}
 use lib.ListN.{getD}
 use borrow.Author.Tests.{eq-eqb, ne-eqb, eqb-true, le-leb, lt-leb, lt-ltb, le-ltb}
@@ -23,10 +22,8 @@ use Rattle.answers.proofs.RefusalsTests.{and-left, go-on, stop}
 use Rattle.pack.proofs.EntryRead.{empty-blocks}
 use Rattle.consistency.specs.EightBytes.{eightAt}
 use Rattle.consistency.specs.Walk.{takes, mark, blocksFrom}
-use Rattle.consistency.specs.EntryTest.{keyTest, writerTest, kindTest, opensTest, fieldsTest, endTest, bodyTest, runTest, chainTest, restTest, openTest, heldTest, entryTest}
-use Rattle.consistency.specs.DifferTest.{newTest}
+use Rattle.consistency.specs.EntryTest.{keyTest, writerTest, kindTest, opensTest, fieldsTest, endTest, bodyTest, runTest, chainTest, restTest, openTest, heldTest, placedTest, entryTest}
 use Rattle.consistency.proofs.EntryTestWhole.{rest-iff}
-use Rattle.consistency.proofs.DifferTest.{new-empty}
 
 -- of the test of the name, the extension and the UIC of entry e, of which these words were read
 module _ (img : List ℕ) (g : Geometry) (e : ℕ) {name1 name2 : ℕ} (is₀ : name1 ≡ entryWord img g e 0) (is₁ : name2 ≡ entryWord img g e 1) where
@@ -88,19 +85,15 @@ unfolding wordAt
 word-zero img w low high is next none none′ =
     omega (arith, none, none′, ap (λ (k : ℕ). getD img k 0) is, ap (λ (k : ℕ). getD img k 0) next)
 
-either-zero : (a b : ℕ) → bitOr a b ≡ 0 → (a ≡ 0) × (b ≡ 0)
-either-zero a b none = (omega (arith, none, or-add-and a b, and-le-l a b, and-le-r a b), omega (arith, none, or-add-and a b, and-le-l a b, and-le-r a b))
-
 -- the words 9 to 15 of entry e, of which two such numbers were read
 pub closed-by : (img : List ℕ) (g : Geometry) (e : ℕ) {bytes first second : ℕ} → bytes ≡ blockBytes g
-    → first ≡ eightAt img (bytes + 32 * e + 18) → second ≡ eightAt img (bytes + 32 * e + 24) → bitOr first second ≡ 0
+    → first ≡ eightAt img (bytes + 32 * e + 18) → second ≡ eightAt img (bytes + 32 * e + 24) → first ≡ 0 → second ≡ 0
     → (i : ℕ) → 9 ≤ i → i < 16 → entryWord img g e i ≡ 0
 unfolding entryWord
-closed-by img g e {bytes} {first} {second} size is₁ is₂ none i low high =
-    let both = either-zero first second none in
+closed-by img g e {bytes} {first} {second} size is₁ is₂ none none′ i low high =
     let place : 9 + (i - 9) ≡ i = omega arith in
     ap (λ (k : ℕ). wordAt img (entryAt g e + k)) (sym place)
-    ∙ each (all-zero img (bytes + 32 * e + 18) (sym is₁ ∙ both .0)) (all-zero img (bytes + 32 * e + 24) (sym is₂ ∙ both .1)) (i - 9) (omega arith)
+    ∙ each (all-zero img (bytes + 32 * e + 18) (sym is₁ ∙ none)) (all-zero img (bytes + 32 * e + 24) (sym is₂ ∙ none′)) (i - 9) (omega arith)
   where
     each : AllZero img (bytes + 32 * e + 18) → AllZero img (bytes + 32 * e + 24) → (j : ℕ) → j < 7 → wordAt img (entryAt g e + (9 + j)) ≡ 0
     each one two zero low = word-zero img _ (bytes + 32 * e + 18) (bytes + 32 * e + 18 + 1) (omega (arith, size)) (omega (arith, size)) (one .0) (one .1)
@@ -216,11 +209,11 @@ module _ (img : List ℕ) (g : Geometry) (map : List ℕ) (e : ℕ) {protect : �
       unfolding blocksFrom blocksOf entryOf
       chain-mark other is = is ∙ rw (is₆, is₇, ← open-kind other, is₅)
 
--- of the test of an empty entry
-module _ (img : List ℕ) (g : Geometry) (map : List ℕ) (e : ℕ) {w : ℕ} (is : w ≡ entryWord img g e 0) (none : w ≡ 0) where
-  pub empty-answer : (r : Bool) → r ≡ restTest img g e 0 → r ≡ (entryTest img g map e && newTest img g e)
-  unfolding entryTest entryOf
-  empty-answer r tested = rw (new-empty img g e (sym is ∙ none), eq-eqb _ _ (sym is ∙ none)) (tested ∙ sym (and-true _))
+-- of an empty entry
+module _ (img : List ℕ) (g : Geometry) (map : List ℕ) (e : ℕ) where
+  empty-entry : entryOf img g e .name1 ≡ 0 → entryTest img g map e ≡ restTest img g e 0
+  unfolding entryTest
+  empty-entry is = rw (eq-eqb _ _ is)
 
   pub empty-mark : restTest img g e 0 ≡ true → map ≡ mark map (blocksAt img g e)
   unfolding mark
@@ -228,9 +221,13 @@ module _ (img : List ℕ) (g : Geometry) (map : List ℕ) (e : ℕ) {w : ℕ} (i
       let empty : Empty img g e = record { zero = λ i below. rest-iff img g e 0 (omega arith) .0 test i (omega arith) below } in
       sym (ap (mark map) (empty-blocks img g e empty))
 
+name-used : (img : List ℕ) (g : Geometry) (e : ℕ) → (entryOf img g e .name1 ≡ 0 → ⊥) → entryWord img g e 0 ≡ 0 → ⊥
+unfolding entryOf
+name-used img g e used none = used none
+
 -- of the test of entry e, one in use
 module _ (img : List ℕ) (g : Geometry) (map : List ℕ) (e : ℕ) (used : entryWord img g e 0 ≡ 0 → ⊥) where
-  pub file-parts : (keyTest img (entryOf img g e) && heldTest img g map e) ≡ entryTest img g map e
+  file-parts : (keyTest img (entryOf img g e) && heldTest img g map e) ≡ entryTest img g map e
   unfolding entryTest fieldsTest kindTest heldTest openTest entryOf
   file-parts =
       simp (ne-eqb _ _ used)
@@ -248,8 +245,33 @@ module _ (img : List ℕ) (g : Geometry) (map : List ℕ) (e : ℕ) (used : entr
       by true true false true false r b = refl
       by true true false false s r b = refl
 
-  pub file-key : keyTest img (entryOf img g e) ≡ false → false ≡ entryTest img g map e
-  file-key wrong = stop _ _ wrong ∙ file-parts
+-- of the test of any entry in two parts
+pub entry-parts : (img : List ℕ) (g : Geometry) (map : List ℕ) (e : ℕ)
+    → (cond (eqb (entryOf img g e .name1) 0) true (keyTest img (entryOf img g e)) && placedTest img g map e) ≡ entryTest img g map e
+unfolding placedTest
+entry-parts img g map e = by (ℕ-discrete (entryOf img g e .name1) 0)
+  where
+    by : Dec (entryOf img g e .name1 ≡ 0)
+        → (cond (eqb (entryOf img g e .name1) 0) true (keyTest img (entryOf img g e)) && cond (eqb (entryOf img g e .name1) 0) (restTest img g e 0) (heldTest img g map e))
+        ≡ entryTest img g map e
+    by (yes is) = rw (eq-eqb _ _ is) (sym (empty-entry img g map e is))
+    by (no used) = rw (ne-eqb _ _ used) (file-parts img g map e (name-used img g e used))
 
-  pub file-held : keyTest img (entryOf img g e) ≡ true → (r : Bool) → r ≡ heldTest img g map e → r ≡ entryTest img g map e
-  file-held right r is = go-on right is ∙ file-parts
+module _ (img : List ℕ) (g : Geometry) (map : List ℕ) (e : ℕ) where
+  -- what the code finds of the parts
+  pub placed-empty : {w : ℕ} → w ≡ entryWord img g e 0 → w ≡ 0 → (r : Bool) → r ≡ restTest img g e 0 → r ≡ placedTest img g map e
+  unfolding placedTest entryOf
+  placed-empty is none r tested = rw (eq-eqb _ _ (sym is ∙ none)) tested
+
+  pub placed-used : (entryWord img g e 0 ≡ 0 → ⊥) → (r : Bool) → r ≡ heldTest img g map e → r ≡ placedTest img g map e
+  unfolding placedTest entryOf
+  placed-used used r is = rw (ne-eqb _ _ used) is
+
+pub empty-placed : (img : List ℕ) (g : Geometry) (map : List ℕ) (e : ℕ) → Empty img g e → placedTest img g map e ≡ true
+unfolding placedTest entryOf
+empty-placed img g map e empty = rw (eq-eqb _ _ (empty .zero 0 (omega arith))) (rest-iff img g e 0 (omega arith) .1 (λ i low high. empty .zero i high))
+
+pub key-used : (img : List ℕ) (g : Geometry) (e : ℕ) → (entryWord img g e 0 ≡ 0 → ⊥)
+    → cond (eqb (entryOf img g e .name1) 0) true (keyTest img (entryOf img g e)) ≡ keyTest img (entryOf img g e)
+unfolding entryOf
+key-used img g e used = rw (ne-eqb _ _ used)

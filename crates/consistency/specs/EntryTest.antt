@@ -75,6 +75,10 @@ heldTest img g map e =
     && (openTest img g e (entryOf img g e .kind)
     && (not (eqb (entryOf img g e .kind) 1 && ltb (entryOf img g e .length) 1) && bodyTest img g map (entryOf img g e)))
 
+-- the same of any entry: one whose first word is 0 is all zero
+unfoldable pub placedTest : List ℕ → Geometry → List ℕ → ℕ → Bool
+placedTest img g map e = cond (eqb (entryOf img g e .name1) 0) (restTest img g e 0) (heldTest img g map e)
+
 -- an entry whose first word is 0 is all zero; another is that of a file
 unfoldable pub entryTest : List ℕ → Geometry → List ℕ → ℕ → Bool
 entryTest img g map e =

@@ -1,86 +1,80 @@
-// That files differ in name, extension or UIC: each is compared with those before it, where a number made of the three says that one may be the same.
+// That files differ in name, extension or UIC: each is compared with those before it that stand in one list with it. A number made of the three
+// says which list that is, and of some hundred files few stand in one.
 ghost use mathlib.Core.Path.{_≡_};
 ghost use mathlib.Core.Bool.{true};
-ghost use Prim.Native.Nat.{_+_, _*_, _<_};
-ghost use lib.ListN.{length};
+ghost use Prim.Native.Nat.{ℕ, _+_, _<_, _≤_};
+ghost use lib.ListN.{length, getD};
 ghost use Rattle.pack.specs.GeometrySized.{Sized};
 ghost use Rattle.pack.specs.Geometry.{slots};
 ghost use Rattle.pack.specs.Entry.{entryWord};
-ghost use Rattle.consistency.specs.DifferTest.{sameTest, keyRemainder, TableSize, markBit, markSet, apartTest, newTest, Marked};
+ghost use Rattle.consistency.specs.DifferTest.{keyNumber, SmallKey, TableSize, slotOf, Compared, newTest, Listing};
+use crate::eights;
 use pack::Geometry;
 
-fn is_same_file(img: &[u8], g: Geometry, e: usize, f: usize) -> bool
-    requires { ⌜ Sized (now img) g ⌝ }
-    requires { ⌜ (e < slots g) × (f < slots g) ⌝ }
-    ensures { λ r. ⌜ r ≡ sameTest (now (img .entry)) g e f ⌝ }
-{
-    pack::is_same_key(pack::read_key(img, g, e), pack::read_key(img, g, f))
-}
+// Lists for at most so many files, and how many lists: so many that few files share one.
+pub const FEW_FILES: usize = 128;
 
-// Does the file of entry e differ from all before it?
-fn is_new(img: &[u8], g: Geometry, e: usize) -> bool
+pub const FEW_LISTS: usize = 256;
+
+pub const MANY_FILES: usize = 512;
+
+pub const MANY_LISTS: usize = 1024;
+
+// The name, extension and UIC of entry e as one number.
+pub fn key_number(img: &[u8], g: Geometry, e: usize) -> usize
     requires { ⌜ Sized (now img) g ⌝ }
     requires { ⌜ e < slots g ⌝ }
-    ensures { λ r. ⌜ r ≡ apartTest (now (img .entry)) g e 0 e ⌝ }
+    ensures { λ r. ⌜ r ≡ keyNumber (now (img .entry)) g e ⌝ }
+    ensures { λ r. ⌜ SmallKey (now (img .entry)) g e ⌝ }
 {
-    let mut f = 0;
-    while f < e {
-        if is_same_file(img, g, e, f) {
+    let segments = g.segments;
+    eights::eight_at(img, segments.bytes() + 32 * e)
+}
+
+// The list of a file.
+fn slot_of(key: usize, long: usize) -> usize
+    requires { ⌜ TableSize long ⌝ }
+    ensures { λ r. ⌜ r ≡ slotOf long key ⌝ }
+    ensures { λ r. ⌜ r < long ⌝ }
+{
+    let mixed = (key % 4294967296 + key / 4294967296) * 1580693937 / 8388608;
+    if long == FEW_LISTS {
+        return mixed % FEW_LISTS;
+    }
+    mixed % MANY_LISTS
+}
+
+// Has none of the files in a list this number? The list begins with the entry before `from`, and each entry leads to one before it; 0 is its end.
+fn is_apart(img: &[u8], links: &[u16], g: Geometry, key: usize, from: usize) -> bool
+    requires { ⌜ Sized (now img) g ⌝ }
+    requires { ⌜ (from ≤ slots g) × (from ≤ length (now links)) × ((f : ℕ) → getD (now links) f 0 ≤ f) ⌝ }
+    ensures { λ r. ⌜ Compared (now (img .entry)) g (now (links .entry)) key from r ⌝ }
+{
+    let mut f = from;
+    while 0 < f {
+        if key_number(img, g, f - 1) == key {
             return false;
         }
-        f += 1;
+        f = links[f - 1] as usize;
     }
     true
 }
 
-// Bytes of marks, of eight numbers each: so many that of 128 files, or of 512, few have a number that another has.
-pub const FEW_MARKS: usize = 256;
-
-pub const MANY_MARKS: usize = 2048;
-
-// The same for the same name, extension and UIC, and of other files seldom the same.
-fn key_remainder(img: &[u8], g: Geometry, e: usize, long: usize) -> usize
+// The files before this one stand in their lists: only one in its own can be the same.
+pub fn does_differ(img: &[u8], heads: &mut [u16], links: &mut [u16], g: Geometry, e: usize) -> bool
     requires { ⌜ Sized (now img) g ⌝ }
-    requires { ⌜ (e < slots g) × TableSize long ⌝ }
-    ensures { λ r. ⌜ r ≡ keyRemainder (8 * long) (now (img .entry)) g e ⌝ }
-    ensures { λ r. ⌜ r < 8 * long ⌝ }
-{
-    let name = pack::entry_word(img, g, e, 0) + pack::entry_word(img, g, e, 1);
-    let rest = pack::entry_word(img, g, e, 2) + pack::entry_word(img, g, e, 3);
-    if long == FEW_MARKS {
-        return (name + rest) % (8 * FEW_MARKS);
-    }
-    (name + rest) % (8 * MANY_MARKS)
-}
-
-fn mark_of(marks: &[u8], at: usize) -> usize
-    requires { ⌜ at < 8 * length (now marks) ⌝ }
-    ensures { λ r. ⌜ r ≡ markBit (now (marks .entry)) at ⌝ }
-{
-    let byte = marks[at / 8] as usize;
-    (byte >> (at % 8)) % 2
-}
-
-// A number that is not marked yet.
-fn set_mark(marks: &mut [u8], at: usize)
-    requires { ⌜ (at < 8 * length (now marks)) × (markBit (now marks) at ≡ 0) ⌝ }
-    ensures { λ r. ⌜ now (marks .exit) ≡ markSet (now (marks .entry)) at ⌝ }
-{
-    let byte = marks[at / 8] as usize;
-    marks[at / 8] = (byte + (1 << (at % 8))) as u8;
-}
-
-// The numbers of the files before this one are marked: only where its own is among them can one of them be the same.
-pub fn does_differ(img: &[u8], marks: &mut [u8], g: Geometry, e: usize) -> bool
-    requires { ⌜ Sized (now img) g ⌝ }
-    requires { ⌜ (e < slots g) × (entryWord (now img) g e 0 ≡ 0 → ⊥) × Marked (now img) g (now marks) e ⌝ }
+    requires { ⌜ (e < slots g) × (entryWord (now img) g e 0 ≡ 0 → ⊥) × Listing (now img) g (now heads) (now links) e ⌝ }
+    requires { ⌜ (e < length (now links)) × (length (now links) < 65536) ⌝ }
     ensures { λ r. ⌜ r ≡ newTest (now (img .entry)) g e ⌝ }
-    ensures { λ r. ⌜ (r ≡ true → Marked (now (img .entry)) g (now (marks .exit)) (e + 1)) ⌝ }
+    ensures { λ r. ⌜ (r ≡ true → Listing (now (img .entry)) g (now (heads .exit)) (now (links .exit)) (e + 1)) ⌝ }
 {
-    let at = key_remainder(img, g, e, marks.len());
-    if mark_of(marks, at) != 0 {
-        return is_new(img, g, e);
+    let key = key_number(img, g, e);
+    let slot = slot_of(key, heads.len());
+    let from = heads[slot];
+    if !is_apart(img, links, g, key, from as usize) {
+        return false;
     }
-    set_mark(marks, at);
+    links[e] = from;
+    heads[slot] = (e + 1) as u16;
     true
 }

@@ -9,14 +9,14 @@ ghost use mathlib.Core.Bool.{true, _&&_};
 ghost use Prim.Native.Nat.{ℕ, _+_, _%_, _<_, _≤_};
 ghost use lib.ListN.{length};
 ghost use Rattle.radix.specs.NamesTest.{legalName};
-ghost use Rattle.pack.specs.GeometrySized.{Sized};
+ghost use Rattle.pack.specs.GeometrySized.{mostEntries, Sized};
 ghost use Rattle.pack.specs.Geometry.{slots};
 ghost use Rattle.pack.specs.Header.{RightHeader};
 ghost use Rattle.pack.specs.Entry.{entryWord, entryOf, blocksAt};
 ghost use Rattle.consistency.specs.Walk.{mark, systemSet, SystemTaken};
-ghost use Rattle.consistency.specs.EntryTest.{keyTest, writerTest, opensTest, openTest, heldTest, restTest, entryTest};
-ghost use Rattle.consistency.specs.DifferTest.{TableSize, newTest, differTest, Marked};
-ghost use Rattle.consistency.specs.ConsistentTest.{scanTest, markAll, systemMap, UsedEnd, filesTest, openedOf};
+ghost use Rattle.consistency.specs.EntryTest.{keyTest, writerTest, opensTest, openTest, heldTest, restTest, placedTest};
+ghost use Rattle.consistency.specs.DifferTest.{differTest, Listing};
+ghost use Rattle.consistency.specs.ConsistentTest.{namedTest, namesTest, bodiesTest, scanTest, markAll, systemMap, UsedEnd, filesTest, openedOf};
 ghost use Rattle.consistency.specs.Mapped.{Lent, MappedIf};
 use pack::BlockNo;
 use pack::Geometry;
@@ -68,16 +68,17 @@ fn is_key_right(img: &[u8], g: Geometry, e: usize) -> bool
     requires { ⌜ RightHeader (now img) × (e < slots g) ⌝ }
     ensures { λ r. ⌜ r ≡ keyTest (now (img .entry)) (entryOf (now (img .entry)) g e) ⌝ }
 {
-    let first = Radix50(pack::entry_word(img, g, e, 0));
-    let second = Radix50(pack::entry_word(img, g, e, 1));
-    let extension = Radix50(pack::entry_word(img, g, e, 2));
+    let key = differing::key_number(img, g, e);
+    let first = Radix50(key % 65536);
+    let second = Radix50(key / 65536 % 65536);
+    let extension = Radix50(key / 4294967296 % 65536);
     if !is_name_right(first, second) {
         return false;
     }
     if !extension.is_legal_extension() {
         return false;
     }
-    pack::is_listed(img, pack::entry_word(img, g, e, 3))
+    pack::is_listed(img, key / 281474976710656)
 }
 
 // "a contiguous file's writer is 0 or 1, a linked one's 0, 2 or 3": judged here for the check and for the report.
@@ -124,7 +125,10 @@ fn is_closed(img: &[u8], g: Geometry, e: usize) -> bool
 {
     let segments = g.segments;
     let at = segments.bytes() + 32 * e;
-    (eights::eight_at(img, at + 18) | eights::eight_at(img, at + 24)) == 0
+    if eights::eight_at(img, at + 18) != 0 {
+        return false;
+    }
+    eights::eight_at(img, at + 24) == 0
 }
 
 // Each word is read where it is judged.
@@ -170,35 +174,35 @@ fn is_held_right(img: &[u8], map: &mut [u8], g: Geometry, e: usize) -> bool
     walking::is_chain_right(img, map, g, first, count, stored)
 }
 
-// Entry e is one in use.
-fn is_file_right(img: &[u8], map: &mut [u8], g: Geometry, e: usize) -> bool
+// What is judged of entry e beside its name, extension and UIC: an empty one is all zero.
+fn is_placed_right(img: &[u8], map: &mut [u8], g: Geometry, e: usize) -> bool
     requires { ⌜ Sized (now img) g ⌝ }
-    requires { ⌜ RightHeader (now img) × (e < slots g) × (entryWord (now img) g e 0 ≡ 0 → ⊥) ⌝ }
+    requires { ⌜ e < slots g ⌝ }
     requires { ⌜ (g .blocks ≤ length (now map)) × SystemTaken (now map) g ⌝ }
-    ensures { λ r. ⌜ r ≡ entryTest (now (img .entry)) g (now (map .entry)) e ⌝ }
+    ensures { λ r. ⌜ r ≡ placedTest (now (img .entry)) g (now (map .entry)) e ⌝ }
     ensures { λ r. ⌜ (r ≡ true → now (map .exit) ≡ mark (now (map .entry)) (blocksAt (now (img .entry)) g e)) ⌝ }
-{
-    if !is_key_right(img, g, e) {
-        return false;
-    }
-    is_held_right(img, map, g, e)
-}
-
-fn is_entry_right(img: &[u8], map: &mut [u8], marks: &mut [u8], g: Geometry, e: usize) -> bool
-    requires { ⌜ Sized (now img) g ⌝ }
-    requires { ⌜ RightHeader (now img) × (e < slots g) ⌝ }
-    requires { ⌜ (g .blocks ≤ length (now map)) × SystemTaken (now map) g × Marked (now img) g (now marks) e ⌝ }
-    ensures { λ r. ⌜ r ≡ (entryTest (now (img .entry)) g (now (map .entry)) e && newTest (now (img .entry)) g e) ⌝ }
-    ensures { λ r. ⌜ (r ≡ true → now (map .exit) ≡ mark (now (map .entry)) (blocksAt (now (img .entry)) g e)) ⌝ }
-    ensures { λ r. ⌜ (r ≡ true → Marked (now (img .entry)) g (now (marks .exit)) (e + 1)) ⌝ }
 {
     if pack::entry_word(img, g, e, 0) == 0 {
         return is_rest_zero(img, g, e, 0);
     }
-    if !is_file_right(img, map, g, e) {
+    is_held_right(img, map, g, e)
+}
+
+// Name, extension and UIC of entry e, if it is in use, and whether its file differs from those before it.
+fn is_named_right(img: &[u8], heads: &mut [u16], links: &mut [u16], g: Geometry, e: usize) -> bool
+    requires { ⌜ Sized (now img) g ⌝ }
+    requires { ⌜ RightHeader (now img) × (e < slots g) × Listing (now img) g (now heads) (now links) e ⌝ }
+    requires { ⌜ (e < length (now links)) × (length (now links) < 65536) ⌝ }
+    ensures { λ r. ⌜ r ≡ namedTest (now (img .entry)) g e ⌝ }
+    ensures { λ r. ⌜ (r ≡ true → Listing (now (img .entry)) g (now (heads .exit)) (now (links .exit)) (e + 1)) ⌝ }
+{
+    if differing::key_number(img, g, e) % 65536 == 0 {
+        return true;
+    }
+    if !is_key_right(img, g, e) {
         return false;
     }
-    differing::does_differ(img, marks, g, e)
+    differing::does_differ(img, heads, links, g, e)
 }
 
 // Is the last entry of all in use? Then no end is looked for; the answer only says how to look, and any would do.
@@ -235,17 +239,17 @@ fn used_end(img: &[u8], g: Geometry) -> usize
     end
 }
 
-fn are_entries_right(img: &[u8], map: &mut [u8], marks: &mut [u8], g: Geometry) -> bool
+// The entries are gone through twice, since what is judged of one is much: first all but the names.
+fn are_bodies_right(img: &[u8], map: &mut [u8], g: Geometry, end: usize) -> bool
     requires { ⌜ Sized (now img) g ⌝ }
-    requires { ⌜ RightHeader (now img) ⌝ }
-    requires { ⌜ (g .blocks ≤ length (now map)) × SystemTaken (now map) g × TableSize (length (now marks)) ⌝ }
-    ensures { λ r. ⌜ r ≡ (scanTest (now (img .entry)) g (now (map .entry)) 0 (slots g) && differTest (now (img .entry)) g 0 (slots g)) ⌝ }
+    requires { ⌜ UsedEnd (now img) g end ⌝ }
+    requires { ⌜ (g .blocks ≤ length (now map)) × SystemTaken (now map) g ⌝ }
+    ensures { λ r. ⌜ r ≡ bodiesTest (now (img .entry)) g (now (map .entry)) 0 (slots g) ⌝ }
     ensures { λ r. ⌜ (r ≡ true → now (map .exit) ≡ markAll (now (img .entry)) g (now (map .entry)) 0 (slots g)) ⌝ }
 {
-    let end = used_end(img, g);
     let mut e = 0;
     while e < end {
-        if !is_entry_right(img, map, marks, g, e) {
+        if !is_placed_right(img, map, g, e) {
             return false;
         }
         e += 1;
@@ -253,31 +257,64 @@ fn are_entries_right(img: &[u8], map: &mut [u8], marks: &mut [u8], g: Geometry) 
     true
 }
 
-// With few entries a small table of marks will do, and costs less to clear.
-fn are_entries_marked(img: &[u8], map: &mut [u8], g: Geometry) -> bool
+fn are_keys_right(img: &[u8], heads: &mut [u16], links: &mut [u16], g: Geometry, end: usize) -> bool
     requires { ⌜ Sized (now img) g ⌝ }
-    requires { ⌜ RightHeader (now img) ⌝ }
+    requires { ⌜ RightHeader (now img) × UsedEnd (now img) g end × Listing (now img) g (now heads) (now links) 0 ⌝ }
+    requires { ⌜ (end ≤ length (now links)) × (length (now links) < 65536) ⌝ }
+    ensures { λ r. ⌜ r ≡ namesTest (now (img .entry)) g 0 (slots g) ⌝ }
+{
+    let mut e = 0;
+    while e < end {
+        if !is_named_right(img, heads, links, g, e) {
+            return false;
+        }
+        e += 1;
+    }
+    true
+}
+
+// For few files a few lists will do, and cost less to clear.
+fn are_names_right(img: &[u8], g: Geometry, end: usize) -> bool
+    requires { ⌜ Sized (now img) g ⌝ }
+    requires { ⌜ RightHeader (now img) × UsedEnd (now img) g end × (slots g ≤ mostEntries) ⌝ }
+    ensures { λ r. ⌜ r ≡ namesTest (now (img .entry)) g 0 (slots g) ⌝ }
+{
+    if end < 1 {
+        return true;
+    }
+    if end <= differing::FEW_FILES {
+        let mut heads = [0u16; differing::FEW_LISTS];
+        let mut links = [0u16; differing::FEW_FILES];
+        return are_keys_right(img, &mut heads, &mut links, g, end);
+    }
+    let mut heads = [0u16; differing::MANY_LISTS];
+    let mut links = [0u16; differing::MANY_FILES];
+    are_keys_right(img, &mut heads, &mut links, g, end)
+}
+
+fn are_entries_right(img: &[u8], map: &mut [u8], g: Geometry) -> bool
+    requires { ⌜ Sized (now img) g ⌝ }
+    requires { ⌜ RightHeader (now img) × (slots g ≤ mostEntries) ⌝ }
     requires { ⌜ (g .blocks ≤ length (now map)) × SystemTaken (now map) g ⌝ }
     ensures { λ r. ⌜ r ≡ (scanTest (now (img .entry)) g (now (map .entry)) 0 (slots g) && differTest (now (img .entry)) g 0 (slots g)) ⌝ }
     ensures { λ r. ⌜ (r ≡ true → now (map .exit) ≡ markAll (now (img .entry)) g (now (map .entry)) 0 (slots g)) ⌝ }
 {
-    if pack::slot_count(g) <= 128 {
-        let mut marks = [0u8; differing::FEW_MARKS];
-        return are_entries_right(img, map, &mut marks, g);
+    let end = used_end(img, g);
+    if !are_bodies_right(img, map, g, end) {
+        return false;
     }
-    let mut marks = [0u8; differing::MANY_MARKS];
-    are_entries_right(img, map, &mut marks, g)
+    are_names_right(img, g, end)
 }
 
 // Behind the header: the entries, and then the map, which must have a bit for each block that is taken on the lent one.
 fn are_files_right(img: &[u8], map: &mut [u8], g: Geometry) -> bool
     requires { ⌜ Sized (now img) g ⌝ }
-    requires { ⌜ RightHeader (now img) ⌝ }
+    requires { ⌜ RightHeader (now img) × (slots g ≤ mostEntries) ⌝ }
     requires { ⌜ (now map ≡ systemMap (length (now map)) g) × (g .blocks ≤ length (now map)) × (length (now map) % 16 ≡ 0) ⌝ }
     ensures { λ r. ⌜ r ≡ filesTest (now (img .entry)) g ⌝ }
     ensures { λ r. ⌜ (r ≡ true → now (map .exit) ≡ markAll (now (img .entry)) g (now (map .entry)) 0 (slots g)) ⌝ }
 {
-    if !are_entries_marked(img, map, g) {
+    if !are_entries_right(img, map, g) {
         return false;
     }
     mapping::is_map_right(img, map, g)

@@ -3,7 +3,7 @@ use borrow.Author.Needs.{needs}
 use native.Mathlib.Omega.{arith}
 use mathlib.Core.Path.{sym, _∙_}
 use borrow.Author.Tests.{not-true, not-false}
-use Rattle.consistency.proofs.ConsistentTestOpened.{open-wrong, open-header, open-sized, open-room, open-map, open-long, open-whole, open-files, open-good}
+use Rattle.consistency.proofs.ConsistentTestOpened.{open-wrong, open-header, open-few, open-sized, open-room, open-map, open-long, open-whole, open-files, open-good}
 use Rattle.consistency.proofs.open_mapped.Statement.{statement}
 use Rattle.consistency.proofs.open_mapped.Tie as tie
 
@@ -34,7 +34,7 @@ are-files-right-requires c κs =
     let system = c .before .before .before .set-system .ensures in (
       open-sized _ _ is _ right,
       (
-        open-header _ _ is _ right,
+        (open-header _ _ is _ right, open-few _ _ is _ right),
         (open-map _ _ is _ right _ _ lent system, open-long _ _ is _ right _ _ lent system, open-whole _ _ is _ right _ _ lent system),
       ),
     )
