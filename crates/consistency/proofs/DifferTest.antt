@@ -208,6 +208,9 @@ module _ (img : List ℕ) (g : Geometry) where
   unfolding keyNumber
   number-words e is small = parts-of (small .name1) (small .name2) (small .extension) is
 
+  pub number-used : (e : ℕ) {number : ℕ} → number ≡ keyNumber img g e → SmallKey img g e → (number % 65536 ≡ 0 → ⊥) → entryWord img g e 0 ≡ 0 → ⊥
+  number-used e is small other none = other (number-words e is small .0 ∙ none)
+
   -- entries of one key have one number, and the other way where the words are small
   pub number-same : (e f : ℕ) → Same e f → keyNumber img g e ≡ keyNumber img g f
   unfolding keyNumber entryOf

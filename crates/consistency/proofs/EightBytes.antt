@@ -13,8 +13,10 @@ above k low high fits small =
 
 module _ {b₀ b₁ b₂ b₃ b₄ b₅ b₆ b₇ : ℕ}
     (s₀ : b₀ < 256) (s₁ : b₁ < 256) (s₂ : b₂ < 256) (s₃ : b₃ < 256) (s₄ : b₄ < 256) (s₅ : b₅ < 256) (s₆ : b₆ < 256) (s₇ : b₇ < 256) where
-  pub bytes-joined : bitOr (bitOr (bitOr (bitOr (bitOr (bitOr (bitOr b₀ (b₁ * 256 % 18446744073709551616)) (b₂ * 65536 % 18446744073709551616)) (b₃ * 16777216 % 18446744073709551616))
-      (b₄ * 4294967296 % 18446744073709551616)) (b₅ * 1099511627776 % 18446744073709551616)) (b₆ * 281474976710656 % 18446744073709551616)) (b₇ * 72057594037927936 % 18446744073709551616)
+  pub bytes-joined : bitOr
+      (bitOr (bitOr (bitOr (bitOr (bitOr (bitOr b₀ (b₁ * 256 % 18446744073709551616)) (b₂ * 65536 % 18446744073709551616)) (b₃ * 16777216 % 18446744073709551616))
+      (b₄ * 4294967296 % 18446744073709551616)) (b₅ * 1099511627776 % 18446744073709551616)) (b₆ * 281474976710656 % 18446744073709551616))
+      (b₇ * 72057594037927936 % 18446744073709551616)
       ≡ joined b₀ b₁ b₂ b₃ b₄ b₅ b₆ b₇
   bytes-joined =
       rw (
@@ -23,8 +25,10 @@ module _ {b₀ b₁ b₂ b₃ b₄ b₅ b₆ b₇ : ℕ}
         above 24 (b₀ + b₁ * 256 + b₂ * 65536) b₃ (omega (arith, s₀, s₁, s₂)) (omega (arith, s₃)),
         above 32 (b₀ + b₁ * 256 + b₂ * 65536 + b₃ * 16777216) b₄ (omega (arith, s₀, s₁, s₂, s₃)) (omega (arith, s₄)),
         above 40 (b₀ + b₁ * 256 + b₂ * 65536 + b₃ * 16777216 + b₄ * 4294967296) b₅ (omega (arith, s₀, s₁, s₂, s₃, s₄)) (omega (arith, s₅)),
-        above 48 (b₀ + b₁ * 256 + b₂ * 65536 + b₃ * 16777216 + b₄ * 4294967296 + b₅ * 1099511627776) b₆ (omega (arith, s₀, s₁, s₂, s₃, s₄, s₅)) (omega (arith, s₆)),
-        above 56 (b₀ + b₁ * 256 + b₂ * 65536 + b₃ * 16777216 + b₄ * 4294967296 + b₅ * 1099511627776 + b₆ * 281474976710656) b₇ (omega (arith, s₀, s₁, s₂, s₃, s₄, s₅, s₆)) (omega (arith, s₇)),
+        above 48 (b₀ + b₁ * 256 + b₂ * 65536 + b₃ * 16777216 + b₄ * 4294967296 + b₅ * 1099511627776) b₆ (omega (arith, s₀, s₁, s₂, s₃, s₄, s₅))
+            (omega (arith, s₆)),
+        above 56 (b₀ + b₁ * 256 + b₂ * 65536 + b₃ * 16777216 + b₄ * 4294967296 + b₅ * 1099511627776 + b₆ * 281474976710656) b₇
+            (omega (arith, s₀, s₁, s₂, s₃, s₄, s₅, s₆)) (omega (arith, s₇)),
       )
       (omega arith)
 
@@ -42,18 +46,30 @@ down-four low rest all small is = omega (arith, small, is)
 laid-two : (m₀ m₁ m₂ m₃ m₄ m₅ m₆ m₇ : ℕ) {spread : ℕ} → m₀ ≤ 1 → spread ≡ joined m₀ m₁ m₂ m₃ m₄ m₅ m₆ m₇
     → spread + spread / 128 ≡ joined (m₀ + 2 * m₁) (m₁ + 2 * m₂) (m₂ + 2 * m₃) (m₃ + 2 * m₄) (m₄ + 2 * m₅) (m₅ + 2 * m₆) (m₆ + 2 * m₇) m₇
 laid-two m₀ m₁ m₂ m₃ m₄ m₅ m₆ m₇ {spread} small is =
-    omega (arith, is, down-one m₀ (m₁ + 256 * m₂ + 65536 * m₃ + 16777216 * m₄ + 4294967296 * m₅ + 1099511627776 * m₆ + 281474976710656 * m₇) spread (omega (arith, small)) (omega (arith, is)))
+    omega (
+      arith,
+      is,
+      down-one m₀ (m₁ + 256 * m₂ + 65536 * m₃ + 16777216 * m₄ + 4294967296 * m₅ + 1099511627776 * m₆ + 281474976710656 * m₇) spread
+          (omega (arith, small)) (omega (arith, is)),
+    )
 
 laid-four : (m₀ m₁ m₂ m₃ m₄ m₅ m₆ m₇ : ℕ) {two : ℕ} → m₀ ≤ 3 → m₁ ≤ 3 → two ≡ joined m₀ m₁ m₂ m₃ m₄ m₅ m₆ m₇
     → two + two / 16384 ≡ joined (m₀ + 4 * m₂) (m₁ + 4 * m₃) (m₂ + 4 * m₄) (m₃ + 4 * m₅) (m₄ + 4 * m₆) (m₅ + 4 * m₇) m₆ m₇
 laid-four m₀ m₁ m₂ m₃ m₄ m₅ m₆ m₇ {two} small small₁ is =
-    omega (arith, is, down-two (m₀ + 256 * m₁) (m₂ + 256 * m₃ + 65536 * m₄ + 16777216 * m₅ + 4294967296 * m₆ + 1099511627776 * m₇) two (omega (arith, small, small₁)) (omega (arith, is)))
+    omega (
+      arith,
+      is,
+      down-two (m₀ + 256 * m₁) (m₂ + 256 * m₃ + 65536 * m₄ + 16777216 * m₅ + 4294967296 * m₆ + 1099511627776 * m₇) two
+          (omega (arith, small, small₁)) (omega (arith, is)),
+    )
 
-laid-last : (m₀ m₁ m₂ m₃ m₄ m₅ m₆ m₇ : ℕ) {four : ℕ} → m₀ ≤ 15 → m₁ ≤ 15 → m₂ ≤ 15 → m₃ ≤ 15 → m₄ ≤ 15 → four ≡ joined m₀ m₁ m₂ m₃ m₄ m₅ m₆ m₇
+laid-last : (m₀ m₁ m₂ m₃ m₄ m₅ m₆ m₇ : ℕ) {four : ℕ} → m₀ ≤ 15 → m₁ ≤ 15 → m₂ ≤ 15 → m₃ ≤ 15 → m₄ ≤ 15 → four ≡ joined m₀
+    m₁ m₂ m₃ m₄ m₅ m₆ m₇
     → (four + four / 268435456) % 256 ≡ m₀ + 16 * m₄
 laid-last m₀ m₁ m₂ m₃ m₄ m₅ m₆ m₇ {four} small small₁ small₂ small₃ small₄ is =
     let low : m₀ + 256 * m₁ + 65536 * m₂ + 16777216 * m₃ < 268435456 = omega (arith, small, small₁, small₂, small₃) in
-    lowest (m₀ + 16 * m₄) (m₁ + 256 * m₂ + 65536 * m₃ + 16777216 * m₄ + 4294967296 * m₅ + 1099511627776 * m₆ + 281474976710656 * m₇ + 16 * (m₅ + 256 * m₆ + 65536 * m₇))
+    lowest (m₀ + 16 * m₄)
+    (m₁ + 256 * m₂ + 65536 * m₃ + 16777216 * m₄ + 4294967296 * m₅ + 1099511627776 * m₆ + 281474976710656 * m₇ + 16 * (m₅ + 256 * m₆ + 65536 * m₇))
     (omega (arith, small, small₄))
     (omega (arith, is, down-four (m₀ + 256 * m₁ + 65536 * m₂ + 16777216 * m₃) (m₄ + 256 * m₅ + 65536 * m₆ + 16777216 * m₇) four low (omega (arith, is))))
   where

@@ -1,6 +1,7 @@
 // The check of a whole image: its header, then each entry, with its blocks taken on a map and its file unlike those before it.
 mod differing;
 mod eights;
+mod hinting;
 mod mapping;
 mod walking;
 
@@ -11,7 +12,7 @@ ghost use lib.ListN.{length};
 ghost use Rattle.radix.specs.NamesTest.{legalName};
 ghost use Rattle.pack.specs.GeometrySized.{mostEntries, Sized};
 ghost use Rattle.pack.specs.Geometry.{slots};
-ghost use Rattle.pack.specs.Header.{RightHeader};
+ghost use Rattle.pack.specs.Header.{RightHeader, uicCount};
 ghost use Rattle.pack.specs.Entry.{entryWord, entryOf, blocksAt};
 ghost use Rattle.consistency.specs.Walk.{mark, systemSet, SystemTaken};
 ghost use Rattle.consistency.specs.EntryTest.{keyTest, writerTest, opensTest, openTest, heldTest, restTest, placedTest};
@@ -63,9 +64,10 @@ fn is_name_right(first: Radix50, second: Radix50) -> bool
     radix::is_legal_name(first, second)
 }
 
-fn is_key_right(img: &[u8], g: Geometry, e: usize) -> bool
+fn is_key_right(img: &[u8], hints: &[u8], uics: usize, g: Geometry, e: usize) -> bool
     requires { ⌜ Sized (now img) g ⌝ }
     requires { ⌜ RightHeader (now img) × (e < slots g) ⌝ }
+    requires { ⌜ (length (now hints) ≡ 64) × (uics ≡ uicCount (now img)) ⌝ }
     ensures { λ r. ⌜ r ≡ keyTest (now (img .entry)) (entryOf (now (img .entry)) g e) ⌝ }
 {
     let key = differing::key_number(img, g, e);
@@ -78,7 +80,7 @@ fn is_key_right(img: &[u8], g: Geometry, e: usize) -> bool
     if !extension.is_legal_extension() {
         return false;
     }
-    pack::is_listed(img, key / 281474976710656)
+    hinting::is_listed(img, hints, uics, key / 281474976710656)
 }
 
 // "a contiguous file's writer is 0 or 1, a linked one's 0, 2 or 3": judged here for the check and for the report.
@@ -189,17 +191,25 @@ fn is_placed_right(img: &[u8], map: &mut [u8], g: Geometry, e: usize) -> bool
 }
 
 // Name, extension and UIC of entry e, if it is in use, and whether its file differs from those before it.
-fn is_named_right(img: &[u8], heads: &mut [u16], links: &mut [u16], g: Geometry, e: usize) -> bool
+fn is_named_right(
+    img: &[u8],
+    hints: &[u8],
+    uics: usize,
+    heads: &mut [u16],
+    links: &mut [u16],
+    g: Geometry,
+    e: usize,
+) -> bool
     requires { ⌜ Sized (now img) g ⌝ }
     requires { ⌜ RightHeader (now img) × (e < slots g) × Listing (now img) g (now heads) (now links) e ⌝ }
-    requires { ⌜ (e < length (now links)) × (length (now links) < 65536) ⌝ }
+    requires { ⌜ (e < length (now links)) × (length (now links) < 65536) × (length (now hints) ≡ 64) × (uics ≡ uicCount (now img)) ⌝ }
     ensures { λ r. ⌜ r ≡ namedTest (now (img .entry)) g e ⌝ }
     ensures { λ r. ⌜ (r ≡ true → Listing (now (img .entry)) g (now (heads .exit)) (now (links .exit)) (e + 1)) ⌝ }
 {
     if differing::key_number(img, g, e) % 65536 == 0 {
         return true;
     }
-    if !is_key_right(img, g, e) {
+    if !is_key_right(img, hints, uics, g, e) {
         return false;
     }
     differing::does_differ(img, heads, links, g, e)
@@ -257,15 +267,23 @@ fn are_bodies_right(img: &[u8], map: &mut [u8], g: Geometry, end: usize) -> bool
     true
 }
 
-fn are_keys_right(img: &[u8], heads: &mut [u16], links: &mut [u16], g: Geometry, end: usize) -> bool
+fn are_keys_right(
+    img: &[u8],
+    hints: &[u8],
+    heads: &mut [u16],
+    links: &mut [u16],
+    g: Geometry,
+    end: usize,
+) -> bool
     requires { ⌜ Sized (now img) g ⌝ }
     requires { ⌜ RightHeader (now img) × UsedEnd (now img) g end × Listing (now img) g (now heads) (now links) 0 ⌝ }
-    requires { ⌜ (end ≤ length (now links)) × (length (now links) < 65536) ⌝ }
+    requires { ⌜ (end ≤ length (now links)) × (length (now links) < 65536) × (length (now hints) ≡ 64) ⌝ }
     ensures { λ r. ⌜ r ≡ namesTest (now (img .entry)) g 0 (slots g) ⌝ }
 {
+    let uics = words::word_at(img, 3);
     let mut e = 0;
     while e < end {
-        if !is_named_right(img, heads, links, g, e) {
+        if !is_named_right(img, hints, uics, heads, links, g, e) {
             return false;
         }
         e += 1;
@@ -282,14 +300,16 @@ fn are_names_right(img: &[u8], g: Geometry, end: usize) -> bool
     if end < 1 {
         return true;
     }
+    let mut hints = [0u8; hinting::HINTS];
+    hinting::set_hints(img, &mut hints);
     if end <= differing::FEW_FILES {
         let mut heads = [0u16; differing::FEW_LISTS];
         let mut links = [0u16; differing::FEW_FILES];
-        return are_keys_right(img, &mut heads, &mut links, g, end);
+        return are_keys_right(img, &hints, &mut heads, &mut links, g, end);
     }
     let mut heads = [0u16; differing::MANY_LISTS];
     let mut links = [0u16; differing::MANY_FILES];
-    are_keys_right(img, &mut heads, &mut links, g, end)
+    are_keys_right(img, &hints, &mut heads, &mut links, g, end)
 }
 
 fn are_entries_right(img: &[u8], map: &mut [u8], g: Geometry) -> bool

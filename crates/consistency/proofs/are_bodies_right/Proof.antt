@@ -37,8 +37,11 @@ same-length c = search needs
 returns : tie.Need-returns Inv-loop μ-loop
 returns c =
     let s = c .before .before .before .before .before .before .before .before .before in
-    let loop = c .before .before .before .before .before .before .loop in
-    (sym (loop .inv .2 ∙ bodies-not _ _ _ _ _ (omega (arith, c .before .before .before .before .before .loop-test .taken, s .pre .1 .0 .most)) (sym (c .before .before .before .is-placed-right .ensures .0) ∙ not-true _ (c .if1 .taken))), λ e. cc)
+    let loop = c .before .before .before .before .before .before .loop in (
+      sym (loop .inv .2 ∙ bodies-not _ _ _ _ _ (omega (arith, c .before .before .before .before .before .loop-test .taken, s .pre .1 .0 .most))
+          (sym (c .before .before .before .is-placed-right .ensures .0) ∙ not-true _ (c .if1 .taken))),
+      λ e. cc,
+    )
 
 add-e : tie.Need-add-e Inv-loop μ-loop
 add-e c = search needs

@@ -20,7 +20,8 @@ returns : tie.Need-returns
 returns c = (stop _ _ (sym (c .before .before .before .are-bodies-right .ensures .0) ∙ not-true _ (c .if1 .taken)) ∙ parted _ _ _ _ _, λ e. cc)
 
 are-names-right-requires : tie.Need-are-names-right-requires
-are-names-right-requires c κs = let s = c .before .before .before .before .before .before .before .before in (s .pre .0, (s .pre .1 .0 .0, c .before .before .before .before .before .used-end .ensures, s .pre .1 .0 .1))
+are-names-right-requires c κs = let s = c .before .before .before .before .before .before .before .before in
+    (s .pre .0, (s .pre .1 .0 .0, c .before .before .before .before .before .used-end .ensures, s .pre .1 .0 .1))
 
 same-length-2 : tie.Need-same-length-2
 same-length-2 c = search needs

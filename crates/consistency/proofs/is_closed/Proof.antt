@@ -20,7 +20,8 @@ add-at : tie.Need-add-at
 add-at c = let s = c .before .before .before in omega (arith, s .pre .1, slots-few (s .args .g) (sized-few (s .pre .0) .0) (sized-few (s .pre .0) .1), c .bytes .ensures, s .pre .0 .few)
 
 add-eight-at : tie.Need-add-eight-at
-add-eight-at c = let s = c .before .before .before in omega (arith, s .pre .1, slots-few (s .args .g) (sized-few (s .pre .0) .0) (sized-few (s .pre .0) .1), c .bytes .ensures, s .pre .0 .few)
+add-eight-at c = let s = c .before .before .before in
+    omega (arith, s .pre .1, slots-few (s .args .g) (sized-few (s .pre .0) .0) (sized-few (s .pre .0) .1), c .bytes .ensures, s .pre .0 .few)
 
 eight-at-requires : tie.Need-eight-at-requires
 eight-at-requires c κs = let s = c .before .before .before in omega (arith, entry-whole (s .pre .0) _ (s .pre .1), c .bytes .ensures)
@@ -29,7 +30,8 @@ returns : tie.Need-returns
 returns c = λ right. true-not-false (sym right)
 
 add-eight-at-2 : tie.Need-add-eight-at-2
-add-eight-at-2 c = let s = c .before .before .before .before .before in omega (arith, s .pre .1, slots-few (s .args .g) (sized-few (s .pre .0) .0) (sized-few (s .pre .0) .1), c .before .before .bytes .ensures, s .pre .0 .few)
+add-eight-at-2 c = let s = c .before .before .before .before .before in
+    omega (arith, s .pre .1, slots-few (s .args .g) (sized-few (s .pre .0) .0) (sized-few (s .pre .0) .1), c .before .before .bytes .ensures, s .pre .0 .few)
 
 eight-at-requires-2 : tie.Need-eight-at-requires-2
 eight-at-requires-2 c κs = let s = c .before .before .before .before .before in omega (arith, entry-whole (s .pre .0) _ (s .pre .1), c .before .before .bytes .ensures)

@@ -21,7 +21,8 @@ is-open-right-requires c κs = search needs
 
 returns-2 : tie.Need-returns-2
 returns-2 c = (
-  held-open _ _ _ _ (c .before .before .before .before .entry-word .ensures .0) (c .before .before .before .if1 .left) (c .before .before .entry-word2 .ensures .0) (sym (c .before .is-open-right .ensures) ∙ not-true _ (c .if2 .taken)),
+  held-open _ _ _ _ (c .before .before .before .before .entry-word .ensures .0) (c .before .before .before .if1 .left) (c .before .before .entry-word2 .ensures .0)
+      (sym (c .before .is-open-right .ensures) ∙ not-true _ (c .if2 .taken)),
   λ e. cc,
 )
 
@@ -35,7 +36,10 @@ entry-word-requires-5 : tie.Need-entry-word-requires-5
 entry-word-requires-5 c κs = search needs
 
 is-run-right-requires : tie.Need-is-run-right-requires
-is-run-right-requires c κs = (c .before .before .before .before .before .before .before .before .before .before .before .before .pre .1 .1, (c .before .before .before .before .entry-word3 .ensures .1, c .before .before .before .entry-word4 .ensures .1, c .before .before .entry-word5 .ensures .1))
+is-run-right-requires c κs = (
+  c .before .before .before .before .before .before .before .before .before .before .before .before .pre .1 .1,
+  (c .before .before .before .before .entry-word3 .ensures .1, c .before .before .before .entry-word4 .ensures .1, c .before .before .entry-word5 .ensures .1),
+)
 
 same-length : tie.Need-same-length
 same-length c = search needs
@@ -43,7 +47,8 @@ same-length c = search needs
 returns-3 : tie.Need-returns-3
 returns-3 c =
     let few = c .before .before .before .before .before .before .before .before .before .before .before .if1 .left in
-    let opened = sym (c .before .before .before .before .before .before .before .before .before .is-open-right .ensures) ∙ not-false _ (c .before .before .before .before .before .before .before .before .if2 .left) in
+    let opened = sym (c .before .before .before .before .before .before .before .before .before .is-open-right .ensures) ∙ not-false _
+    (c .before .before .before .before .before .before .before .before .if2 .left) in
     let one = c .before .before .before .before .if3 .taken in
     let run = c .before .before .is-run-right .ensures in
     let protect = c .before .before .before .before .before .before .before .before .before .before .before .before .entry-word .ensures .0 in
@@ -56,7 +61,10 @@ returns-3 c =
     )
 
 is-chain-right-requires : tie.Need-is-chain-right-requires
-is-chain-right-requires c κs = (c .before .before .before .before .before .before .before .before .before .before .before .before .pre .0, c .before .before .before .before .before .before .before .before .before .before .before .before .pre .1 .1)
+is-chain-right-requires c κs = (
+  c .before .before .before .before .before .before .before .before .before .before .before .before .pre .0,
+  c .before .before .before .before .before .before .before .before .before .before .before .before .pre .1 .1,
+)
 
 same-length-2 : tie.Need-same-length-2
 same-length-2 c = search needs
@@ -64,7 +72,8 @@ same-length-2 c = search needs
 returns-4 : tie.Need-returns-4
 returns-4 c =
     let few = c .before .before .before .before .before .before .before .before .before .before .before .if1 .left in
-    let opened = sym (c .before .before .before .before .before .before .before .before .before .is-open-right .ensures) ∙ not-false _ (c .before .before .before .before .before .before .before .before .if2 .left) in
+    let opened = sym (c .before .before .before .before .before .before .before .before .before .is-open-right .ensures) ∙ not-false _
+    (c .before .before .before .before .before .before .before .before .if2 .left) in
     let other = c .before .before .before .before .if3 .left in
     let chain = c .before .before .is-chain-right .ensures in
     let protect = c .before .before .before .before .before .before .before .before .before .before .before .before .entry-word .ensures .0 in

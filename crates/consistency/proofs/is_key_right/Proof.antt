@@ -9,7 +9,7 @@ use Rattle.consistency.proofs.is_key_right.Statement.{statement}
 use Rattle.consistency.proofs.is_key_right.Tie as tie
 
 key-number-requires : tie.Need-key-number-requires
-key-number-requires c κs = let s = c .before in (s .pre .0, s .pre .1 .1)
+key-number-requires c κs = let s = c .before .before in (s .pre .0, s .pre .1 .0 .1)
 
 is-name-right-requires : tie.Need-is-name-right-requires
 is-name-right-requires c κs = search needs
@@ -31,7 +31,10 @@ returns-2 c =
     (words .2) (sym (c .before .is-legal-extension .ensures) ∙ not-true _ (c .if2 .taken))
 
 is-listed-requires : tie.Need-is-listed-requires
-is-listed-requires c κs = c .before .before .before .before .before .before .pre .1 .0
+is-listed-requires c κs =
+    let s = c .before .before .before .before .before .before .before in
+    let key = c .before .before .before .before .key-number .ensures in
+    (s .pre .1 .0 .0, (s .pre .1 .1 .0, s .pre .1 .1 .1, omega (arith, number-words _ _ _ (key .0) (key .1) .3, key .1 .uic)))
 
 returns-3 : tie.Need-returns-3
 returns-3 c =

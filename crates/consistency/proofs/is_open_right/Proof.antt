@@ -29,7 +29,8 @@ is-few-opens-requires c κs = search needs
 
 returns-3 : tie.Need-returns-3
 returns-3 c =
-    open-many _ _ _ _ (c .before .before .before .before .before .entry-word .ensures .0) (sym (c .before .before .before .before .is-writer-right .ensures) ∙ not-false _ (c .before .before .before .if2 .left))
+    open-many _ _ _ _ (c .before .before .before .before .before .entry-word .ensures .0)
+    (sym (c .before .before .before .before .is-writer-right .ensures) ∙ not-false _ (c .before .before .before .if2 .left))
     (c .before .before .entry-word2 .ensures .0) (sym (c .before .is-few-opens .ensures) ∙ not-true _ (c .if3 .taken))
 
 is-rest-zero-requires : tie.Need-is-rest-zero-requires
@@ -37,7 +38,8 @@ is-rest-zero-requires c κs = search needs
 
 returns-4 : tie.Need-returns-4
 returns-4 c =
-    open-rest _ _ _ _ (c .before .before .before .before .before .before .entry-word .ensures .0) (sym (c .before .before .before .before .before .is-writer-right .ensures) ∙ not-false _ (c .before .before .before .before .if2 .left))
+    open-rest _ _ _ _ (c .before .before .before .before .before .before .entry-word .ensures .0)
+    (sym (c .before .before .before .before .before .is-writer-right .ensures) ∙ not-false _ (c .before .before .before .before .if2 .left))
     (c .before .before .before .entry-word2 .ensures .0) (sym (c .before .before .is-few-opens .ensures) ∙ not-false _ (c .before .if3 .left)) _ (c .is-rest-zero .ensures)
 
 pub is-open-right-spec : {M : Type 1} → statement M

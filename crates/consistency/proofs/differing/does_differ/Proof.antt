@@ -36,7 +36,8 @@ returns : tie.Need-returns
 returns c =
     let s = c .before .before .before .before .before .before .before .before .before in
     let key = c .before .before .before .before .before .key-number .ensures in (
-      compared-old _ _ _ _ _ (s .pre .1 .0 .2) (key .0) (c .before .before .before .before .slot-of .ensures .0) refl (key .1) (c .before .is-apart .ensures) (not-true _ (c .if1 .taken)) (s .pre .1 .0 .1),
+      compared-old _ _ _ _ _ (s .pre .1 .0 .2) (key .0) (c .before .before .before .before .slot-of .ensures .0) refl (key .1) (c .before .is-apart .ensures)
+          (not-true _ (c .if1 .taken)) (s .pre .1 .0 .1),
       λ right. true-not-false (sym right),
     )
 
@@ -53,7 +54,12 @@ cast-heads : tie.Need-cast-heads
 cast-heads c = omega (arith, c .before .before .before .before .before .before .before .before .before .pre .1 .1)
 
 mul-heads : tie.Need-mul-heads
-mul-heads c = omega (arith, c .before .before .before .before .slot-of .ensures .1, table-small (c .before .before .before .before .before .before .before .before .before .pre .1 .0 .2 .size))
+mul-heads c = omega (
+  arith,
+  c .before .before .before .before .slot-of .ensures .1,
+  table-small
+      (c .before .before .before .before .before .before .before .before .before .pre .1 .0 .2 .size),
+)
 
 slice-write-heads : tie.Need-slice-write-heads
 slice-write-heads c = omega (arith, c .before .before .before .before .slot-of .ensures .1)

@@ -24,7 +24,8 @@ key-number-requires : tie.Need-key-number-requires Inv-loop μ-loop
 key-number-requires c κs = let s = c .before .before .before .before in (s .pre .0, omega (arith, s .pre .1 .0, c .before .loop .inv .0, c .loop-test .taken))
 
 returns : tie.Need-returns Inv-loop μ-loop
-returns c = seek-met _ _ (omega (arith, c .before .before .before .loop .inv .0, c .before .before .loop-test .taken)) (c .before .key-number .ensures .1) (sym (c .before .key-number .ensures .0) ∙ c .if1 .taken)
+returns c = seek-met _ _ (omega (arith, c .before .before .before .loop .inv .0, c .before .before .loop-test .taken)) (c .before .key-number .ensures .1)
+    (sym (c .before .key-number .ensures .0) ∙ c .if1 .taken)
 
 sub-f : tie.Need-sub-f Inv-loop μ-loop
 sub-f c = search needs
@@ -33,13 +34,15 @@ mul-f : tie.Need-mul-f Inv-loop μ-loop
 mul-f c = let s = c .before .before .before .before .before .before in omega (arith, s .pre .1 .1, c .before .before .before .loop .inv .0, c .before .before .loop-test .taken)
 
 shared-slice-read-f : tie.Need-shared-slice-read-f Inv-loop μ-loop
-shared-slice-read-f c = let s = c .before .before .before .before .before .before .before in omega (arith, s .pre .1 .1, c .before .before .before .before .loop .inv .0, c .before .before .before .loop-test .taken)
+shared-slice-read-f c = let s = c .before .before .before .before .before .before .before in
+    omega (arith, s .pre .1 .1, c .before .before .before .before .loop .inv .0, c .before .before .before .loop-test .taken)
 
 cast-f : tie.Need-cast-f Inv-loop μ-loop
 cast-f c = omega (arith, c .shared-slice-known3 .given (c .before .before .before .before .loop .f - 1))
 
 loop-less : tie.Need-loop-less Inv-loop μ-loop
-loop-less c = let s = c .before .before .before .before .before .before .before in omega (arith, s .pre .1 .2 (c .before .before .before .before .loop .f - 1), c .before .before .before .loop-test .taken)
+loop-less c = let s = c .before .before .before .before .before .before .before in
+    omega (arith, s .pre .1 .2 (c .before .before .before .before .loop .f - 1), c .before .before .before .loop-test .taken)
 
 loop-again : tie.Need-loop-again Inv-loop μ-loop
 loop-again c =

@@ -54,9 +54,19 @@ byte-at-requires-8 c κs = search needs
 returns : tie.Need-returns
 unfolding eightAt
 returns c =
-    bytes-joined (c .before .before .before .before .before .before .before .byte-at .ensures .1) (c .before .before .before .before .before .before .byte-at2 .ensures .1) (c .before .before .before .before .before .byte-at3 .ensures .1) (c .before .before .before .before .byte-at4 .ensures .1)
+    bytes-joined (c .before .before .before .before .before .before .before .byte-at .ensures .1) (c .before .before .before .before .before .before .byte-at2 .ensures .1)
+    (c .before .before .before .before .before .byte-at3 .ensures .1) (c .before .before .before .before .byte-at4 .ensures .1)
     (c .before .before .before .byte-at5 .ensures .1) (c .before .before .byte-at6 .ensures .1) (c .before .byte-at7 .ensures .1) (c .byte-at8 .ensures .1)
-    ∙ rw (c .before .before .before .before .before .before .before .byte-at .ensures .0, c .before .before .before .before .before .before .byte-at2 .ensures .0, c .before .before .before .before .before .byte-at3 .ensures .0, c .before .before .before .before .byte-at4 .ensures .0, c .before .before .before .byte-at5 .ensures .0, c .before .before .byte-at6 .ensures .0, c .before .byte-at7 .ensures .0, c .byte-at8 .ensures .0)
+    ∙ rw (
+      c .before .before .before .before .before .before .before .byte-at .ensures .0,
+      c .before .before .before .before .before .before .byte-at2 .ensures .0,
+      c .before .before .before .before .before .byte-at3 .ensures .0,
+      c .before .before .before .before .byte-at4 .ensures .0,
+      c .before .before .before .byte-at5 .ensures .0,
+      c .before .before .byte-at6 .ensures .0,
+      c .before .byte-at7 .ensures .0,
+      c .byte-at8 .ensures .0,
+    )
 
 pub eight-at-spec : {M : Type 1} → statement M
 eight-at-spec =

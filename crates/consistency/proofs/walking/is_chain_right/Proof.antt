@@ -29,15 +29,26 @@ same-length c = search needs
 
 returns : tie.Need-returns Inv-loop μ-loop
 returns c = (
-  sym (c .before .before .before .before .before .before .loop .inv .1 ∙ chain-stops _ _ _ _ _ _ _ (omega (arith, c .before .before .before .before .before .loop-test .taken)) (sym (c .before .before .before .take .ensures .0) ∙ not-true _ (c .if1 .taken))),
+  sym (c .before .before .before .before .before .before .loop .inv .1 ∙ chain-stops _ _ _ _ _ _ _ (omega (arith, c .before .before .before .before .before .loop-test .taken))
+      (sym (c .before .before .before .take .ensures .0) ∙ not-true _ (c .if1 .taken))),
   λ e. cc,
 )
 
 next-block-requires : tie.Need-next-block-requires Inv-loop μ-loop
-next-block-requires c κs = (c .before .before .before .before .before .before .before .before .before .pre .0, ltb-true _ _ (parts _ _ (sym (c .before .before .before .take .ensures .0) ∙ not-false _ (c .if1 .left)) .0))
+next-block-requires c κs = (
+  c .before .before .before .before .before .before .before .before .before .pre .0,
+  ltb-true _ _
+      (parts _ _ (sym (c .before .before .before .take .ensures .0) ∙ not-false _ (c .if1 .left)) .0),
+)
 
 take-requires-2 : tie.Need-take-requires-2 Inv-loop μ-loop
-take-requires-2 c κs = omega (arith, c .before .before .before .before .before .before .before .before .before .before .before .pre .1 .0, c .before .before .before .before .before .before .before .before .loop .inv .0 .long, c .before .before .before .before .before .take .kept .0)
+take-requires-2 c κs =
+    omega (
+      arith,
+      c .before .before .before .before .before .before .before .before .before .before .before .pre .1 .0,
+      c .before .before .before .before .before .before .before .before .loop .inv .0 .long,
+      c .before .before .before .before .before .take .kept .0,
+    )
 
 same-length-2 : tie.Need-same-length-2 Inv-loop μ-loop
 same-length-2 c = search needs
@@ -49,13 +60,18 @@ returns-2 c =
     let took = c .before .before .before .before .before .before .before .before .before .take .ensures in
     let right = not-false _ (c .before .before .before .before .before .before .if1 .left) in (
       sym (loop .inv .1
-          ∙ chain-on _ _ _ _ _ _ _ (omega (arith, more)) (loop .inv .0 .system) (sym (took .0) ∙ right) (took .1 right) (c .before .before .before .before .before .next-block .ensures .0) {less = loop .left - 1} refl
+          ∙ chain-on _ _ _ _ _ _ _ (omega (arith, more)) (loop .inv .0 .system) (sym (took .0) ∙ right) (took .1 right)
+          (c .before .before .before .before .before .next-block .ensures .0) {less = loop .left - 1} refl
           ∙ chain-stops _ _ _ _ _ _ _ (omega (arith, more)) (sym (c .before .before .before .take2 .ensures .0) ∙ not-true _ (c .if2 .taken))),
       λ e. cc,
     )
 
 next-block-requires-2 : tie.Need-next-block-requires-2 Inv-loop μ-loop
-next-block-requires-2 c κs = (c .before .before .before .before .before .before .before .before .before .before .before .before .before .before .before .pre .0, ltb-true _ _ (parts _ _ (sym (c .before .before .before .take2 .ensures .0) ∙ not-false _ (c .if2 .left)) .0))
+next-block-requires-2 c κs = (
+  c .before .before .before .before .before .before .before .before .before .before .before .before .before .before .before .pre .0,
+  ltb-true _ _
+      (parts _ _ (sym (c .before .before .before .take2 .ensures .0) ∙ not-false _ (c .if2 .left)) .0),
+)
 
 loop-less : tie.Need-loop-less Inv-loop μ-loop
 loop-less c = search needs
@@ -78,7 +94,10 @@ loop-again c =
     )
 
 is-end-right-requires : tie.Need-is-end-right-requires Inv-loop μ-loop
-is-end-right-requires c κs = (c .before .before .before .before .before .before .pre .0, (omega (arith, c .before .before .before .before .before .before .pre .1 .0, c .before .before .before .loop .inv .0 .long), c .before .before .before .loop .inv .0 .system))
+is-end-right-requires c κs = (
+  c .before .before .before .before .before .before .pre .0,
+  (omega (arith, c .before .before .before .before .before .before .pre .1 .0, c .before .before .before .loop .inv .0 .long), c .before .before .before .loop .inv .0 .system),
+)
 
 same-length-3 : tie.Need-same-length-3 Inv-loop μ-loop
 same-length-3 c = search needs

@@ -19,7 +19,8 @@ returns : tie.Need-returns
 returns c = (λ other. sym (chain-stops _ _ _ other _ _ _ (omega arith) (sym (c .before .before .before .take .ensures .0) ∙ not-true _ (c .if1 .taken))), λ e. cc)
 
 next-block-requires : tie.Need-next-block-requires
-next-block-requires c κs = (c .before .before .before .before .before .before .before .pre .0, ltb-true _ _ (parts _ _ (sym (c .before .before .before .take .ensures .0) ∙ not-false _ (c .if1 .left)) .0))
+next-block-requires c κs =
+    (c .before .before .before .before .before .before .before .pre .0, ltb-true _ _ (parts _ _ (sym (c .before .before .before .take .ensures .0) ∙ not-false _ (c .if1 .left)) .0))
 
 same-length-2 : tie.Need-same-length-2
 same-length-2 c = search needs

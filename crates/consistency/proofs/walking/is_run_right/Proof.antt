@@ -31,7 +31,8 @@ returns-4 : tie.Need-returns-4
 returns-4 c =
     let s = c .before .before .before .before .before .before .before .before .before .before .before in
     let run = c .before .before .take-run .ensures in (
-      λ img. run-whole _ _ _ _ _ _ (c .before .before .before .before .before .before .before .before .before .if1 .left) (c .before .before .before .before .if3 .left) _ (run-again _ _ _ _ _ (run .taken img _ (s .pre .0 .1) (c .before .before .before .before .before .before .if2 .left))),
+      λ img. run-whole _ _ _ _ _ _ (c .before .before .before .before .before .before .before .before .before .if1 .left) (c .before .before .before .before .if3 .left) _
+          (run-again _ _ _ _ _ (run .taken img _ (s .pre .0 .1) (c .before .before .before .before .before .before .if2 .left))),
       λ img right. run .marked img _ right ∙ marks-again _ _ _ _ _,
     )
 
