@@ -1,4 +1,4 @@
--- That files differ: each test of pairs is true exactly if no two entries have one name, extension and UIC; and the tests step by step.
+-- That files differ: each test of pairs is true exactly if no two entries have one name, extension and UIC; and the lists in which files of one number stand.
 use Prim.Native.Nat.{ℕ, suc, zero, _+_, _-_, _*_, _/_, _%_, _≤_, _<_}
 use mathlib.Core.Path.{_≡_, refl, sym, ap, subst, _∙_}
 use mathlib.Core.Bool.{Bool, true, false, not}
@@ -142,42 +142,10 @@ module _ (img : List ℕ) (g : Geometry) where
         differ i j (omega arith) (omega arith) (used-same j i same used) (turned j i same))),
   )
 
-  -- step by step, at entry f of those below `end`
-  pub apart-start : (e : ℕ) → apartTest img g e 0 e ≡ apartTest img g e 0 (e - 0)
-  apart-start e = let all : e ≡ e - 0 = omega arith in ap (apartTest img g e 0) all
-
-  module _ (e f end : ℕ) (below : f < end) where
-    pub apart-step : sameTest img g e f ≡ false → apartTest img g e f (end - f) ≡ apartTest img g e (f + 1) (end - (f + 1))
-    unfolding apartTest
-    apart-step other = ap (apartTest img g e f) (left-of f end below) ∙ simp other
-
-    pub apart-not : sameTest img g e f ≡ true → apartTest img g e f (end - f) ≡ false
-    unfolding apartTest
-    apart-not same = ap (apartTest img g e f) (left-of f end below) ∙ simp same
-
-  pub apart-end : (e f end : ℕ) → end ≤ f → apartTest img g e f (end - f) ≡ true
-  unfolding apartTest
-  apart-end e f end done = let none : end - f ≡ 0 = omega arith in ap (apartTest img g e f) none
-
+  -- an empty entry has no file that could be another's
   pub new-empty : (e : ℕ) → entryWord img g e 0 ≡ 0 → newTest img g e ≡ true
   unfolding newTest
   new-empty e is = simp (eq-eqb _ _ is)
-
-  pub new-used : (e : ℕ) → (entryWord img g e 0 ≡ 0 → ⊥) → (r : Bool) → r ≡ apartTest img g e 0 e → r ≡ newTest img g e
-  unfolding newTest
-  new-used e used r is = simp (ne-eqb _ _ used) is
-
-  module _ (e end : ℕ) (below : e < end) where
-    pub differ-step : newTest img g e ≡ true → differTest img g e (end - e) ≡ differTest img g (e + 1) (end - (e + 1))
-    unfolding differTest
-    differ-step is = ap (differTest img g e) (left-of e end below) ∙ simp is
-
-    pub differ-not : newTest img g e ≡ false → differTest img g e (end - e) ≡ false
-    unfolding differTest
-    differ-not twice = ap (differTest img g e) (left-of e end below) ∙ simp twice
-
-  pub differ-empty : (e k : ℕ) → ((j : ℕ) → e ≤ j → j < e + k → entryWord img g j 0 ≡ 0) → differTest img g e k ≡ true
-  differ-empty e k empty = each-tested e k (λ j low high. new-empty j (empty j low high))
 
   -- the number of what was read, and its words
   pub number-read : (e : ℕ) {bytes number : ℕ} → bytes ≡ blockBytes g → number ≡ eightAt img (bytes + 32 * e) → number ≡ keyNumber img g e
