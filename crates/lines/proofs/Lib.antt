@@ -13,7 +13,6 @@ pub mod LineStepsLaid
 pub mod LineStepsFound
 pub mod ReaderRole
 pub mod ReaderPart
-pub mod SpotPayload
 pub mod ReaderPayloads
 pub mod LineReadingStage
 pub mod LineReadingProgress

@@ -31,7 +31,7 @@ passed-for-some zero s some there = some
 passed-for-some (suc k) [] some there = there
 passed-for-some (suc k) (x ∷ s) some there = omega arith
 
-overlaid-length : (most : ℕ) (line : List ℕ) → 0 < most → length (overlaid most line) ≡ min most (length line)
+pub overlaid-length : (most : ℕ) (line : List ℕ) → 0 < most → length (overlaid most line) ≡ min most (length line)
 overlaid-length most line some = by (leb (length line) most) refl
   where
     by : (short : Bool) → leb (length line) most ≡ short

@@ -14,7 +14,7 @@ use Rattle.lines.specs.LineRead.{overlaid}
 use Rattle.lines.specs.LineSteps.{laidOver, laidAll}
 
 module _ (most : ℕ) where
-  laid-within : (buffer : List ℕ) (count : ℕ) (line : List ℕ) → count + length line ≤ most → laidAll most buffer count line ≡ sets buffer count line
+  pub laid-within : (buffer : List ℕ) (count : ℕ) (line : List ℕ) → count + length line ≤ most → laidAll most buffer count line ≡ sets buffer count line
   unfolding laidAll
   laid-within buffer count [] fits = refl
   laid-within buffer count (y ∷ line) fits =
@@ -31,7 +31,7 @@ module _ (most : ℕ) where
       let place : min count (most - 1) ≡ most - 1 = omega arith in
       rw place (laid-surplus (set buffer (most - 1) y) (count + 1) z line (omega arith) ∙ set-set buffer (most - 1) y (getD (z ∷ line) (length line) 0))
 
-  laid-append : (buffer : List ℕ) (count : ℕ) (line more : List ℕ)
+  pub laid-append : (buffer : List ℕ) (count : ℕ) (line more : List ℕ)
       → laidAll most buffer count (line ++ more) ≡ laidAll most (laidAll most buffer count line) (count + length line) more
   unfolding laidAll
   laid-append buffer count [] more = ap (λ (n : ℕ). laidAll most buffer n more) (omega arith)

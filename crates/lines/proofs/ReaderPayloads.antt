@@ -18,7 +18,7 @@ use Rattle.lines.specs.LineRead.{statusBit}
 use Rattle.lines.specs.LineSteps.{LineState, readFrom, readOnFrom, atEnd}
 use Rattle.lines.specs.Reader.{stateOf, Following}
 use Rattle.lines.proofs.LineSteps.{read-parts, part-ended, part-unended, part-end, file-ended, file-unended}
-use Rattle.lines.proofs.SpotPayload.{payload-inside, payload-split}
+use Rattle.stream.proofs.SpotPayload.{payload-inside, payload-split}
 
 pub follow-start : {mode : LineMode} {most : ℕ} {img : List ℕ} {g : Geometry} {buffer : List ℕ} {spot : Spot} → length buffer ≡ most
     → Standing img g spot → length (bytesFrom img g spot) ≤ mostBytes

@@ -3,9 +3,8 @@ ghost use mathlib.Core.Path.{_≡_};
 ghost use mathlib.Core.List.{[], _∷_};
 ghost use Prim.Native.Nat.{_+_, _-_, _≤_, _<_, min};
 ghost use lib.ListN.{length};
-ghost use Rattle.pack.specs.File.{linkOf};
 ghost use Rattle.consistency.specs.ConsistentTest.{openedOf};
-ghost use Rattle.stream.specs.Spot.{payloadsFrom, mostBytes, bytesFrom, Standing};
+ghost use Rattle.stream.specs.Spot.{mostBytes, bytesFrom, Standing};
 ghost use Rattle.lines.specs.LineRead.{statusBit};
 ghost use Rattle.lines.specs.LineSteps.{isSpecial, readFrom, atEnd};
 ghost use Rattle.lines.specs.LineReading.{modeOf, lineRead};
@@ -80,7 +79,7 @@ fn is_special(mode: LineMode) -> bool
 }
 
 // Behind what is laid, or over the last of the buffer.
-fn place_in(most: usize, count: usize) -> usize
+pub fn place_in(most: usize, count: usize) -> usize
     requires { ⌜ 0 < most ⌝ }
     ensures { λ r. ⌜ r ≡ min count (most - 1) ⌝ }
 {
@@ -91,7 +90,7 @@ fn place_in(most: usize, count: usize) -> usize
 }
 
 // Status bit 0.
-fn bit_0(set: bool) -> usize
+pub fn bit_0(set: bool) -> usize
     ensures { λ r. ⌜ r ≡ statusBit set 1 ⌝ }
     ensures { λ r. ⌜ r ≤ 1 ⌝ }
 {
@@ -152,23 +151,6 @@ fn read_payload(part: &[u8], mode: LineMode, buffer: &mut [u8], from: Reader) ->
     }
 }
 
-// The start of the next block's payload: one byte on from the last of this one.
-fn next_payload(img: &[u8], g: Geometry, spot: Spot) -> Spot
-    requires { ⌜ Standing (now img) g spot ⌝ }
-    requires { ⌜ 0 < spot .left ⌝ }
-    ensures { λ r. ⌜ bytesFrom (now (img .entry)) g r ≡ payloadsFrom (now (img .entry)) g (spot .left - 1) (linkOf (now (img .entry)) g (spot .block .0)) ⌝ }
-    ensures { λ r. ⌜ Standing (now (img .entry)) g r ⌝ }
-{
-    let block = spot.block;
-    let last = Spot {
-        block,
-        left: spot.left,
-        at: spot.end - 1,
-        end: spot.end,
-    };
-    stream::step(img, g, last)
-}
-
 // A line read from a spot on, payload by payload, to its end or the file's.
 fn read_payloads(img: &[u8], g: Geometry, start: Spot, mode: LineMode, buffer: &mut [u8]) -> Reader
     requires { ⌜ Standing (now img) g start ⌝ }
@@ -191,7 +173,7 @@ fn read_payloads(img: &[u8], g: Geometry, start: Spot, mode: LineMode, buffer: &
         if reader.ended {
             return reader;
         }
-        spot = next_payload(img, g, spot);
+        spot = stream::next_payload(img, g, spot);
     }
     Reader {
         count: reader.count,

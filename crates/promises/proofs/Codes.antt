@@ -8,7 +8,7 @@ use Rattle.answers.specs.Refusals.{tableOrder, placeIn}
 use Rattle.opening.specs.declared.Opening.the-variants.{Input, Update, Extension}
 use Rattle.directory.specs.Renam.{newKey}
 use Rattle.requests.specs.Request.{Request, outcome, FORMAT, ALLOC, OPENO, OPEN, CLOSE, DELET, RENAM, APPND, LOOK, KEEP, BLOCK-INPUT, BLOCK-OUTPUT, LINKED-READ, LINKED-ADD}
-use Rattle.requests.specs.Request.{LINE-READ, LINE-WRITE, LINE-END, FINISH, OWNER}
+use Rattle.requests.specs.Request.{LINE-READ, LINE-WRITE, LINE-END, BINARY-READ, BINARY-WRITE, FINISH, OWNER}
 use Rattle.promises.specs.GivenWhen.{GivesCode, InTableOrder}
 use Rattle.promises.specs.Codes.{casesOf}
 use Rattle.promises.proofs.GivenWhen.{exactly, gives-known}
@@ -16,6 +16,7 @@ use Rattle.promises.proofs.CodesFiles.{owner-code, finish-code, look-co
 use Rattle.promises.proofs.CodesCreation.{format-code, openo-code, alloc-code}
 use Rattle.promises.proofs.CodesBlocks.{block-in-code, block-out-code, linked-read-code, linked-add-code}
 use Rattle.promises.proofs.CodesLines.{line-read-code, line-write-code, line-end-code}
+use Rattle.promises.proofs.CodesBinary.{binary-read-code, binary-write-code}
 
 pub code-given : (r : Request) (img : List ℕ) → GivesCode (casesOf r img) (outcome r img .code)
 code-given (FORMAT form blocks contents uics) img = format-code img form blocks contents uics
@@ -35,6 +36,8 @@ code-given (LINKED-ADD key caller payload) img = linked-add-code img key caller 
 code-given (LINE-READ key caller mode position buffer) img = line-read-code img key caller mode position buffer
 code-given (LINE-WRITE key caller mode text gather filled) img = line-write-code img key caller mode text gather filled
 code-given (LINE-END key caller gather filled) img = line-end-code img key caller gather filled
+code-given (BINARY-READ key caller mode position toCome sum buffer) img = binary-read-code img key caller mode position toCome sum buffer
+code-given (BINARY-WRITE key caller content gather filled) img = binary-write-code img key caller content gather filled
 code-given (FINISH caller) img = finish-code img caller
 code-given (OWNER block) img = owner-code img block
 
@@ -62,6 +65,8 @@ cases-ordered (LINKED-ADD key caller payload) img = refl
 cases-ordered (LINE-READ key caller mode position buffer) img = refl
 cases-ordered (LINE-WRITE key caller mode text gather filled) img = refl
 cases-ordered (LINE-END key caller gather filled) img = refl
+cases-ordered (BINARY-READ key caller mode position toCome sum buffer) img = refl
+cases-ordered (BINARY-WRITE key caller content gather filled) img = refl
 cases-ordered (FINISH caller) img = refl
 cases-ordered (OWNER block) img = refl
 

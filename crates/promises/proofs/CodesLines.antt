@@ -1,8 +1,8 @@
 -- Requests on lines of text give each code in its case: reading a line, writing one, and the ending call.
 use Prim.Native.Nat.{ℕ, _+_, _-_, _/_, _≤_, _<_}
 use mathlib.Core.Path.{_≡_, ap, _∙_}
-use mathlib.Core.Logic.{_↔_, inl, inr}
-use mathlib.Core.Bool.{true, not}
+use mathlib.Core.Logic.{_↔_, _⊎_, inl, inr}
+use mathlib.Core.Bool.{Bool, true, not}
 use mathlib.Core.List.{List}
 use native.Mathlib.Nat.{div-self, zero-div}
 use native.Mathlib.Omega.{arith}
@@ -14,33 +14,45 @@ use Rattle.pack.specs.declared.Key.{Key}
 use Rattle.pack.specs.Geometry.{geometryOf, payloadBytes}
 use Rattle.pack.specs.Consistent.{Consistent}
 use Rattle.pack.specs.Owner.{FreeBlock, freeCount}
+use Rattle.answers.specs.Refusals.{firstOf}
 use Rattle.asking.specs.Access.{accessRows}
 use Rattle.asking.specs.Asked.{fileOf}
 use Rattle.asking.specs.Outcome.{settled}
+use Rattle.stream.specs.BytesReadingRows.{readingRows}
 use Rattle.stream.proofs.Gather.{gathered-count}
-use Rattle.lines.specs.LineReadingRows.{lineReadRows}
+use Rattle.lines.specs.LineReadingRows.{wrongReading, lineReadRows}
 use Rattle.lines.specs.LineReading.{modeOf, lineRead}
 use Rattle.lines.specs.LineWrite.{putAll, takenOf}
 use Rattle.stream.specs.BytesWriting.{wrongGather, gatheredIn, bytesWritten}
 use Rattle.lines.specs.LineWriting.{nulsFor, lineWrite, lineEnd}
 use Rattle.requests.specs.Request.{LINE-READ, LINE-WRITE, LINE-END}
 use Rattle.promises.specs.GivenWhen.{GivesCode}
-use Rattle.promises.specs.Codes.{OtherGather, casesOf}
+use Rattle.promises.specs.Codes.{ReadingCases, NoLineMode, OtherGather, casesOf}
 use Rattle.promises.proofs.GivenWhen.{rung, clear}
 use Rattle.promises.proofs.CodesTests.{equal-numbers, above, at-least, either, one-alone, unread}
 use Rattle.promises.proofs.CodesFiles.{file-code}
 use Rattle.promises.proofs.CodesBlocks.{access-code, sized, counted-free, adding-code}
 
+-- reading bytes of a file, from a position on
+pub reading-code : (img : List ℕ) (key : Key) (caller : ℕ) (wrong : Bool) (Wrong : Type 0) → wrong ≡ true ↔ Wrong → (position : ℕ)
+    → GivesCode (ReadingCases img key caller Wrong position) (firstOf (readingRows img key caller wrong position))
+unfolding accessRows
+reading-code img key caller wrong Wrong decides position =
+    file-code img key wrong Wrong decides _ _ (λ right.
+    access-code _ 1 (fileOf img key) caller _ _ (unread (fileOf img key .readers)) _ _ (rung _ 0o44 _ (above _ position) (λ p. clear)))
+
+-- a maximum count of 0, or no mode
+pub unreadable : (mode : ℕ) (buffer : List ℕ) → wrongReading mode buffer ≡ true ↔ ((length buffer ≡ 0) ⊎ NoLineMode mode)
+unreadable mode buffer = either (eqb (length buffer) 0) (ltb 1 mode) (equal-numbers (length buffer) 0) (above 1 mode)
+
 pub line-read-code : (img : List ℕ) (key : Key) (caller mode position : ℕ) (buffer : List ℕ)
     → GivesCode (casesOf (LINE-READ key caller mode position buffer) img) (lineRead img key caller mode position buffer .code)
-unfolding lineRead lineReadRows accessRows settled
-line-read-code img key caller mode position buffer =
-    file-code img key _ _ (either (eqb (length buffer) 0) (ltb 1 mode) (equal-numbers (length buffer) 0) (above 1 mode)) _ _ (λ right.
-    access-code _ 1 (fileOf img key) caller _ _ (unread (fileOf img key .readers)) _ _ (rung _ 0o44 _ (above _ position) (λ p. clear)))
+unfolding lineRead lineReadRows settled
+line-read-code img key caller mode position buffer = reading-code img key caller (wrongReading mode buffer) _ (unreadable mode buffer) position
 
 -- the gather buffer
 module _ (img gather : List ℕ) (filled : ℕ) where
-  other-gather : wrongGather img gather filled ≡ true ↔ OtherGather img gather filled
+  pub other-gather : wrongGather img gather filled ≡ true ↔ OtherGather img gather filled
   other-gather =
       either (not (eqb (length gather) (payloadBytes (geometryOf img)))) (leb (payloadBytes (geometryOf img)) filled)
       (sized (length gather) (payloadBytes (geometryOf img))) (at-least (payloadBytes (geometryOf img)) filled)
@@ -56,7 +68,7 @@ module _ (img gather : List ℕ) (filled : ℕ) where
         by (yes is) = is
         by (no other) = absurd (good (inl other))
 
-    full-count : (bytes : List ℕ) → length (gatheredIn img gather filled bytes .full) ≡ (filled + length bytes) / payloadBytes (geometryOf img)
+    pub full-count : (bytes : List ℕ) → length (gatheredIn img gather filled bytes .full) ≡ (filled + length bytes) / payloadBytes (geometryOf img)
     full-count bytes = gathered-count (payloadBytes (geometryOf img)) gather filled room whole bytes
 
     -- the ending call fills one block, or at 0 none
@@ -73,7 +85,7 @@ module _ (img gather : List ℕ) (filled : ℕ) where
         full-count (nulsFor img filled) ∙ ap (λ (n : ℕ). n / payloadBytes (geometryOf img)) all ∙ div-self (omega (arith, room))
 
 -- fewer are free
-counted-few : (img : List ℕ) {needed full : ℕ} → needed ≡ full → ltb (freeCount img) needed ≡ true ↔ freeCount img < full
+pub counted-few : (img : List ℕ) {needed full : ℕ} → needed ≡ full → ltb (freeCount img) needed ≡ true ↔ freeCount img < full
 counted-few img is = rw is (above (freeCount img) _)
 
 pub line-write-code : (img : List ℕ) (key : Key) (caller mode : ℕ) (text gather : List ℕ) (filled : ℕ)

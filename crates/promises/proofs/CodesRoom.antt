@@ -11,9 +11,10 @@ use Rattle.creation.specs.Alloc.{alloc}
 use Rattle.room.specs.Room.{FreeRun}
 use Rattle.adding.specs.LinkedAdd.{linkedAdd}
 use Rattle.lines.specs.LineWriting.{lineWrite, lineEnd}
-use Rattle.requests.specs.Request.{ALLOC, LINKED-ADD, LINE-WRITE, LINE-END}
+use Rattle.binary.specs.BinaryWriting.{binaryWrite}
+use Rattle.requests.specs.Request.{ALLOC, LINKED-ADD, LINE-WRITE, LINE-END, BINARY-WRITE}
 use Rattle.promises.specs.GivenWhen.{GivesCode}
-use Rattle.promises.specs.Codes.{CreatingCases, AddingCases, OtherPayload, OtherGather, NoLineMode, fullBlocks}
+use Rattle.promises.specs.Codes.{CreatingCases, AddingCases, OtherPayload, OtherGather, NoLineMode, fullBlocks, LongerLine, fullBinary}
 use Rattle.promises.proofs.GivenWhen.{last-given}
 use Rattle.promises.proofs.Codes.{code-given, cases-ordered}
 
@@ -56,6 +57,21 @@ module _ (img : List ℕ) (key : Key) (caller mode : ℕ) (text gather : List �
 
   pub lines-given : fullBlocks img filled mode text ≤ freeCount img → lineWrite img key caller mode text gather filled .code ≡ 0
   lines-given enough = lines .1 (λ few. omega (arith, few, enough))
+
+-- a formatted binary line likewise
+module _ (img : List ℕ) (key : Key) (caller : ℕ) (content gather : List ℕ) (filled : ℕ)
+    (clear : GivesCode (AddingCases img key caller (OtherGather img gather filled ⊎ LongerLine content)) 0) where
+  binary : (binaryWrite img key caller content gather filled .code ≡ 0o42 ↔ freeCount img < fullBinary img filled content)
+      × ((freeCount img < fullBinary img filled content → ⊥) → binaryWrite img key caller content gather filled .code ≡ 0)
+  binary =
+      last-given _ 0o42 (AddingCases img key caller (OtherGather img gather filled ⊎ LongerLine content))
+      (cases-ordered (BINARY-WRITE key caller content gather filled) img) (code-given (BINARY-WRITE key caller content gather filled) img) clear
+
+  pub binary-refused : binaryWrite img key caller content gather filled .code ≡ 0o42 ↔ freeCount img < fullBinary img filled content
+  binary-refused = binary .0
+
+  pub binary-given : fullBinary img filled content ≤ freeCount img → binaryWrite img key caller content gather filled .code ≡ 0
+  binary-given enough = binary .1 (λ few. omega (arith, few, enough))
 
 -- the ending call: one block is needed, or at 0 none
 module _ (img : List ℕ) (key : Key) (caller : ℕ) (gather : List ℕ) (filled : ℕ) (clear : GivesCode (AddingCases img key caller (OtherGather img gather filled)) 0) where

@@ -2,7 +2,7 @@
 use Prim.Native.Nat.{ℕ, _≤_, _<_}
 use mathlib.Core.Path.{_≡_, refl, sym}
 use mathlib.Core.Logic.{_↔_, _⊎_, inl, inr, ⊎-elim}
-use mathlib.Core.Bool.{Bool, true, false, not, _||_}
+use mathlib.Core.Bool.{Bool, true, false, not, _&&_, _||_}
 use mathlib.Core.List.{List}
 use mathlib.Core.Option.{Option, none, some}
 use native.Mathlib.Omega.{arith}
@@ -57,6 +57,10 @@ pub either : {A B : Type 0} (a b : Bool) → a ≡ true ↔ A → b ≡ true ↔
 either true b first second = (λ t. inl (first .0 refl), λ x. refl)
 either false true first second = (λ t. inr (second .0 refl), λ x. refl)
 either false false first second = (λ never. true-not-false (sym never), λ x. ⊎-elim (first .1) (second .1) x)
+
+pub both : {A B : Type 0} (a b : Bool) → a ≡ true ↔ A → b ≡ true ↔ B → a && b ≡ true ↔ A × B
+both true b first second = (λ t. (first .0 refl, second .0 t), λ x. second .1 (x .1))
+both false b first second = (λ never. true-not-false (sym never), λ x. absurd (true-not-false (sym (first .1 (x .0)))))
 
 pub one-alone : {A : Type 0} (a : Bool) → a ≡ true ↔ A → a || false ≡ true ↔ A
 one-alone true first = first

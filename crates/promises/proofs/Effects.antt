@@ -54,6 +54,25 @@ pub use Rattle.lines.proofs.LineRoundTrip.{lines-read-back}
 pub use Rattle.lines.proofs.LineRoundTripWritten.{line-taken, line-whole, line-status}
 -- written by any calls, ended, closed, opened and read: any call goes on, and the writing can be finished (`lines-round-trip` is in Main.antt)
 pub use Rattle.promises.proofs.LinesAgainAccepted.{lines-accepted, lines-go-on, lines-finish}
+-- formatted binary lines, document 02 §10 (`binary-whole`, `binary-exclude`, `binary-answered`, `binary-statuses`, `binary-next-most`, `binary-next-grows`: Main.antt).
+-- Reading: what is found in the bytes from the position on; the header said of its bytes, and in one way; bit 2 and bit 6; what is laid, counted and given back
+pub use Rattle.binary.proofs.BinaryReadingStage.{binary-read-done}
+pub use Rattle.binary.proofs.BinaryHeader.{header-case, header-only, wrong-stays, ended-there}
+pub use Rattle.binary.proofs.BinaryGiven.{special-given, special-given-none, normal-given-none}
+-- a normal read has the count, the position and, bit 0 aside, the status of a special read with a large buffer
+pub use Rattle.binary.proofs.NormalLast.{normal-alike}
+-- what a read gives back is not refused, and the next call goes on in the bytes behind (`binary-parts-one`, `binary-parts-end`: Main.antt)
+pub use Rattle.binary.proofs.BinaryAgain.{given-again, binary-read-again}
+-- writing: the payloads and the gathered bytes go on with the stored line, no byte lost or added; all data bytes are counted, with status 0; the highest free blocks
+-- are taken; bytes not laid over stay
+pub use Rattle.requests.proofs.RequestDone.{binary-write-stream}
+pub use Rattle.requests.proofs.Taken.{binary-write-taken}
+pub use Rattle.binary.proofs.BinaryWritingEffect.{binary-write-numbers, binary-write-filled, binary-write-stays}
+-- the last byte makes the sum 0 modulo 256, and no other byte does
+pub use Rattle.binary.proofs.BinarySums.{line-sum, sum-byte-only, line-length}
+-- lines that are written read back the same, and a changed data byte is found: in normal mode whatever the buffer is, and in parts
+pub use Rattle.promises.proofs.BinaryAgainCalls.{binary-accepted, binary-finish}
+pub use Rattle.promises.proofs.BinaryChanged.{binary-changed-normal, binary-changed-parts}
 -- the report, document 02 §6: "It says consistent exactly if document 01 says so, and every fault named is really there."; the first in the order; one answer, small enough for
 -- five digits; one printed text; a fault named means that every request but Format is refused with 40
 pub use Rattle.faults.proofs.ReportConsistent.{report-consistent, rule-consistent, report-one, fault-there}

@@ -7,18 +7,22 @@ use mathlib.Core.List.{List, [], _∷_}
 use native.Mathlib.Omega.{arith}
 use lib.ListN.{length, drop, length-append, length-drop}
 use lib.Seq.{drop-drop}
+use borrow.Author.Tests.{ne-eqb, le-ltb}
 use Rattle.pack.specs.declared.Geometry.{Geometry}
 use Rattle.pack.specs.declared.Key.{Key}
 use Rattle.pack.specs.Entry.{entryOf}
 use Rattle.lines.specs.declared.LineMode.{LineMode}
 use Rattle.lines.specs.declared.LineMode.the-variants.{Normal}
 use Rattle.lines.specs.LineRead.{LineFound, keptLine, isTerminated, statusBit, lineFound}
+use Rattle.lines.specs.LineReadingRows.{wrongReading}
 use Rattle.lines.specs.LineReading.{modeOf, foundOutcome, lineRead}
 use Rattle.lines.specs.LineRoundTrip.{TextLine, terminated, TextLines, no-line, one-more, ReadBack, at-end as found-end, one-read as found-line}
 use Rattle.lines.proofs.LineReadCases.{ReadCase, whole, surplus, stop, found-case}
 use Rattle.lines.proofs.LineReadProgress.{passed-most}
-use Rattle.promises.specs.LinesAgain.{payloadsIn, ReadAgain, at-end, one-read}
-use Rattle.promises.proofs.LinesAgainHeld.{Held, held-payloads, read-held}
+use Rattle.lines.proofs.LineReadingStage.{LineAsked, line-read-given}
+use Rattle.promises.specs.BytesAgain.{payloadsIn}
+use Rattle.promises.specs.LinesAgain.{ReadAgain, at-end, one-read}
+use Rattle.promises.proofs.BytesAgainHeld.{Held, held-payloads, held-length, held-reached}
 
 -- where bit 0 is not set, both modes find the same
 module _ (most : ℕ) (s : List ℕ) where
@@ -50,11 +54,21 @@ line-some (terminated {text = text} t plain ends) = omega (arith, length-append 
 
 -- one after another, from a position on
 module _ {img : List ℕ} {key : Key} {g : Geometry} {e caller : ℕ} {payloads : List ℕ} (held : Held img key g e caller payloads) (reader : 0 < entryOf img g e .readers) where
+  read-held : (mode position : ℕ) (buffer : List ℕ) → mode ≤ 1 → 0 < length buffer → position ≤ length payloads
+      → lineRead img key caller mode position buffer ≡ foundOutcome img position buffer (lineFound (modeOf mode) (length buffer) (drop position payloads))
+  read-held mode position buffer small lent within =
+      let right : wrongReading mode buffer ≡ false = rw (ne-eqb (length buffer) 0 (λ none. omega (arith, none, lent)), le-ltb 1 mode small) in
+      line-read-given (asked-reading right) (omega (arith, within, held-length held))
+      ∙ ap (λ (s : List ℕ). foundOutcome img position buffer (lineFound (modeOf mode) (length buffer) (drop position s))) (held-payloads held)
+    where
+      asked-reading : wrongReading mode buffer ≡ false → LineAsked img key caller mode position buffer g e (entryOf img g e)
+      asked-reading right = record { reached = held-reached held reader (wrongReading mode buffer) right }
+
   read-found : (mode position : ℕ) (buffer : List ℕ) → mode ≤ 1 → 0 < length buffer → position ≤ length payloads → (found : LineFound)
       → lineFound Normal (length buffer) (drop position payloads) ≡ found → (found .status ≡ 0) ⊎ (found .status ≡ 64)
       → lineRead img key caller mode position buffer ≡ foundOutcome img position buffer found
   read-found mode position buffer small lent within found is even =
-      read-held held reader mode position buffer small lent within
+      read-held mode position buffer small lent within
       ∙ ap (foundOutcome img position buffer) (either-mode (length buffer) (drop position payloads) (modeOf mode) (rw is even) ∙ is)
 
   pub read-lines : {lines : List (List ℕ)} → TextLines lines → (position : ℕ) → position ≤ length payloads → ReadBack Normal (drop position payloads) lines

@@ -6,7 +6,7 @@ use mathlib.Core.Bool.{true}
 use mathlib.Core.List.{List, [], _∷_, _++_, flatten}
 use mathlib.Core.Option.{none, some}
 use native.Mathlib.Omega.{arith}
-use lib.ListN.{length, getD, take, replicate}
+use lib.ListN.{length, getD, set, take, drop, replicate}
 use Rattle.answers.specs.declared.Answer.{Answer}
 use Rattle.answers.specs.Refusals.{tableOrder, placeIn}
 use Rattle.words.specs.Word.{wordAt}
@@ -61,6 +61,17 @@ use Rattle.finishing.proofs.FinishEffect
 use Rattle.transfer.specs.LinkedRead.{linkedRead}
 use Rattle.adding.specs.LinkedAdd.{linkedAdd}
 use Rattle.lines.specs.LineWriting.{lineWrite, lineEnd}
+use Rattle.stream.specs.BytesReading.{bytesBehind}
+use Rattle.lines.specs.declared.LineMode.{LineMode}
+use Rattle.lines.specs.LineReading.{modeOf}
+use Rattle.binary.specs.BinaryLine.{binaryLine}
+use Rattle.binary.specs.BinaryRead.{BinaryFound}
+use Rattle.binary.specs.BinaryCases.{Kind, BinaryCase, StatusOf}
+use Rattle.binary.specs.BinaryRoundTrip.{Stored, binaryLines}
+use Rattle.binary.specs.BinaryReading.{binaryOutcome, binaryRead}
+use Rattle.binary.specs.BinaryWriting.{binaryWrite}
+use Rattle.binary.proofs.BinaryCases
+use Rattle.binary.proofs.BinaryReadingStage
 use Rattle.command_grammar.specs.Parsed.{Parsed}
 use Rattle.command_grammar.specs.Grammar.{Command}
 use Rattle.command_grammar.specs.Bounded.{Bounded}
@@ -91,7 +102,7 @@ use Rattle.requests.specs.Changes.{MayChange}
 use Rattle.requests.proofs.Changes
 use Rattle.promises.specs.Measures.{DocumentHeader, SystemBlocks, bitInMap, DocumentMeasures}
 use Rattle.promises.specs.GivenWhen.{GivesCode, InTableOrder}
-use Rattle.promises.specs.Codes.{CreatingCases, AddingCases, OtherPayload, OtherGather, NoLineMode, fullBlocks, casesOf}
+use Rattle.promises.specs.Codes.{CreatingCases, AddingCases, OtherPayload, OtherGather, NoLineMode, fullBlocks, LongerLine, fullBinary, casesOf}
 use Rattle.promises.specs.CommandCodes.{Csi1Cases, Csi2Cases}
 use Rattle.promises.specs.WritingCodes.{CsiWriteCases}
 use Rattle.promises.specs.AddedAgain.{openedImage}
@@ -105,8 +116,16 @@ use Rattle.opening.specs.Open.{opened}
 use Rattle.opening.specs.Close.{close}
 use Rattle.lines.specs.LineWrite.{putAll}
 use Rattle.lines.specs.LineRoundTrip.{TextLines}
-use Rattle.promises.specs.LinesAgain.{WrittenBy, reopened, ReadAgain}
+use Rattle.promises.specs.BytesAgain.{payloadsIn, reopened}
+use Rattle.promises.specs.LinesAgain.{WrittenBy, ReadAgain}
+use Rattle.promises.specs.BinaryAgain.{BinaryWrittenBy, PartsRead, BinaryReadAgain}
+use Rattle.promises.specs.BinaryExamples.{BinaryExamples}
 use Rattle.promises.proofs.LinesAgain
+use Rattle.promises.proofs.BinaryAnswers
+use Rattle.promises.proofs.BinaryParts
+use Rattle.promises.proofs.BinaryAgain
+use Rattle.promises.proofs.BinaryChanged
+use Rattle.promises.proofs.BinaryExamples as BinaryShown
 use Rattle.promises.proofs.Measures
 use Rattle.promises.proofs.Codes
 use Rattle.promises.proofs.CodesRoom
@@ -234,17 +253,97 @@ add-again = AddedAgain.add-again
 pub document-header : (long form n c u : ℕ) → Measured long form n c u ↔ DocumentHeader long form n c u
 document-header = Measures.document-header
 
--- 02 §1: lines that are written by any calls, ended, closed and opened for input are read back the same; every code is 0, and any call goes on
--- (`lines-accepted`, `lines-go-on`, `lines-finish`, LinesAgainAccepted.antt)
+-- 02 §1: lines that are written by any calls, behind whatever the gather buffer holds, ended, closed and opened for input are read back the same; every code
+-- behind the calls of writing is 0, and so is each of those, from wherever the writing is (`lines-accepted`, `lines-go-on`, `lines-finish`, LinesAgainAccepted.antt)
 module _ (img : List ℕ) (key : Key) (caller : ℕ) (gather : List ℕ) (clear : GivesCode (AddingCases img key caller (OtherPayload img gather)) 0)
-    {lines : List (List ℕ)} (all : TextLines lines) (room : length (putAll (flatten lines)) ≤ freeCount img * payloadBytes (geometryOf img))
-    {img′ gather′ : List ℕ} {filled′ : ℕ} (written : WrittenBy key caller img gather 0 (flatten lines) img′ gather′ filled′ []) where
+    {filled : ℕ} (within : filled < payloadBytes (geometryOf img)) {lines : List (List ℕ)} (all : TextLines lines)
+    (room : filled + length (putAll (flatten lines)) ≤ freeCount img * payloadBytes (geometryOf img))
+    {img′ gather′ : List ℕ} {filled′ : ℕ} (written : WrittenBy key caller img gather filled (flatten lines) img′ gather′ filled′ []) where
   pub lines-round-trip : (lineEnd img′ key caller gather′ filled′ .code ≡ 0)
       × (close (lineEnd img′ key caller gather′ filled′ .image) key (fileOf img key .writer) .code ≡ 0)
       × (opened Input (close (lineEnd img′ key caller gather′ filled′ .image) key (fileOf img key .writer) .image) key caller .code ≡ 0)
       × ReadAgain (reopened (lineEnd img′ key caller gather′ filled′ .image) key (fileOf img key .writer) caller) key caller
-      (fileOf img key .length * payloadBytes (geometryOf img)) lines
-  lines-round-trip = LinesAgain.lines-round-trip img key caller gather clear all room written
+      (fileOf img key .length * payloadBytes (geometryOf img) + filled) lines
+  lines-round-trip = LinesAgain.lines-round-trip img key caller gather clear within all room written
+
+-- 02 §10: formatted binary lines. Reading has five answers (`BinaryCase`, crates/binary/specs: the bytes end in the header, the header is wrong, the buffer is full, the
+-- line is read, the data end), each with when it is given. They are whole and exclude one another,
+pub binary-whole : (mode : LineMode) (most toCome sum : ℕ) (s : List ℕ) → (kind : Kind) × (found : BinaryFound) × BinaryCase mode most sum s toCome kind found
+binary-whole = BinaryAnswers.binary-whole
+
+pub binary-exclude : {mode : LineMode} {most toCome sum : ℕ} {s : List ℕ} {kind kind′ : Kind} {found found′ : BinaryFound}
+    → BinaryCase mode most sum s toCome kind found → BinaryCase mode most sum s toCome kind′ found′ → (kind ≡ kind′) × (found ≡ found′)
+binary-exclude = BinaryCases.cases-exclude
+
+-- and where the code is 0 the answer is that of its case, in the bytes from the position on; no status but 0, 1, 2, 4 and 64, and in normal mode 3 and 65;
+-- the next position is never beyond the payloads, and goes on with every read that is not at the end and not of bit 2
+module _ (img : List ℕ) (key : Key) (caller mode position toCome sum : ℕ) (buffer : List ℕ)
+    (success : binaryRead img key caller mode position toCome sum buffer .code ≡ 0) where
+  pub binary-answered : {kind : Kind} {found : BinaryFound} → BinaryCase (modeOf mode) (length buffer) sum (bytesBehind img key position) toCome kind found
+      → binaryRead img key caller mode position toCome sum buffer ≡ binaryOutcome img position buffer found
+  binary-answered = BinaryAnswers.binary-answered img key caller mode position toCome sum buffer success
+
+  pub binary-statuses : StatusOf (modeOf mode) (getD (binaryRead img key caller mode position toCome sum buffer .numbers) 1 0)
+  binary-statuses = BinaryAnswers.binary-statuses img key caller mode position toCome sum buffer success
+
+  pub binary-next-most : getD (binaryRead img key caller mode position toCome sum buffer .numbers) 2 0 ≤ fileOf img key .length * payloadBytes (geometryOf img)
+  binary-next-most = BinaryReadingStage.binary-read-most img key caller mode position toCome sum buffer success
+
+  pub binary-next-grows : position < fileOf img key .length * payloadBytes (geometryOf img)
+      → (getD (binaryRead img key caller mode position toCome sum buffer .numbers) 1 0 ≡ 4 → ⊥)
+      → position < getD (binaryRead img key caller mode position toCome sum buffer .numbers) 2 0
+  binary-next-grows = BinaryReadingStage.binary-read-grows img key caller mode position toCome sum buffer success
+
+-- "special keeps the rest and does not verify until its last part is read": parts of any sizes, the last in either mode, come to what one special read with a
+-- buffer from 512 gives, its bytes, status and position; and with whatever buffers the parts come to an end
+module _ (img : List ℕ) (key : Key) (caller : ℕ) where
+  pub binary-parts-one : {buffers : ℕ → List ℕ} {position toCome sum : ℕ} {laid : List ℕ} {status next : ℕ}
+      → PartsRead img key caller buffers position toCome sum laid status next → (buffer : List ℕ) → 512 ≤ length buffer
+      → binaryRead img key caller 1 position toCome sum buffer
+      ≡ record { code = 0; numbers = length laid ∷ (status ∷ (next ∷ (0 ∷ (0 ∷ [])))); image = img; buffer = laid ++ drop (length laid) buffer }
+  binary-parts-one = BinaryParts.binary-parts-one img key caller
+
+  pub binary-parts-end : (buffers : ℕ → List ℕ) → ((i : ℕ) → 0 < length (buffers i)) → (position toCome sum : ℕ)
+      → binaryRead img key caller 1 position toCome sum (buffers 0) .code ≡ 0
+      → (laid : List ℕ) × (status : ℕ) × (next : ℕ) × PartsRead img key caller buffers position toCome sum laid status next
+  binary-parts-end = BinaryParts.binary-parts-end img key caller
+
+-- "What is written reads back": lines that are written, behind whatever the gather buffer holds, ended, closed and opened for input are read, at once and in any
+-- parts; every code behind the calls of writing is 0, and so is each of those, from wherever the writing is (`binary-accepted`, `binary-finish`, BinaryAgainCalls.antt)
+module _ (img : List ℕ) (key : Key) (caller : ℕ) (gather : List ℕ) (clear : GivesCode (AddingCases img key caller (OtherPayload img gather)) 0)
+    {filled : ℕ} (within : filled < payloadBytes (geometryOf img)) {contents : List (List ℕ)}
+    (room : filled + length (binaryLines contents) ≤ freeCount img * payloadBytes (geometryOf img))
+    {img′ gather′ : List ℕ} {filled′ : ℕ} (written : BinaryWrittenBy key caller img gather filled contents img′ gather′ filled′ []) where
+  pub binary-round-trip : (lineEnd img′ key caller gather′ filled′ .code ≡ 0)
+      × (close (lineEnd img′ key caller gather′ filled′ .image) key (fileOf img key .writer) .code ≡ 0)
+      × (opened Input (close (lineEnd img′ key caller gather′ filled′ .image) key (fileOf img key .writer) .image) key caller .code ≡ 0)
+      × BinaryReadAgain (reopened (lineEnd img′ key caller gather′ filled′ .image) key (fileOf img key .writer) caller) key caller
+      (fileOf img key .length * payloadBytes (geometryOf img) + filled) contents
+  binary-round-trip = BinaryAgain.binary-round-trip img key caller gather clear within room written
+
+  -- and from any position from which on the file and the buffer had lines before, behind these and the NULs of ended blocks
+  pub binary-behind : (position : ℕ) → position ≤ length (payloadsIn img key ++ take filled gather) → {earlier : List (List ℕ)}
+      → Stored (drop position (payloadsIn img key ++ take filled gather)) earlier
+      → BinaryReadAgain (reopened (lineEnd img′ key caller gather′ filled′ .image) key (fileOf img key .writer) caller) key caller position (earlier ++ contents)
+  binary-behind = BinaryAgain.binary-behind img key caller gather clear within room written
+
+-- "and where the buffer holds the line a change to any one data byte sets bit 1": a line stands as it is stored, but for data byte i, which is another byte
+module _ (img : List ℕ) (key : Key) (caller position nuls : ℕ) (content rest : List ℕ) (few : length content ≤ 512)
+    (i y : ℕ) (there : i < length content) (byte : getD content i 0 < 256) (byte′ : y < 256) (other : y ≡ getD content i 0 → ⊥)
+    (stands : bytesBehind img key position ≡ replicate nuls 0 ++ (set (binaryLine content) (4 + i) y ++ rest)) where
+  pub binary-changed : (mode : ℕ) (buffer : List ℕ) → binaryRead img key caller mode position 0 0 buffer .code ≡ 0 → length content ≤ length buffer
+      → binaryRead img key caller mode position 0 0 buffer
+      ≡ record {
+        code = 0;
+        numbers = length content ∷ (2 ∷ ((position + (nuls + length (binaryLine content))) ∷ (0 ∷ (0 ∷ []))));
+        image = img;
+        buffer = set content i y ++ drop (length content) buffer;
+      }
+  binary-changed = BinaryChanged.binary-changed img key caller position nuls content rest few i y there byte byte′ other stands
+
+-- one stored line and every status, computed
+pub binary-examples : BinaryExamples
+binary-examples = BinaryShown.binary-examples
 
 -- 02 §2: a new file reads as zeros: with room, and nothing else against ALLOC, it is made, OPENI of who may read opens it, and BLOCK input of every place
 -- below its length gives a block all zero; each code is 0
@@ -365,6 +464,15 @@ module _ (img : List ℕ) (key : Key) (caller mode : ℕ) (text gather : List �
 
   pub lines-given : fullBlocks img filled mode text ≤ freeCount img → lineWrite img key caller mode text gather filled .code ≡ 0
   lines-given = CodesRoom.lines-given img key caller mode text gather filled clear
+
+-- and so of a formatted binary line (§10)
+module _ (img : List ℕ) (key : Key) (caller : ℕ) (content gather : List ℕ) (filled : ℕ)
+    (clear : GivesCode (AddingCases img key caller (OtherGather img gather filled ⊎ LongerLine content)) 0) where
+  pub binary-refused : binaryWrite img key caller content gather filled .code ≡ 0o42 ↔ freeCount img < fullBinary img filled content
+  binary-refused = CodesRoom.binary-refused img key caller content gather filled clear
+
+  pub binary-given : fullBinary img filled content ≤ freeCount img → binaryWrite img key caller content gather filled .code ≡ 0
+  binary-given = CodesRoom.binary-given img key caller content gather filled clear
 
 module _ (img : List ℕ) (key : Key) (caller : ℕ) (gather : List ℕ) (filled : ℕ) (clear : GivesCode (AddingCases img key caller (OtherGather img gather filled)) 0) where
   pub ending-refused : lineEnd img key caller gather filled .code ≡ 0o42 ↔ ((0 < filled) × ((b : ℕ) → FreeBlock img b → ⊥))

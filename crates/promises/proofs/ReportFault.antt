@@ -8,7 +8,7 @@ use Rattle.faults.specs.declared.ReportAnswer.{ReportAnswer}
 use Rattle.faults.specs.Report.{Report}
 use Rattle.faults.proofs.ReportConsistent.{fault-inconsistent}
 use Rattle.requests.specs.Request.{Request, outcome, NotFormat, FORMAT, ALLOC, OPENO, OPEN, CLOSE, DELET, RENAM, APPND, LOOK, KEEP, BLOCK-INPUT, BLOCK-OUTPUT, LINKED-READ, LINKED-ADD}
-use Rattle.requests.specs.Request.{LINE-READ, LINE-WRITE, LINE-END, FINISH, OWNER}
+use Rattle.requests.specs.Request.{LINE-READ, LINE-WRITE, LINE-END, BINARY-READ, BINARY-WRITE, FINISH, OWNER}
 use Rattle.promises.specs.GivenWhen.{GivesCode, here}
 use Rattle.promises.specs.Codes.{casesOf}
 use Rattle.promises.proofs.Codes.{code-iff}
@@ -34,6 +34,8 @@ first-row (LINKED-ADD key caller payload) img other wrong = here wrong
 first-row (LINE-READ key caller mode position buffer) img other wrong = here wrong
 first-row (LINE-WRITE key caller mode text gather filled) img other wrong = here wrong
 first-row (LINE-END key caller gather filled) img other wrong = here wrong
+first-row (BINARY-READ key caller mode position toCome sum buffer) img other wrong = here wrong
+first-row (BINARY-WRITE key caller content gather filled) img other wrong = here wrong
 first-row (FINISH caller) img other wrong = here wrong
 first-row (OWNER block) img other wrong = here wrong
 

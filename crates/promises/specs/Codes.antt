@@ -27,7 +27,7 @@ use Rattle.directory.specs.Renam.{newKey}
 use Rattle.lines.specs.LineReading.{modeOf}
 use Rattle.lines.specs.LineWrite.{putAll, takenOf}
 use Rattle.requests.specs.Request.{Request, FORMAT, ALLOC, OPENO, OPEN, CLOSE, DELET, RENAM, APPND, LOOK, KEEP, BLOCK-INPUT, BLOCK-OUTPUT, LINKED-READ, LINKED-ADD}
-use Rattle.requests.specs.Request.{LINE-READ, LINE-WRITE, LINE-END, FINISH, OWNER}
+use Rattle.requests.specs.Request.{LINE-READ, LINE-WRITE, LINE-END, BINARY-READ, BINARY-WRITE, FINISH, OWNER}
 use Rattle.promises.specs.GivenWhen.{Case, _when_}
 
 -- "A legal name is ..; an extension .."
@@ -111,7 +111,14 @@ abbrev pub AddingCases : List ℕ → Key → ℕ → Type 0 → List Case
 AddingCases img key caller Wrong =
     FileCases img key Wrong ++ AccessCases Write 1 ((fileOf img key .writer ≡ 2) ⊎ (fileOf img key .writer ≡ 3)) (fileOf img key) caller
 
--- document 02 §1: "the formatted ASCII normal and special modes", 0 and 1
+-- document 02 §1 and §10: "those of linked read ..; 44 for a position beyond the payloads", which are 510 bytes each, joined
+abbrev pub ReadingCases : List ℕ → Key → ℕ → Type 0 → ℕ → List Case
+ReadingCases img key caller Wrong position =
+    FileCases img key Wrong
+    ++ AccessCases Read 1 (0 < fileOf img key .readers) (fileOf img key) caller
+    ++ 0o44 when (fileOf img key .length * payloadBytes (geometryOf img) < position) ∷ []
+
+-- §1: "the formatted ASCII normal and special modes", 0 and 1; §10: "Normal and special modes as in 000"
 abbrev pub NoLineMode : ℕ → Type 0
 NoLineMode mode = 1 < mode
 
@@ -122,6 +129,18 @@ OtherGather img gather filled = OtherPayload img gather ⊎ (payloadBytes (geome
 -- how many blocks become full: what is written goes behind what is filled already
 abbrev pub fullBlocks : List ℕ → ℕ → ℕ → List ℕ → ℕ
 fullBlocks img filled mode text = (filled + length (putAll (takenOf (modeOf mode) text))) / payloadBytes (geometryOf img)
+
+-- §10: "a length to come over 511, a sum over 255, or one not 0 with nothing to come"
+abbrev pub OtherGiven : ℕ → ℕ → Type 0
+OtherGiven toCome sum = (511 < toCome) ⊎ ((255 < sum) ⊎ ((toCome ≡ 0) × (sum ≡ 0 → ⊥)))
+
+-- "At most 512 data bytes."
+abbrev pub LongerLine : List ℕ → Type 0
+LongerLine content = 512 < length content
+
+-- how many blocks become full with a formatted binary line: "bytes 1 and 0, a count word .., the data, then one byte" are five more than the data
+abbrev pub fullBinary : List ℕ → ℕ → List ℕ → ℕ
+fullBinary img filled content = (filled + (length content + 5)) / payloadBytes (geometryOf img)
 
 -- the cases of each request
 abbrev pub casesOf : Request → List ℕ → List Case
@@ -185,17 +204,19 @@ casesOf (LINKED-READ key caller place buffer) img =
 -- "Linked add: payload of 510, write right, writer 2 or 3"; "42: no free block"
 casesOf (LINKED-ADD key caller payload) img =
     AddingCases img key caller (OtherPayload img payload) ++ 0o42 when ((b : ℕ) → FreeBlock img b → ⊥) ∷ []
--- 02 §1: "Refusals: those of linked read and add; 41 also for a maximum count of 0 ..; 44 for a position beyond the payloads.", which are 510 bytes each, joined
-casesOf (LINE-READ key caller mode position buffer) img =
-    FileCases img key ((length buffer ≡ 0) ⊎ NoLineMode mode)
-    ++ AccessCases Read 1 (0 < fileOf img key .readers) (fileOf img key) caller
-    ++ 0o44 when (fileOf img key .length * payloadBytes (geometryOf img) < position) ∷ []
+-- 02 §1: "Refusals: those of linked read and add; 41 also for a maximum count of 0 ..; 44 for a position beyond the payloads."
+casesOf (LINE-READ key caller mode position buffer) img = ReadingCases img key caller ((length buffer ≡ 0) ⊎ NoLineMode mode) position
 -- "A write whose full blocks have no room is refused whole."
 casesOf (LINE-WRITE key caller mode text gather filled) img =
     AddingCases img key caller (OtherGather img gather filled ⊎ NoLineMode mode) ++ 0o42 when (freeCount img < fullBlocks img filled mode text) ∷ []
 -- "an ending call fills the last with NUL, or adds none at 0"
 casesOf (LINE-END key caller gather filled) img =
     AddingCases img key caller (OtherGather img gather filled) ++ 0o42 when ((0 < filled) × ((b : ℕ) → FreeBlock img b → ⊥)) ∷ []
+-- 02 §10: "Refusals: as §1; 41 also for a longer line, a length to come over 511, a sum over 255, or one not 0 with nothing to come."
+casesOf (BINARY-READ key caller mode position toCome sum buffer) img =
+    ReadingCases img key caller (((length buffer ≡ 0) ⊎ NoLineMode mode) ⊎ OtherGiven toCome sum) position
+casesOf (BINARY-WRITE key caller content gather filled) img =
+    AddingCases img key caller (OtherGather img gather filled ⊎ LongerLine content) ++ 0o42 when (freeCount img < fullBinary img filled content) ∷ []
 -- 02 §12: "Refusals: 40 only."
 casesOf (FINISH caller) img = 0o40 when (Consistent img → ⊥) ∷ []
 -- whose a block is: 40, and 44 where the pack has no such block (docs/DECISIONS.md 22)

@@ -9,4 +9,7 @@ pub mod CommandCodes
 pub mod WritingCodes
 pub mod AddedAgain
 pub mod AllocZeros
+pub mod BytesAgain
 pub mod LinesAgain
+pub mod BinaryAgain
+pub mod BinaryExamples

@@ -4,19 +4,9 @@ use mathlib.Core.Path.{_≡_}
 use mathlib.Core.List.{List, [], _∷_, _++_}
 use lib.ListN.{length, take, drop}
 use Rattle.pack.specs.declared.Key.{Key}
-use Rattle.pack.specs.Geometry.{geometryOf}
-use Rattle.pack.specs.File.{blocksOf}
-use Rattle.asking.specs.Asked.{fileOf}
-use Rattle.opening.specs.declared.Opening.the-variants.{Input}
-use Rattle.opening.specs.Open.{opened}
-use Rattle.opening.specs.Close.{close}
-use Rattle.bodies.specs.Payloads.{payloadsOf}
 use Rattle.lines.specs.LineReading.{lineRead}
 use Rattle.lines.specs.LineWriting.{lineWrite}
-
--- "the file's payloads, joined"
-abbrev pub payloadsIn : List ℕ → Key → List ℕ
-payloadsIn img key = payloadsOf img (geometryOf img) (blocksOf img (geometryOf img) (fileOf img key))
+use Rattle.promises.specs.BytesAgain.{payloadsIn}
 
 -- The text is written by one call after another: each is given a beginning of what is left, in either mode, and the next goes on behind the count taken,
 -- with the image, the gather buffer and the filled count that the one before gave back. A text may end inside a line, and a call may take nothing.
@@ -28,10 +18,6 @@ pub data WrittenBy (key : Key) (caller : ℕ) : (img gather : List ℕ) (filled 
       ≡ record { code = 0; numbers = count ∷ (status ∷ (filled₁ ∷ [])); image = img₁; buffer = gather₁ }
       → {img′ gather′ left : List ℕ} {filled′ : ℕ} → WrittenBy key caller img₁ gather₁ filled₁ (drop count text) img′ gather′ filled′ left
       → WrittenBy key caller img gather filled text img′ gather′ filled′ left
-
--- CLOSE of a mode, then OPENI: the image
-abbrev pub reopened : List ℕ → Key → ℕ → ℕ → List ℕ
-reopened img key mode caller = opened Input (close img key mode .image) key caller .image
 
 -- "must read back the same when the count allows them": the lines are read one after another, each call in either mode and with any buffer that holds its line;
 -- behind the last there is nothing before the end, and the position is there

@@ -9,8 +9,9 @@ use Rattle.opening.proofs.OpenEffect.{open-changes}
 use Rattle.directory.proofs.DeletEffect.{delet-changes}
 use Rattle.adding.proofs.LinkedAddEffect.{linked-add-changes}
 use Rattle.lines.proofs.LineReadingStage.{line-read-image}
+use Rattle.binary.proofs.BinaryReadingStage.{binary-read-image}
 use Rattle.requests.specs.Request.{Request, outcome, FORMAT, ALLOC, OPENO, OPEN, CLOSE, DELET, RENAM, APPND, LOOK, KEEP, BLOCK-INPUT, BLOCK-OUTPUT, LINKED-READ, LINKED-ADD}
-use Rattle.requests.specs.Request.{LINE-READ, LINE-WRITE, LINE-END, FINISH, OWNER}
+use Rattle.requests.specs.Request.{LINE-READ, LINE-WRITE, LINE-END, BINARY-READ, BINARY-WRITE, FINISH, OWNER}
 use Rattle.requests.specs.Changes.{MayChange}
 use Rattle.requests.proofs.RequestAsking.{look-image, owner-image, block-in-image, linked-read-image}
 use Rattle.frame.specs.Framed.{ChangesOnly}
@@ -18,7 +19,7 @@ use Rattle.frame.proofs.ChangesWritten.{word-kept, changes-nothing}
 use Rattle.requests.proofs.ChangesEntries.{openo-changes, close-changes, keep-changes, renam-changes}
 use Rattle.requests.proofs.ChangesBodies.{format-changes, alloc-changes, appnd-changes, block-output-changes}
 use Rattle.requests.proofs.ChangesFinish.{finish-changes}
-use Rattle.requests.proofs.ChangesLines.{line-write-changes, line-end-changes}
+use Rattle.requests.proofs.ChangesLines.{line-write-changes, line-end-changes, binary-write-changes}
 
 -- the image is as it was
 kept-changes : {May : ℕ → Type 0} {img after : List ℕ} → after ≡ img → ChangesOnly May img after
@@ -44,6 +45,8 @@ changes-only (LINKED-ADD key caller payload) img = linked-add-changes img key ca
 changes-only (LINE-READ key caller mode position buffer) img = kept-changes (line-read-image img key caller mode position buffer)
 changes-only (LINE-WRITE key caller mode text gather filled) img = line-write-changes img key caller mode text gather filled
 changes-only (LINE-END key caller gather filled) img = line-end-changes img key caller gather filled
+changes-only (BINARY-READ key caller mode position toCome sum buffer) img = kept-changes (binary-read-image img key caller mode position toCome sum buffer)
+changes-only (BINARY-WRITE key caller content gather filled) img = binary-write-changes img key caller content gather filled
 changes-only (FINISH caller) img = finish-changes img caller
 changes-only (OWNER block) img = kept-changes (owner-image img block)
 

@@ -1,4 +1,4 @@
--- Adding several payloads changes no other word than the entry's 6 to 8, the blocks that are taken with their bits, and the link of the last block; so do lines written and ended.
+-- Adding several payloads changes no other word than the entry's 6 to 8, the blocks that are taken with their bits, and the link of the last block; so do lines written and ended, of text and binary.
 use Prim.Native.Nat.{ℕ, _+_, _≤_, _<_}
 use mathlib.Core.Path.{_≡_, refl, ap, subst, subst₂, _∙_}
 use mathlib.Core.Logic.{_⊎_, inl, inr}
@@ -7,6 +7,7 @@ use mathlib.Core.List.{List, [], _∷_}
 use native.Mathlib.Omega.{arith}
 use native.Mathlib.Decide.{ℕ-discrete}
 use lib.Dec.{ltb}
+use lib.ListN.{length}
 use Rattle.pack.specs.declared.Geometry.{Geometry}
 use Rattle.pack.specs.declared.Key.{Key}
 use Rattle.pack.specs.Geometry.{geometryOf, blockWords, blockAt, entryAt}
@@ -22,7 +23,9 @@ use Rattle.lines.specs.LineReading.{modeOf}
 use Rattle.lines.specs.LineWrite.{putAll, takenOf}
 use Rattle.stream.specs.BytesWriting.{gatheredIn, writingRows, bytesWritten}
 use Rattle.lines.specs.LineWriting.{nulsFor, lineWrite, lineEnd}
-use Rattle.requests.specs.Request.{LINKED-ADD, LINE-WRITE, LINE-END}
+use Rattle.binary.specs.BinaryLine.{binaryLine}
+use Rattle.binary.specs.BinaryWriting.{binaryWrite}
+use Rattle.requests.specs.Request.{LINKED-ADD, LINE-WRITE, LINE-END, BINARY-WRITE}
 use Rattle.requests.specs.Changes.{IsLastLink, MayAdd, MayChange}
 use Rattle.frame.specs.Framed.{ChangesOnly, MapWord}
 use Rattle.frame.proofs.ChangesWritten.{changes-nothing, changes-then, changes-wider}
@@ -109,3 +112,8 @@ pub line-end-changes : (img : List ℕ) (key : Key) (caller : ℕ) (gather : Lis
     → ChangesOnly (MayChange (LINE-END key caller gather filled) img) img (lineEnd img key caller gather filled .image)
 unfolding lineEnd
 line-end-changes img key caller gather filled = bytes-changes img key caller false gather filled (nulsFor img filled) []
+
+pub binary-write-changes : (img : List ℕ) (key : Key) (caller : ℕ) (content gather : List ℕ) (filled : ℕ)
+    → ChangesOnly (MayChange (BINARY-WRITE key caller content gather filled) img) img (binaryWrite img key caller content gather filled .image)
+unfolding binaryWrite
+binary-write-changes img key caller content gather filled = bytes-changes img key caller (ltb 512 (length content)) gather filled (binaryLine content) _

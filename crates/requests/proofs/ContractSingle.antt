@@ -8,7 +8,7 @@ use Rattle.owners.specs.OwnerQuestion.{ownerOutcome}
 use Rattle.directory.specs.Look.{lookOutcome}
 use Rattle.requests.specs.Request.{Request, outcome}
 use Rattle.requests.specs.Contract.{Contract, code-and-image, answer-and-image, code-and-buffer, look-answer, owner-answer, Result, Meets, contractOf}
-use Rattle.requests.specs.Contract.{read-answer-and-buffer, write-answer-and-both, code-and-both}
+use Rattle.requests.specs.Contract.{read-answer-and-buffer, write-answer-and-both, code-and-both, binary-answer-and-buffer}
 
 pub result-single : (contract : Contract) (img : List ℕ) (due : Outcome) (a b : Result contract)
     → Meets contract img due a → Meets contract img due b → a ≡ b
@@ -47,6 +47,19 @@ result-single write-answer-and-both img due a b x y =
       (x .3 ∙ sym (y .3)) i,
     )
 result-single code-and-both img due a b x y = λ i. ((x .0 ∙ sym (y .0)) i, (x .1 ∙ sym (y .1)) i, (x .2 ∙ sym (y .2)) i)
+result-single binary-answer-and-buffer img due a b x y =
+    let same = x .1 ∙ sym (y .1) in
+    λ i. (
+      record {
+        code = (x .0 ∙ sym (y .0)) i;
+        count = getD (same i) 0 0;
+        status = getD (same i) 1 0;
+        position = getD (same i) 2 0;
+        coming = getD (same i) 3 0;
+        sum = getD (same i) 4 0;
+      },
+      (x .2 ∙ sym (y .2)) i,
+    )
 
 pub one-result : (r : Request) (img : List ℕ) (a b : Result (contractOf r))
     → Meets (contractOf r) img (outcome r img) a → Meets (contractOf r) img (outcome r img) b → a ≡ b

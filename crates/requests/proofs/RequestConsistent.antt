@@ -19,8 +19,10 @@ use Rattle.adding.proofs.LinkedAddEffect.{linked-add-consistent}
 use Rattle.lines.proofs.LineReadingStage.{line-read-image}
 use Rattle.lines.proofs.LineWritingEffect.{line-write-consistent}
 use Rattle.lines.proofs.LineWritingEnding.{line-end-consistent}
+use Rattle.binary.proofs.BinaryReadingStage.{binary-read-image}
+use Rattle.binary.proofs.BinaryWritingEffect.{binary-write-consistent}
 use Rattle.requests.specs.Request.{Request, outcome, FORMAT, ALLOC, OPENO, OPEN, CLOSE, DELET, RENAM, APPND, LOOK, KEEP, BLOCK-INPUT, BLOCK-OUTPUT, LINKED-READ, LINKED-ADD}
-use Rattle.requests.specs.Request.{LINE-READ, LINE-WRITE, LINE-END, FINISH, OWNER}
+use Rattle.requests.specs.Request.{LINE-READ, LINE-WRITE, LINE-END, BINARY-READ, BINARY-WRITE, FINISH, OWNER}
 use Rattle.requests.proofs.RequestFormat.{format-by}
 use Rattle.requests.proofs.RequestAsking.{look-image, owner-image, block-in-image, linked-read-image}
 
@@ -48,5 +50,7 @@ stays-consistent (LINKED-ADD key caller payload) {img} right = linked-add-consis
 stays-consistent (LINE-READ key caller mode position buffer) {img} right = kept-right (line-read-image img key caller mode position buffer) right
 stays-consistent (LINE-WRITE key caller mode text gather filled) {img} right = line-write-consistent img key caller mode text gather filled right
 stays-consistent (LINE-END key caller gather filled) {img} right = line-end-consistent img key caller gather filled right
+stays-consistent (BINARY-READ key caller mode position toCome sum buffer) {img} right = kept-right (binary-read-image img key caller mode position toCome sum buffer) right
+stays-consistent (BINARY-WRITE key caller content gather filled) {img} right = binary-write-consistent img key caller content gather filled right
 stays-consistent (FINISH caller) {img} right = finish-consistent img caller right
 stays-consistent (OWNER block) {img} right = kept-right (owner-image img block) right

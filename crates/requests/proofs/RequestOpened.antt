@@ -43,8 +43,10 @@ use Rattle.adding.specs.LinkedAdd.{linkedAdd}
 use Rattle.stream.specs.BytesWriting.{bytesWritten}
 use Rattle.lines.specs.LineWriting.{lineWrite, lineEnd}
 use Rattle.lines.proofs.LineReadingStage.{line-read-image}
+use Rattle.binary.specs.BinaryWriting.{binaryWrite}
+use Rattle.binary.proofs.BinaryReadingStage.{binary-read-image}
 use Rattle.requests.specs.Request.{Request, outcome, Names, NotFormat, FORMAT, ALLOC, OPENO, OPEN, CLOSE, DELET, RENAM, APPND, LOOK, KEEP, BLOCK-INPUT, BLOCK-OUTPUT, LINKED-READ, LINKED-ADD}
-use Rattle.requests.specs.Request.{LINE-READ, LINE-WRITE, LINE-END, FINISH, OWNER}
+use Rattle.requests.specs.Request.{LINE-READ, LINE-WRITE, LINE-END, BINARY-READ, BINARY-WRITE, FINISH, OWNER}
 use Rattle.requests.proofs.RequestAsking.{look-image, owner-image, block-in-image, linked-read-image}
 use Rattle.requests.proofs.RequestConsistent.{stays-consistent}
 use Rattle.requests.proofs.RequestRefused.{refusal-leaves}
@@ -106,6 +108,10 @@ module _ (img : List ℕ) where
   unfolding lineEnd bytesWritten linkedAddRows fileRows
   line-end-right key caller gather filled = made-of img _ gather _
 
+  binary-write-right : (key : Key) (caller : ℕ) (content gather : List ℕ) (filled : ℕ) → binaryWrite img key caller content gather filled .code ≡ 0 → Consistent img
+  unfolding binaryWrite bytesWritten linkedAddRows fileRows
+  binary-write-right key caller content gather filled = made-of img _ gather _
+
   finish-right : (caller : ℕ) → finish img caller .code ≡ 0 → Consistent img
   unfolding finish finishRows
   finish-right caller = made-of img _ [] _
@@ -164,5 +170,8 @@ opened-stays (LINE-READ key caller mode position buffer) other img = ap openedOf
 opened-stays (LINE-WRITE key caller mode text gather filled) other img =
     opened-kept (LINE-WRITE key caller mode text gather filled) (elsewhere (key .uic)) (apart key) (line-write-right img key caller mode text gather filled)
 opened-stays (LINE-END key caller gather filled) other img = opened-kept (LINE-END key caller gather filled) (elsewhere (key .uic)) (apart key) (line-end-right img key caller gather filled)
+opened-stays (BINARY-READ key caller mode position toCome sum buffer) other img = ap openedOf (binary-read-image img key caller mode position toCome sum buffer)
+opened-stays (BINARY-WRITE key caller content gather filled) other img =
+    opened-kept (BINARY-WRITE key caller content gather filled) (elsewhere (key .uic)) (apart key) (binary-write-right img key caller content gather filled)
 opened-stays (FINISH caller) other img = opened-kept (FINISH caller) (elsewhere caller) (λ is. omega (arith, is)) (finish-right img caller)
 opened-stays (OWNER block) other img = ap openedOf (owner-image img block)

@@ -31,9 +31,11 @@ use Rattle.adding.proofs.LinkedAddEffect.{linked-add-refused}
 use Rattle.lines.proofs.LineReadingStage.{line-read-refused}
 use Rattle.lines.proofs.LineWritingEffect.{line-write-refused}
 use Rattle.lines.proofs.LineWritingEnding.{line-end-refused}
+use Rattle.binary.proofs.BinaryReadingStage.{binary-read-refused}
+use Rattle.binary.proofs.BinaryWritingEffect.{binary-write-refused}
 use Rattle.requests.specs.Contract.{numbersIn, contractOf}
-use Rattle.requests.specs.Request.{Request, outcome, bufferLent, FORMAT, ALLOC, OPENO, OPEN, CLOSE}
-use Rattle.requests.specs.Request.{DELET, RENAM, APPND, LOOK, KEEP, BLOCK-INPUT, BLOCK-OUTPUT, LINKED-READ, LINKED-ADD, LINE-READ, LINE-WRITE, LINE-END, FINISH, OWNER}
+use Rattle.requests.specs.Request.{Request, outcome, bufferLent, FORMAT, ALLOC, OPENO, OPEN, CLOSE, DELET, RENAM, APPND, LOOK, KEEP}
+use Rattle.requests.specs.Request.{BLOCK-INPUT, BLOCK-OUTPUT, LINKED-READ, LINKED-ADD, LINE-READ, LINE-WRITE, LINE-END, BINARY-READ, BINARY-WRITE, FINISH, OWNER}
 
 look-unchanged : (img : List ℕ) (key : Key) → (look img key .code ≡ 0 → ⊥) → Unchanged (look img key) (replicate 6 0) img []
 unfolding look
@@ -70,5 +72,7 @@ refusal-leaves (LINKED-ADD key caller payload) img = linked-add-refused img key 
 refusal-leaves (LINE-READ key caller mode position buffer) img = line-read-refused img key caller mode position buffer
 refusal-leaves (LINE-WRITE key caller mode text gather filled) img = line-write-refused img key caller mode text gather filled
 refusal-leaves (LINE-END key caller gather filled) img = line-end-refused img key caller gather filled
+refusal-leaves (BINARY-READ key caller mode position toCome sum buffer) img = binary-read-refused img key caller mode position toCome sum buffer
+refusal-leaves (BINARY-WRITE key caller content gather filled) img = binary-write-refused img key caller content gather filled
 refusal-leaves (FINISH caller) img = finish-refused img caller
 refusal-leaves (OWNER block) img = owner-unchanged img block

@@ -22,8 +22,10 @@ use Rattle.adding.proofs.LinkedAddEffect.{linked-add-untouched}
 use Rattle.lines.proofs.LineReadingStage.{line-read-image}
 use Rattle.lines.proofs.LineWritingEffect.{line-write-untouched}
 use Rattle.lines.proofs.LineWritingEnding.{line-end-untouched}
+use Rattle.binary.proofs.BinaryReadingStage.{binary-read-image}
+use Rattle.binary.proofs.BinaryWritingEffect.{binary-write-untouched}
 use Rattle.requests.specs.Request.{Request, outcome, Names, FORMAT, ALLOC, OPENO, OPEN, CLOSE, DELET, RENAM, APPND, LOOK, KEEP, BLOCK-INPUT, BLOCK-OUTPUT, LINKED-READ, LINKED-ADD}
-use Rattle.requests.specs.Request.{LINE-READ, LINE-WRITE, LINE-END, FINISH, OWNER}
+use Rattle.requests.specs.Request.{LINE-READ, LINE-WRITE, LINE-END, BINARY-READ, BINARY-WRITE, FINISH, OWNER}
 use Rattle.requests.proofs.RequestAsking.{look-image, owner-image, block-in-image, linked-read-image}
 
 -- the image is as it was
@@ -51,5 +53,8 @@ who-is-not-named (LINKED-ADD key caller payload) {img} right who apart = linked-
 who-is-not-named (LINE-READ key caller mode position buffer) {img} right who apart = kept-untouched who (line-read-image img key caller mode position buffer)
 who-is-not-named (LINE-WRITE key caller mode text gather filled) {img} right who apart = line-write-untouched img key caller mode text gather filled who apart
 who-is-not-named (LINE-END key caller gather filled) {img} right who apart = line-end-untouched img key caller gather filled who apart
+who-is-not-named (BINARY-READ key caller mode position toCome sum buffer) {img} right who apart =
+    kept-untouched who (binary-read-image img key caller mode position toCome sum buffer)
+who-is-not-named (BINARY-WRITE key caller content gather filled) {img} right who apart = binary-write-untouched img key caller content gather filled who apart
 who-is-not-named (FINISH caller) {img} right who apart = finish-untouched right caller who (λ e scratch keyed. apart (sym (keyed .uic) ∙ scratch .own))
 who-is-not-named (OWNER block) {img} right who apart = kept-untouched who (owner-image img block)

@@ -1,4 +1,4 @@
--- Lines written and ended take the highest free blocks and join them at the end of the file.
+-- Lines written and ended, of text and binary, take the highest free blocks and join them at the end of the file.
 use Prim.Native.Nat.{ℕ, _<_}
 use mathlib.Core.Path.{_≡_, refl, sym, subst, _∙_}
 use mathlib.Core.Bool.{Bool, false}
@@ -6,6 +6,7 @@ use mathlib.Core.List.{List, [], _∷_}
 use native.Mathlib.Omega.{arith}
 use native.Mathlib.Decide.{ℕ-discrete, decLt}
 use lib.Dec.{ltb}
+use lib.ListN.{length}
 use Rattle.pack.specs.declared.Key.{Key}
 use Rattle.pack.specs.declared.Geometry.{Geometry}
 use Rattle.pack.specs.Geometry.{geometryOf}
@@ -26,6 +27,8 @@ use Rattle.lines.specs.LineReading.{modeOf}
 use Rattle.lines.specs.LineWrite.{putAll, takenOf}
 use Rattle.stream.specs.BytesWriting.{gatheredIn, bytesWritten}
 use Rattle.lines.specs.LineWriting.{nulsFor, lineWrite, lineEnd}
+use Rattle.binary.specs.BinaryLine.{binaryLine}
+use Rattle.binary.specs.BinaryWriting.{binaryWrite}
 use Rattle.stream.proofs.BytesWritingEffect.{write-image, write-added}
 use Rattle.requests.specs.Taken.{Taken}
 
@@ -101,3 +104,8 @@ pub line-end-taken : (img : List ℕ) (key : Key) (caller : ℕ) (gather : List 
     → Taken img (lineEnd img key caller gather filled .image) key (takenBlocks img key caller (gatheredIn img gather filled (nulsFor img filled) .full))
 unfolding lineEnd
 line-end-taken img key caller gather filled = bytes-taken img key caller false gather filled (nulsFor img filled) []
+
+pub binary-write-taken : (img : List ℕ) (key : Key) (caller : ℕ) (content gather : List ℕ) (filled : ℕ) → binaryWrite img key caller content gather filled .code ≡ 0
+    → Taken img (binaryWrite img key caller content gather filled .image) key (takenBlocks img key caller (gatheredIn img gather filled (binaryLine content) .full))
+unfolding binaryWrite
+binary-write-taken img key caller content gather filled = bytes-taken img key caller (ltb 512 (length content)) gather filled (binaryLine content) _

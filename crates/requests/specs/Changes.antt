@@ -1,4 +1,4 @@
--- Which words of the image each request may change, as document 01 has it under 'What each request does', and 02 in §1, §2, §7 and §12. That no other word changes is proofs/Changes.antt.
+-- Which words of the image each request may change, as document 01 has it under 'What each request does', and 02 in §1, §2, §7, §10 and §12. That no other word changes is proofs/Changes.antt.
 use Prim.Native.Nat.{ℕ, _+_, _*_, _/_, _≤_, _<_}
 use mathlib.Core.Path.{_≡_}
 use mathlib.Core.Logic.{_⊎_}
@@ -22,8 +22,9 @@ use Rattle.lines.specs.LineReading.{modeOf}
 use Rattle.lines.specs.LineWrite.{putAll, takenOf}
 use Rattle.stream.specs.BytesWriting.{gatheredIn}
 use Rattle.lines.specs.LineWriting.{nulsFor}
+use Rattle.binary.specs.BinaryLine.{binaryLine}
 use Rattle.requests.specs.Request.{Request, FORMAT, ALLOC, OPENO, OPEN, CLOSE, DELET, RENAM, APPND, LOOK, KEEP, BLOCK-INPUT, BLOCK-OUTPUT, LINKED-READ, LINKED-ADD}
-use Rattle.requests.specs.Request.{LINE-READ, LINE-WRITE, LINE-END, FINISH, OWNER}
+use Rattle.requests.specs.Request.{LINE-READ, LINE-WRITE, LINE-END, BINARY-READ, BINARY-WRITE, FINISH, OWNER}
 
 -- w is word i of entry e; one of its words from `first` to `last`; one of its sixteen
 abbrev pub IsWord : List ℕ → ℕ → ℕ → ℕ → Type 0
@@ -108,6 +109,9 @@ MayChange (LINE-READ key caller mode position buffer) img w = ⊥
 MayChange (LINE-WRITE key caller mode text gather filled) img w =
     MayAdd img key caller (gatheredIn img gather filled (putAll (takenOf (modeOf mode) text)) .full) w
 MayChange (LINE-END key caller gather filled) img w = MayAdd img key caller (gatheredIn img gather filled (nulsFor img filled) .full) w
+-- 02 §10: a formatted binary line is read, and nothing written; or it is gathered as a line of text is, and full blocks are added
+MayChange (BINARY-READ key caller mode position toCome sum buffer) img w = ⊥
+MayChange (BINARY-WRITE key caller content gather filled) img w = MayAdd img key caller (gatheredIn img gather filled (binaryLine content) .full) w
 -- "Delete every file of the caller's UIC that has bit 7 clear, is not open, and that DELET would allow", which "clears the entry, bodies untouched";
 -- 02 §7: the bits of their blocks
 MayChange (FINISH caller) img w = (e : ℕ) × (Scratch img caller e × (InEntry img e w ⊎ OfGivenUp img e w))

@@ -23,9 +23,11 @@ use Rattle.appending.specs.Appnd.{appnd}
 use Rattle.adding.specs.LinkedAdd.{linkedAdd}
 use Rattle.lines.specs.LineReading.{lineRead}
 use Rattle.lines.specs.LineWriting.{lineWrite, lineEnd}
+use Rattle.binary.specs.BinaryReading.{binaryRead}
+use Rattle.binary.specs.BinaryWriting.{binaryWrite}
 
--- "Requests taken up": those on an image, with their arguments, in the order of the paper's 'What each request does'; those of document 02, on lines of text (§1)
--- and Finish (§12); and whose a block is.
+-- "Requests taken up": those on an image, with their arguments, in the order of the paper's 'What each request does'; those of document 02, on lines of text (§1),
+-- on formatted binary lines (§10), whose ending call is that of lines of text, and Finish (§12); and whose a block is.
 -- OPEN is OPENI, OPENU or OPENE. A UIC 0 has given place to the caller's. RENAM: "the UIC stays", so its new name comes without one.
 pub data Request : Type 0 where
   FORMAT : (form blocks contents : ℕ) (uics : List ℕ) → Request
@@ -45,6 +47,8 @@ pub data Request : Type 0 where
   LINE-READ : (key : Key) (caller mode position : ℕ) (buffer : List ℕ) → Request
   LINE-WRITE : (key : Key) (caller mode : ℕ) (text gather : List ℕ) (filled : ℕ) → Request
   LINE-END : (key : Key) (caller : ℕ) (gather : List ℕ) (filled : ℕ) → Request
+  BINARY-READ : (key : Key) (caller mode position toCome sum : ℕ) (buffer : List ℕ) → Request
+  BINARY-WRITE : (key : Key) (caller : ℕ) (content gather : List ℕ) (filled : ℕ) → Request
   FINISH : (caller : ℕ) → Request
   OWNER : (block : ℕ) → Request
 
@@ -67,6 +71,8 @@ outcome (LINKED-ADD key caller payload) img = linkedAdd img key caller payload
 outcome (LINE-READ key caller mode position buffer) img = lineRead img key caller mode position buffer
 outcome (LINE-WRITE key caller mode text gather filled) img = lineWrite img key caller mode text gather filled
 outcome (LINE-END key caller gather filled) img = lineEnd img key caller gather filled
+outcome (BINARY-READ key caller mode position toCome sum buffer) img = binaryRead img key caller mode position toCome sum buffer
+outcome (BINARY-WRITE key caller content gather filled) img = binaryWrite img key caller content gather filled
 outcome (FINISH caller) img = finish img caller
 outcome (OWNER block) img = owner img block
 
@@ -90,10 +96,12 @@ Names (LINKED-ADD key caller payload) who = who ≡ key
 Names (LINE-READ key caller mode position buffer) who = who ≡ key
 Names (LINE-WRITE key caller mode text gather filled) who = who ≡ key
 Names (LINE-END key caller gather filled) who = who ≡ key
+Names (BINARY-READ key caller mode position toCome sum buffer) who = who ≡ key
+Names (BINARY-WRITE key caller content gather filled) who = who ≡ key
 Names (FINISH caller) who = who .uic ≡ caller
 Names (OWNER block) who = ⊥
 
--- "a lent buffer": what is lent beside the image; of a write the gather buffer, for its text is lent for reading only
+-- "a lent buffer": what is lent beside the image; of a write the gather buffer, for its text or data are lent for reading only
 abbrev pub bufferLent : Request → List ℕ
 bufferLent (FORMAT form blocks contents uics) = uics
 bufferLent (ALLOC key caller protect segments) = []
@@ -112,6 +120,8 @@ bufferLent (LINKED-ADD key caller payload) = payload
 bufferLent (LINE-READ key caller mode position buffer) = buffer
 bufferLent (LINE-WRITE key caller mode text gather filled) = gather
 bufferLent (LINE-END key caller gather filled) = gather
+bufferLent (BINARY-READ key caller mode position toCome sum buffer) = buffer
+bufferLent (BINARY-WRITE key caller content gather filled) = gather
 bufferLent (FINISH caller) = []
 bufferLent (OWNER block) = []
 

@@ -2,6 +2,7 @@
 pub mod Gather
 pub mod GatherCompose
 pub mod SpotSteps
+pub mod SpotPayload
 pub mod AddedAll
 pub mod FillingSteps
 pub mod FillingLoop

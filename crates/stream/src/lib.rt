@@ -5,12 +5,15 @@ mod writing;
 use pack::BlockNo;
 pub use reading::byte_at;
 pub use reading::bytes_in;
+pub use reading::go_on;
 pub use reading::locate;
+pub use reading::next_payload;
 pub use reading::step;
 pub use writing::ask_write;
 pub use writing::full_blocks;
 pub use writing::lay;
 pub use writing::lay_all;
+pub use writing::lay_bytes;
 pub use writing::lay_within;
 
 // A place in the payloads: a block and how many blocks there are from this one on; and, where there are any, the place of a byte in the image,

@@ -1,11 +1,11 @@
 // Reading the payloads of a linked file from a position on, byte by byte.
 ghost use mathlib.Core.Path.{_≡_};
 ghost use mathlib.Core.List.{_∷_};
-ghost use Prim.Native.Nat.{ℕ, _*_, _≤_, _<_};
+ghost use Prim.Native.Nat.{ℕ, _+_, _*_, _-_, _≤_, _<_};
 ghost use lib.ListN.{length, getD, drop};
 ghost use Rattle.pack.specs.GeometrySized.{mostSegments, Sized};
 ghost use Rattle.pack.specs.Geometry.{payloadBytes};
-ghost use Rattle.pack.specs.File.{blocksOf, count};
+ghost use Rattle.pack.specs.File.{linkOf, blocksOf, count};
 ghost use Rattle.bodies.specs.Payloads.{payloadsOf};
 ghost use Rattle.stream.specs.Spot.{payloadsFrom, bytesFrom, Chained, Standing};
 use crate::Spot;
@@ -95,4 +95,41 @@ pub fn step(img: &[u8], g: Geometry, spot: Spot) -> Spot
         };
     }
     enter(img, g, pack::next_block(img, g, 2, block), spot.left - 1, 0)
+}
+
+// The start of the next block's payload: one byte on from the last of this one.
+pub fn next_payload(img: &[u8], g: Geometry, spot: Spot) -> Spot
+    requires { ⌜ Standing (now img) g spot ⌝ }
+    requires { ⌜ 0 < spot .left ⌝ }
+    ensures { λ r. ⌜ bytesFrom (now (img .entry)) g r ≡ payloadsFrom (now (img .entry)) g (spot .left - 1) (linkOf (now (img .entry)) g (spot .block .0)) ⌝ }
+    ensures { λ r. ⌜ Standing (now (img .entry)) g r ⌝ }
+{
+    let block = spot.block;
+    let last = Spot {
+        block,
+        left: spot.left,
+        at: spot.end - 1,
+        end: spot.end,
+    };
+    step(img, g, last)
+}
+
+// So many bytes on, of those that are left of the payload.
+pub fn go_on(img: &[u8], g: Geometry, spot: Spot, count: usize) -> Spot
+    requires { ⌜ Standing (now img) g spot ⌝ }
+    requires { ⌜ (0 < spot .left) × (spot .at + count ≤ spot .end) ⌝ }
+    ensures { λ r. ⌜ bytesFrom (now (img .entry)) g r ≡ drop count (bytesFrom (now (img .entry)) g spot) ⌝ }
+    ensures { λ r. ⌜ Standing (now (img .entry)) g r ⌝ }
+{
+    let block = spot.block;
+    let at = spot.at + count;
+    if at < spot.end {
+        return Spot {
+            block,
+            left: spot.left,
+            at,
+            end: spot.end,
+        };
+    }
+    next_payload(img, g, spot)
 }

@@ -78,6 +78,32 @@ pub fn lay_all(
     at
 }
 
+// Bytes laid one after another: at once where they leave room behind them in the gather buffer, else one by one.
+pub fn lay_bytes(
+    img: &mut [u8],
+    map: &mut [u8],
+    g: Geometry,
+    e: usize,
+    gather: &mut [u8],
+    start: Filling,
+    bytes: &[u8],
+) -> Filling
+    requires { ⌜ Writable (now img) (now map) g e (now gather) start (now bytes) ⌝ }
+    ensures { λ r. ⌜ Laying g e (now (img .entry)) (now (map .entry)) (now (gather .entry)) start (now (bytes .entry))
+        (now (img .exit)) (now (map .exit)) (now (gather .exit)) r [] ⌝ }
+{
+    let filled = start.filled;
+    let from = start.from;
+    if bytes.len() < gather.len() - filled {
+        lay_within(gather, filled, bytes);
+        return Filling {
+            filled: filled + bytes.len(),
+            from,
+        };
+    }
+    lay_all(img, map, g, e, gather, start, bytes)
+}
+
 // How many blocks become full; none where the filled count leaves no room. The filled count and the bytes together may be more than a number holds:
 // the bytes that fill the first are taken off.
 pub fn full_blocks(size: usize, filled: usize, bytes: usize) -> Blocks

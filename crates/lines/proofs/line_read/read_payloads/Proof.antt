@@ -6,7 +6,7 @@ use borrow.Author.Needs.{needs}
 use Rattle.stream.specs.Spot.{bytesFrom}
 use Rattle.lines.specs.LineSteps.{readFrom}
 use Rattle.lines.specs.Reader.{Following}
-use Rattle.lines.proofs.SpotPayload.{payload-inside}
+use Rattle.stream.proofs.SpotPayload.{payload-inside}
 use Rattle.lines.proofs.ReaderPayloads.{follow-start, follow-over, follow-ready, follow-ended, follow-next, follow-less}
 use Rattle.lines.proofs.line_read.read_payloads.Statement.{statement}
 use Rattle.lines.proofs.line_read.read_payloads.Tie as tie

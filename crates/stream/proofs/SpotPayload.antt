@@ -4,15 +4,15 @@ use mathlib.Core.Path.{_≡_, sym, ap, _∙_}
 use mathlib.Core.List.{List, _∷_, _++_, append-assoc}
 use native.Mathlib.Omega.{arith}
 use lib.ListN.{length, take, drop, getD, length-take, length-drop}
-use lib.Seq.{take-add, drop-drop, drop-at}
+use lib.Seq.{take-add, take-at, drop-drop, drop-at}
 use Rattle.pack.specs.declared.Geometry.{Geometry}
 use Rattle.pack.specs.Geometry.{payloadBytes}
 use Rattle.pack.specs.File.{linkOf}
 use Rattle.bodies.specs.BlockBytes.{payloadStart, partOf}
 use Rattle.bodies.proofs.BlockBytes.{room-of}
 use Rattle.stream.specs.declared.Spot.{Spot}
 use Rattle.stream.specs.Spot.{payloadsFrom, bytesFrom, Standing}
 use Rattle.stream.proofs.SpotSteps.{payloads-some, first-below}
 
 -- the rest of a list behind so many, of which it is a part
 part-within : (s : List ℕ) (start k count size : ℕ) → start + size ≤ length s → size ≡ k + count → (more : List ℕ)
@@ -65,3 +65,49 @@ module _ {img : List ℕ} {g : Geometry} {spot : Spot} (standing : Standing img 
       let one : length last ≡ 1 =
       omega (arith, length-take (spot .end - (spot .end - 1)) (drop (spot .end - 1) img), length-drop (spot .end - 1) img, inside .1, standing .before some) in
       sym (ap (drop 1) (sym (payload-split last-standing some) ∙ step)) ∙ drop-at last more 1 one
+
+-- so many bytes on in the same payload, or through its last
+abbrev pub onBy : Spot → ℕ → Spot
+onBy spot count = record { block = spot .block; left = spot .left; at = spot .at + count; end = spot .end }
+
+module _ {img : List ℕ} {g : Geometry} {spot : Spot} (standing : Standing img g spot) (some : 0 < spot .left) (count : ℕ) where
+  pub on-within : spot .at + count < spot .end → (bytesFrom img g (onBy spot count) ≡ drop count (bytesFrom img g spot)) × Standing img g (onBy spot count)
+  unfolding bytesFrom
+  on-within more =
+      let start = payloadStart g (spot .block .0) in
+      let place : spot .at + count - start ≡ spot .at - start + count = omega (arith, standing .from some) in (
+        ap (λ (n : ℕ). drop n (payloadsFrom img g (spot .left) (spot .block .0))) place
+            ∙ sym (drop-drop count (spot .at - start) (payloadsFrom img g (spot .left) (spot .block .0))),
+        record {
+          chained = standing .chained;
+          from = λ left. omega (arith, standing .from some);
+          before = λ left. more;
+          close = standing .close;
+        },
+      )
+
+  pub on-over : spot .at + count ≡ spot .end → (r : Spot) → bytesFrom img g r ≡ payloadsFrom img g (spot .left - 1) (linkOf img g (spot .block .0))
+      → bytesFrom img g r ≡ drop count (bytesFrom img g spot)
+  on-over through r next =
+      let part = partOf img (spot .at) (spot .end - spot .at) in
+      let more = payloadsFrom img g (spot .left - 1) (linkOf img g (spot .block .0)) in
+      let inside = payload-inside standing some in
+      let long : length part ≡ count =
+      omega (arith, length-take (spot .end - spot .at) (drop (spot .at) img), length-drop (spot .at) img, inside .1, through) in
+      next ∙ sym (ap (drop count) (payload-split standing some) ∙ drop-at part more count long)
+
+  -- the next so many bytes, of those that are left of the payload
+  pub next-bytes : spot .at + count ≤ spot .end → partOf img (spot .at) count ≡ take count (bytesFrom img g spot)
+  next-bytes within =
+      let rest = spot .end - spot .at - count in
+      let split : spot .end - spot .at ≡ count + rest = omega (arith, within) in
+      let front = take count (drop (spot .at) img) in
+      let more = payloadsFrom img g (spot .left - 1) (linkOf img g (spot .block .0)) in
+      let inside = payload-inside standing some in
+      let long : length front ≡ count = omega (arith, length-take count (drop (spot .at) img), length-drop (spot .at) img, inside .1, within) in
+      sym (ap (take count)
+      (payload-split standing some
+      ∙ ap (λ (n : ℕ). take n (drop (spot .at) img) ++ more) split
+      ∙ ap (λ (s : List ℕ). s ++ more) (take-add count rest (drop (spot .at) img))
+      ∙ append-assoc front (take rest (drop count (drop (spot .at) img))) more)
+      ∙ take-at front (take rest (drop count (drop (spot .at) img)) ++ more) count long)

@@ -1,8 +1,8 @@
 -- Rests on `SpotPayload`: the byte behind the last of a payload is the first of the next one, if there is one.
 use native.Mathlib.Omega.{arith}
-use Rattle.lines.proofs.SpotPayload.{last-standing, behind-last}
-use Rattle.lines.proofs.line_read.next_payload.Statement.{statement}
-use Rattle.lines.proofs.line_read.next_payload.Tie as tie
+use Rattle.stream.proofs.SpotPayload.{last-standing, behind-last}
+use Rattle.stream.proofs.reading.next_payload.Statement.{statement}
+use Rattle.stream.proofs.reading.next_payload.Tie as tie
 
 sub-t6 : tie.Need-sub-t6
 sub-t6 c =

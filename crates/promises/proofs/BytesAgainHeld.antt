@@ -1,12 +1,12 @@
--- The payloads of a linked file stay through CLOSE of its writer and OPENI, and lines are read from them.
+-- The payloads of a linked file stay through CLOSE of its writer and OPENI, and it can then be read.
 use Prim.Native.Nat.{ℕ, _+_, _*_, _≤_, _<_}
 use mathlib.Core.Path.{_≡_, sym, ap, subst, _∙_}
-use mathlib.Core.Bool.{false}
+use mathlib.Core.Bool.{Bool, false}
 use mathlib.Core.List.{List}
 use native.Mathlib.Omega.{arith}
 use lib.Dec.{eqb}
-use lib.ListN.{length, drop}
-use borrow.Author.Tests.{ne-eqb, le-ltb}
+use lib.ListN.{length}
+use borrow.Author.Tests.{ne-eqb}
 use Rattle.pack.specs.declared.Geometry.{Geometry}
 use Rattle.pack.specs.declared.Entry.{Entry}
 use Rattle.pack.specs.declared.Key.{Key}
@@ -18,7 +18,7 @@ use Rattle.asking.specs.Asked.{fileOf}
 use Rattle.asking.specs.Rights.{May}
 use Rattle.asking.proofs.Rights.{may-iff}
 use Rattle.asking.proofs.AskedCleared.{Cleared}
-use Rattle.asking.proofs.AccessRows.{Accessed}
+use Rattle.asking.proofs.AccessStage.{Reached}
 use Rattle.frame.proofs.FramedCompose.{block-kept}
 use Rattle.frame.proofs.Described.{described-blocks}
 use Rattle.owners.proofs.EntryBlocks.{blocks-length}
@@ -30,11 +30,7 @@ use Rattle.opening.proofs.CloseEffect.{close-consistent}
 use Rattle.opening.proofs.OpenEffect.{open-consistent}
 use Rattle.bodies.specs.Payloads.{payloadsOf}
 use Rattle.bodies.proofs.Payloads.{payloads-length, payloads-same}
-use Rattle.lines.specs.LineRead.{lineFound}
-use Rattle.lines.specs.LineReadingRows.{wrongReading}
-use Rattle.lines.specs.LineReading.{modeOf, foundOutcome, lineRead}
-use Rattle.lines.proofs.LineReadingStage.{LineAsked, line-read-given}
-use Rattle.promises.specs.LinesAgain.{payloadsIn}
+use Rattle.promises.specs.BytesAgain.{payloadsIn}
 use Rattle.promises.proofs.FileOpened.{own, asked, file-set, file-closes, closed-set, file-opens, opened-set}
 
 -- the key's file is linked, the caller may read it, and these are its payloads, joined
@@ -54,26 +50,20 @@ module _ {img : List ℕ} {key : Key} {g : Geometry} {e caller : ℕ} {payloads 
       ∙ payloads-length img g (held .file .sized) (blocksAt img g e) (λ b reached. held .file .used .bodies b reached .1)
       ∙ ap (λ (n : ℕ). n * payloadBytes g) (blocks-length img g e)
 
-  -- reading a line: "read right, a reader"
-  pub read-held : 0 < entryOf img g e .readers → (mode position : ℕ) (buffer : List ℕ) → mode ≤ 1 → 0 < length buffer → position ≤ length payloads
-      → lineRead img key caller mode position buffer ≡ foundOutcome img position buffer (lineFound (modeOf mode) (length buffer) (drop position payloads))
-  read-held reader mode position buffer small lent within =
-      line-read-given here-asked (omega (arith, within, held-length))
-      ∙ ap (λ (s : List ℕ). foundOutcome img position buffer (lineFound (modeOf mode) (length buffer) (drop position s))) held-payloads
-    where
-      argument : wrongReading mode buffer ≡ false
-      argument = rw (ne-eqb (length buffer) 0 (λ none. omega (arith, none, lent)), le-ltb 1 mode small)
-
-      access : Accessed (entryOf img g e) caller Read 1 (eqb (entryOf img g e .readers) 0)
-      access =
-          record {
-            right-given = may-iff Read caller (entryOf img g e .uic) (entryOf img g e .protect) .1 (held .readable);
-            kind = λ is. omega (arith, is, held .linked);
-            opened = ne-eqb (entryOf img g e .readers) 0 (λ none. omega (arith, none, reader));
-          }
-
-      here-asked : LineAsked img key caller mode position buffer g e (entryOf img g e)
-      here-asked = record { reached = record { file = asked (held .file) (wrongReading mode buffer) argument; entry = sym (own (held .file)); access = access } }
+  -- reading bytes: "read right, a reader"
+  pub held-reached : 0 < entryOf img g e .readers → (wrong : Bool) → wrong ≡ false
+      → Reached img key wrong caller Read 1 (λ y. eqb (y .readers) 0) g e (entryOf img g e)
+  held-reached reader wrong right =
+      record {
+        file = asked (held .file) wrong right;
+        entry = sym (own (held .file));
+        access =
+            record {
+              right-given = may-iff Read caller (entryOf img g e .uic) (entryOf img g e .protect) .1 (held .readable);
+              kind = λ is. omega (arith, is, held .linked);
+              opened = ne-eqb (entryOf img g e .readers) 0 (λ none. omega (arith, none, reader));
+            };
+      }
 
   -- the writer or the readers set: the rest of the file is as it was
   held-set : {img′ : List ℕ} {writer readers : ℕ} → OpensSet img img′ g e writer readers → Consistent img′ → Held img′ key g e caller payloads

@@ -22,7 +22,7 @@ use Rattle.stream.specs.AddedAll.EachAdded.{none, also}
 use Rattle.stream.proofs.Gather.{gathered-holds, gathered-bytes}
 use Rattle.stream.proofs.GatherCompose.{gather-compose}
 use Rattle.stream.proofs.AddedAll.{added-accepted, added-append, added-measures, added-number, added-words, added-payloads}
-use Rattle.promises.specs.LinesAgain.{payloadsIn}
+use Rattle.promises.specs.BytesAgain.{payloadsIn}
 
 module _ (key : Key) (caller : ℕ) where
   each-append : (img : List ℕ) (s t : List (List ℕ)) → EachAdded key caller img s → EachAdded key caller (addedAll img key caller s) t → EachAdded key caller img (s ++ t)

@@ -1,0 +1,24 @@
+-- Laws about formatted binary lines.
+pub mod BinaryCases
+pub mod BinaryStatus
+pub mod BinaryProgress
+pub mod BinaryGiven
+pub mod BinarySums
+pub mod WholeRead
+pub mod InParts
+pub mod NormalLast
+pub mod StoredRead
+pub mod BinaryRoundTrip
+pub mod BinaryHeader
+pub mod BinaryExamples
+pub mod BinaryLaid
+pub mod NulsSkipped
+pub mod HeadingRead
+pub mod DataFetched
+pub mod DataJudged
+pub mod LineReadOn
+pub mod BinaryReadingStage
+pub mod BinaryReadingAnswers
+pub mod BinaryWritingEffect
+pub mod BinaryWritingAnswers
+pub mod BinaryAgain
