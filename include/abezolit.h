@@ -48,7 +48,7 @@ enum {
     ABZ_WRITER       = 4,   /* the file has a writer already */
     ABZ_OPEN         = 014, /* the file is open, and the call takes closed ones only */
     ABZ_NOT_OPEN     = 045, /* the file is not open in the way that the call needs */
-    ABZ_NO_BLOCK     = 044, /* there is no such block, or no such position in a text */
+    ABZ_NO_BLOCK     = 044, /* there is no such block, or no such position in a file's payloads */
     ABZ_OPENS        = 3,   /* the file has 62 opens already, the most there can be */
     ABZ_NO_ENTRY     = 012, /* the contents have no empty entry for another file */
     ABZ_NO_ROOM      = 042, /* there is no free block, or too few of them in a row */
@@ -665,6 +665,102 @@ abz_write_answer abz_line_write(uint8_t *image, size_t image_len, size_t caller,
 size_t abz_line_end(uint8_t *image, size_t image_len, size_t caller,
                     size_t name1, size_t name2, size_t extension, size_t uic,
                     uint8_t *gather, size_t gather_len, size_t filled);
+
+/*
+ * Binary lines
+ *
+ * The calls that move formatted binary lines of a linked file, as an assembler puts them out. They lie in the payloads of
+ * its blocks, joined in the order of the chain, p * length bytes as for lines of text, and run on from one block into the
+ * next likewise. A line is
+ *
+ *   bytes 1 and 0  the first word, 1;
+ *   a count word   4 and the data bytes: 4 to 516, low byte first;
+ *   the data       up to 512 bytes, each of any value;
+ *   a sum byte     which makes the sum of all bytes of the line 0 modulo 256.
+ *
+ * Between lines there may be NULs, as abz_line_end leaves them, and a read skips those before a line.
+ *
+ * Opens, rights and what the host keeps from call to call are as told under Lines. A line that is read in parts has two
+ * numbers more to keep: how many of its data bytes are still to come, and the sum so far.
+ */
+
+/* What the status of a binary read may have besides ABZ_INVALID_LINE and ABZ_FILE_ENDED. They are its bits 1 and 2. */
+enum {
+    ABZ_WRONG_SUM    = 2,
+    ABZ_WRONG_FORMAT = 4
+};
+
+enum { ABZ_DATA_MOST = 512 }; /* data bytes of a line */
+
+typedef struct {
+    size_t code;
+    size_t count;    /* data bytes that were read in this call, each that was laid over the last byte too */
+    size_t status;
+    size_t position; /* for the next read, */
+    size_t to_come;  /* with how many data bytes of this line are to come, 0 to 511, */
+    size_t sum;      /* and the sum so far, modulo 256; both are 0 where the next read begins a line */
+} abz_binary_answer;
+
+/*
+ * Binary read: reads the data of a line, or a part of them, into the buffer; the image stays as it is. position is that
+ * of a byte in the file's payloads, joined: 0 for the first line, and behind it the number that the read before gave. So
+ * are to_come and sum: 0 and 0 begin a line, and any other to_come goes on in one. The file must have a reader; a writer
+ * does not serve, though there may be one too.
+ *
+ * Where a line begins, NULs are skipped and its header is looked at, word by word. From the header, or where to_come is
+ * not 0 from position, as many data bytes are taken as are to come, laid into the buffer from its start, and counted;
+ * then the sum byte is taken, and the sum verified: status is 0, and position is that of the byte behind the line. But
+ *   - where the data do not go into the buffer, and buffer_len of them are laid down, status has ABZ_INVALID_LINE.
+ *     ABZ_NORMAL lays each surplus byte over the last byte of the buffer and counts it, so that count is above buffer_len,
+ *     and verifies the sum. ABZ_SPECIAL ends there and verifies nothing: position is that of the next data byte, to_come
+ *     is how many are left, and sum is that of all bytes of the line so far, its header's too. Passed in again, they give
+ *     the rest, in parts of any sizes; the sum is verified with the last;
+ *   - where the sum of the line is not 0 modulo 256, status has ABZ_WRONG_SUM; the data are laid down all the same;
+ *   - where the first word is not 1, or the count word is not 4 to 516, status is ABZ_WRONG_FORMAT: nothing is laid down,
+ *     and position is the one that was passed in, before the NULs;
+ *   - where the payloads end before the sum byte, in the header too, status has ABZ_FILE_ENDED, and position is p * length.
+ *     A word of the header that is cut is not judged, but one that is there is, though nothing follows it.
+ * status is 0, ABZ_INVALID_LINE, ABZ_WRONG_SUM, ABZ_WRONG_FORMAT or ABZ_FILE_ENDED; and in ABZ_NORMAL it may be
+ * ABZ_INVALID_LINE together with ABZ_WRONG_SUM or with ABZ_FILE_ENDED. to_come and sum are 0 but where ABZ_SPECIAL gives
+ * ABZ_INVALID_LINE. Bytes of the buffer over which nothing is laid stay.
+ *
+ * A buffer of ABZ_DATA_MOST bytes holds every line. There a change to any one data byte of a line sets ABZ_WRONG_SUM. Behind the
+ * last line a read has count 0 and status ABZ_FILE_ENDED.
+ *   ABZ_INCONSISTENT
+ *   ABZ_NAME          the name or the extension is not legal;
+ *   ABZ_ARGUMENT      mode is neither 0 nor 1; buffer_len is 0; to_come is above 511, or sum above 255; or sum is not 0
+ *                     and to_come is;
+ *   ABZ_EXISTENCE     there is no such file;
+ *   ABZ_RIGHT         the caller may not read it;
+ *   ABZ_KIND          it is contiguous;
+ *   ABZ_NOT_OPEN      it has no reader;
+ *   ABZ_NO_BLOCK      position is above p * length; just that is the end of the payloads, and no refusal.
+ */
+abz_binary_answer abz_binary_read(const uint8_t *image, size_t image_len, size_t caller,
+                                  size_t name1, size_t name2, size_t extension, size_t uic,
+                                  size_t mode, size_t position, size_t to_come, size_t sum,
+                                  uint8_t *buffer, size_t buffer_len);
+
+/*
+ * Binary write: writes a line with these data, which may be none, to the end of a linked file, which must be open for
+ * output or for extension. There are no modes. The line is laid into a gather buffer and its full blocks are added to the
+ * file, as abz_line_write does it with text, but nothing is put behind any byte; count is data_len, and status 0.
+ * abz_line_end adds what waits in the gather buffer, here as there, and lines of both calls may follow one another.
+ *
+ * A write is refused whole. What is written is read back the same, at once or in parts.
+ *   ABZ_INCONSISTENT
+ *   ABZ_NAME          the name or the extension is not legal;
+ *   ABZ_ARGUMENT      data_len is above ABZ_DATA_MOST, gather_len is not p, or filled is p or more;
+ *   ABZ_EXISTENCE     there is no such file;
+ *   ABZ_RIGHT         the caller may not write to it;
+ *   ABZ_KIND          it is contiguous;
+ *   ABZ_NOT_OPEN      it is open neither for output nor for extension;
+ *   ABZ_NO_ROOM       fewer blocks are free than become full, which may be none.
+ */
+abz_write_answer abz_binary_write(uint8_t *image, size_t image_len, size_t caller,
+                                  size_t name1, size_t name2, size_t extension, size_t uic,
+                                  const uint8_t *data, size_t data_len,
+                                  uint8_t *gather, size_t gather_len, size_t filled);
 
 /*
  * Command lines

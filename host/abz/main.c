@@ -1,6 +1,6 @@
 /*
  * abz: the files of a pack, at the command line; and an example of a host of the service. How a host calls it is shown
- * in requests.c, closing.c, finish.c, bodies.c, text.c, blocks.c, report.c and reading.c, and how it replaces a file in
+ * in requests.c, closing.c, finish.c, bodies.c, text.c, binary.c, blocks.c, report.c and reading.c, and how it replaces a file in
  * replace.c; the rest is what a program with files and arguments needs.
  */
 #include "commands.h"
@@ -75,17 +75,21 @@ static const command commands[] = {
       "left it behind. MODE says which; of input one reader goes. It may be\n"
       "missing where the file is open in one way only. With --all every open\n"
       "of MODE goes, or every open where MODE is missing." },
-    { "put", "PACK CALLER FILE HOSTFILE [PROTECT]", 4, 5, command_put,
+    { "put", "[--binary] PACK CALLER FILE HOSTFILE [PROTECT]", 4, 5, command_put,
       "make a linked file with the bytes of HOSTFILE. It has 510 bytes in\n"
-      "each block, in form 3 126; the last is filled up with NUL." },
+      "each block, in form 3 126; the last is filled up with NUL. With\n"
+      "--binary they are the data of formatted binary lines, 512 in each but\n"
+      "the last." },
     { "put --all", "[--protect PROTECT] PACK CALLER HOSTFILE...", 3, INT_MAX, command_put_all,
       "the same for each HOSTFILE, under its own name in capitals, without\n"
       "its directories: all of them, or none. Lists them, as list --use does,\n"
       "and how many they are." },
-    { "get", "[--trim] [--force] PACK CALLER FILE HOSTFILE", 4, 4, command_get,
+    { "get", "[--binary] [--trim] [--force] PACK CALLER FILE HOSTFILE", 4, 4, command_get,
       "write the bytes of a linked file to HOSTFILE; NULs that filled it up\n"
-      "are among them. With --trim the NULs at the end are left away. --force\n"
-      "overwrites a HOSTFILE that is there." },
+      "are among them. With --binary the file is of formatted binary lines,\n"
+      "and what is written is their data; the first line that is not right is\n"
+      "told, and then nothing is written. With --trim the NULs at the end are\n"
+      "left away. --force overwrites a HOSTFILE that is there." },
     { "get --all", "[--trim] [--force] PACK CALLER PATTERN... DIRECTORY", 4, INT_MAX, command_get_all,
       "the same for each file that a PATTERN stands for, linked or\n"
       "contiguous, under its own name in DIRECTORY. Lists them, as list --use\n"
@@ -129,13 +133,13 @@ static const char rest_of_help[] =
     "of the owner, it may become that of another member who writes it.\n"
     "\n"
     "Exit status: 0 if it was done; 1 if the service refused it, which is told with\n"
-    "the code, if a file could not be read or written or is there already, or if\n"
-    "what is entered is no text; 2 if the arguments are wrong whatever PACK holds,\n"
-    "and then no file was opened. Unless it is 0, PACK and a HOSTFILE to be replaced\n"
-    "are as they were, also if a signal ended it (HUP, INT, QUIT, TERM and the\n"
-    "like). A KILL, or a stop of the computer, leaves each as before or as after the\n"
-    "command, and perhaps a file .abz-new.* beside it, which the next command there\n"
-    "clears away.\n"
+    "the code, if a file could not be read or written or is there already, if what\n"
+    "is entered is no text, or if a binary line is wrong; 2 if the arguments are\n"
+    "wrong whatever PACK holds, and then no file was opened. Unless it is 0, PACK\n"
+    "and a HOSTFILE to be replaced are as they were, also if a signal ended it (HUP,\n"
+    "INT, QUIT, TERM and the like). A KILL, or a stop of the computer, leaves each\n"
+    "as before or as after the command, and perhaps a file .abz-new.* beside it,\n"
+    "which the next command there clears away.\n"
     "\n"
     "Example: a pack of 64 blocks for two users, and a file in it:\n"
     "  abz format station.pack 64 2 23,10 12,4\n"

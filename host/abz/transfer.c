@@ -1,6 +1,7 @@
 /* Commands that move the bytes of one file between a file of the host and a pack. */
 #include "commands.h"
 
+#include "binary.h"
 #include "bodies.h"
 #include "hostfile.h"
 #include "names.h"
@@ -32,7 +33,8 @@ int command_put(char **arguments)
         return STATUS_USAGE;
     if (!read_and_take(arguments[3], arguments[0]))
         return STATUS_FAILED;
-    return pack_end(&pack, "put", body_put(&pack, caller, file, protect, bytes, length));
+    return pack_end(&pack, "put",
+                    (option("--binary") ? binary_put : body_put)(&pack, caller, file, protect, bytes, length));
 }
 
 int command_load(char **arguments)
@@ -49,9 +51,21 @@ int command_load(char **arguments)
 
 /* ---- Out of the pack ---- */
 
+/* The first line that is not right. No host file is written then: what comes of the others would be taken for all. */
+static int tell_fault(const binary_fault *fault)
+{
+    const char *what = fault->status & ABZ_WRONG_SUM      ? "its sum is wrong"
+                       : fault->status & ABZ_WRONG_FORMAT ? "this is no formatted binary line"
+                                                          : "the file ends inside it";
+
+    complain("get: line %zu, from byte %zu of the file: %s", fault->line, fault->place, what);
+    return STATUS_FAILED;
+}
+
 /* The file is opened and closed in the image in memory, of which nothing goes back: the pack stays as it is. */
 static int write_body(const char *command, size_t kind, char **arguments)
 {
+    binary_fault fault = { 0, 0, 0 };
     size_t caller, code;
     file_name file;
 
@@ -59,9 +73,12 @@ static int write_body(const char *command, size_t kind, char **arguments)
         return STATUS_USAGE;
     if (!pack_read(&pack, arguments[0]))
         return STATUS_FAILED;
-    code = body_read(&pack, caller, file, kind, bytes, &length);
+    code = option("--binary") ? binary_read(&pack, caller, file, bytes, &length, &fault)
+                              : body_read(&pack, caller, file, kind, bytes, &length);
     if (code != ABZ_OK)
         return tell_refusal(command, code);
+    if (fault.status != 0)
+        return tell_fault(&fault);
     if (option("--trim"))
         length = trimmed(bytes, length);
     return host_write(arguments[3], &pack, option("--force"), bytes, length) ? STATUS_DONE : STATUS_FAILED;

@@ -32,6 +32,10 @@ abz_read_answer abz_line_read(const uint8_t *, size_t, size_t, size_t, size_t, s
 abz_write_answer abz_line_write(uint8_t *, size_t, size_t, size_t, size_t, size_t, size_t, size_t, const uint8_t *,
                                 size_t, uint8_t *, size_t, size_t);
 size_t abz_line_end(uint8_t *, size_t, size_t, size_t, size_t, size_t, size_t, uint8_t *, size_t, size_t);
+abz_binary_answer abz_binary_read(const uint8_t *, size_t, size_t, size_t, size_t, size_t, size_t, size_t, size_t, size_t,
+                                  size_t, uint8_t *, size_t);
+abz_write_answer abz_binary_write(uint8_t *, size_t, size_t, size_t, size_t, size_t, size_t, const uint8_t *, size_t,
+                                  uint8_t *, size_t, size_t);
 abz_answer abz_finish(uint8_t *, size_t, size_t);
 abz_answer abz_alloc(uint8_t *, size_t, size_t, size_t, size_t, size_t, size_t, size_t, size_t);
 size_t abz_openo(uint8_t *, size_t, size_t, size_t, size_t, size_t, size_t, size_t);

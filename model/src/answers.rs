@@ -4,6 +4,7 @@ use crate::command::Specification;
 use crate::pack::entry::Entry;
 use crate::pack::owner::Owner;
 use crate::refusal::{LineRefusal, Refusal};
+use crate::requests::binary::BinaryRead;
 use crate::requests::lines::{Read, Written};
 
 /// A code and one number.
@@ -55,6 +56,18 @@ pub struct WriteAnswer {
     pub count: usize,
     pub status: usize,
     pub filled: usize,
+}
+
+/// What a read of a binary line gives: the count, the status, the next position, and what is passed in again.
+#[repr(C)]
+#[derive(Clone, Copy, Debug, Default, PartialEq, Eq)]
+pub struct BinaryAnswer {
+    pub code: usize,
+    pub count: usize,
+    pub status: usize,
+    pub position: usize,
+    pub to_come: usize,
+    pub sum: usize,
 }
 
 /// A specification of a command. In `present` bit 0 is the device, 1 the name, 2 the extension, 3 group and user.
@@ -143,6 +156,17 @@ impl From<Result<Written, Refusal>> for WriteAnswer {
         match result {
             Ok(Written { count, status, filled }) => WriteAnswer { code: 0, count, status, filled },
             Err(refusal) => WriteAnswer { code: refusal.code(), ..WriteAnswer::default() },
+        }
+    }
+}
+
+impl From<Result<BinaryRead, Refusal>> for BinaryAnswer {
+    fn from(result: Result<BinaryRead, Refusal>) -> BinaryAnswer {
+        match result {
+            Ok(BinaryRead { count, status, position, to_come, sum }) => {
+                BinaryAnswer { code: 0, count, status, position, to_come, sum }
+            }
+            Err(refusal) => BinaryAnswer { code: refusal.code(), ..BinaryAnswer::default() },
         }
     }
 }

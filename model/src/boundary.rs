@@ -27,6 +27,8 @@ extern "C" {
     fn abz_line_read(image: *const u8, image_len: usize, caller: usize, name1: usize, name2: usize, extension: usize, uic: usize, mode: usize, position: usize, buffer: *mut u8, buffer_len: usize) -> crate::answers::ReadAnswer;
     fn abz_line_write(image: *mut u8, image_len: usize, caller: usize, name1: usize, name2: usize, extension: usize, uic: usize, mode: usize, text: *const u8, text_len: usize, gather: *mut u8, gather_len: usize, filled: usize) -> crate::answers::WriteAnswer;
     fn abz_line_end(image: *mut u8, image_len: usize, caller: usize, name1: usize, name2: usize, extension: usize, uic: usize, gather: *mut u8, gather_len: usize, filled: usize) -> usize;
+    fn abz_binary_read(image: *const u8, image_len: usize, caller: usize, name1: usize, name2: usize, extension: usize, uic: usize, mode: usize, position: usize, to_come: usize, sum: usize, buffer: *mut u8, buffer_len: usize) -> crate::answers::BinaryAnswer;
+    fn abz_binary_write(image: *mut u8, image_len: usize, caller: usize, name1: usize, name2: usize, extension: usize, uic: usize, data: *const u8, data_len: usize, gather: *mut u8, gather_len: usize, filled: usize) -> crate::answers::WriteAnswer;
     fn abz_radpk(chars: *const u8, chars_len: usize) -> Answer;
     fn abz_radup(word: usize, chars: *mut u8, chars_len: usize) -> usize;
     fn abz_d2bin(chars: *const u8, chars_len: usize) -> Answer;
@@ -172,6 +174,23 @@ pub fn line_end(image: &mut [u8], caller: usize, file: File, gather: &mut [u8], 
     let File { name1, name2, extension, uic } = file;
     unsafe {
         abz_line_end(image.as_mut_ptr(), image.len(), caller, name1, name2, extension, uic, gather.as_mut_ptr(), gather.len(), filled)
+    }
+}
+
+#[rustfmt::skip]
+#[allow(clippy::too_many_arguments)]
+pub fn binary_read(image: &[u8], caller: usize, file: File, mode: usize, position: usize, to_come: usize, sum: usize, buffer: &mut [u8]) -> crate::answers::BinaryAnswer {
+    let File { name1, name2, extension, uic } = file;
+    unsafe {
+        abz_binary_read(image.as_ptr(), image.len(), caller, name1, name2, extension, uic, mode, position, to_come, sum, buffer.as_mut_ptr(), buffer.len())
+    }
+}
+
+#[rustfmt::skip]
+pub fn binary_write(image: &mut [u8], caller: usize, file: File, data: &[u8], gather: &mut [u8], filled: usize) -> crate::answers::WriteAnswer {
+    let File { name1, name2, extension, uic } = file;
+    unsafe {
+        abz_binary_write(image.as_mut_ptr(), image.len(), caller, name1, name2, extension, uic, data.as_ptr(), data.len(), gather.as_mut_ptr(), gather.len(), filled)
     }
 }
 

@@ -1,5 +1,6 @@
 //! The examples of 01, those marked P and the others, and what readings of it are easily got wrong.
 
+mod binary;
 mod disk;
 mod finish;
 mod lines;

@@ -60,6 +60,8 @@ const ROWS: &[(&str, Run)] = &[
     ("line-read-end", Run::Pack(line_read_end)),
     ("line-write-60", Run::Pack(line_write_60)),
     ("line-write-5100", Run::Pack(line_write_5100)),
+    ("binary-read-128", Run::Pack(binary_read_128)),
+    ("binary-write-128", Run::Pack(binary_write_128)),
     ("csi1", Run::Other(csi1)),
     ("csi2", Run::Other(csi2)),
     ("csi-write", Run::Other(csi_write)),
@@ -469,6 +471,60 @@ fn line_write_60(form: Form, way: Way, times: usize) -> Duration {
 /// Ten blocks of forms 1 and 2, and 40 of form 3.
 fn line_write_5100(form: Form, way: Way, times: usize) -> Duration {
     line_write(form, way, times, &TEXT.repeat(85))
+}
+
+/// Data as an assembler puts them out.
+fn data() -> Vec<u8> {
+    (0..128u8).map(|place| place.wrapping_mul(37)).collect()
+}
+
+/// Reads the line of 128 data bytes at the start of the only file of the smallest pack.
+fn binary_read_128(form: Form, way: Way, times: usize) -> Duration {
+    let mut image = formatted(form, form.least_blocks, 1);
+    let file = file(0);
+    requests::openo(&mut image, OWNER, file, 0).expect("there is an entry");
+    let mut gather = vec![0; form.payload_bytes()];
+    let written = requests::binary_write(&mut image, OWNER, file, &data(), &mut gather, 0).expect("there is room");
+    requests::line_end(&mut image, OWNER, file, &mut gather, written.filled).expect("there is room");
+    set_word(form.entry_mut(&mut image, 0), entry::READERS, 1);
+    let mut buffer = [0; 132];
+    timed!(
+        way,
+        times,
+        {
+            let (file, mode, position) = black_box((file, 0, 0));
+            boundary::binary_read(black_box(&image), OWNER, file, mode, position, 0, 0, black_box(&mut buffer))
+        },
+        {
+            let (file, mode, position) = black_box((file, 0, 0));
+            let buffer = black_box(&mut buffer);
+            let result = requests::binary_read(black_box(&image), OWNER, file, mode, position, 0, 0, buffer);
+            model::answers::BinaryAnswer::from(result)
+        }
+    )
+}
+
+/// Writes a line of 128 data bytes to the only file of the smallest pack, which is empty each time.
+fn binary_write_128(form: Form, way: Way, times: usize) -> Duration {
+    let mut image = formatted(form, form.least_blocks, 1);
+    let file = file(0);
+    requests::openo(&mut image, OWNER, file, 0).expect("there is an entry");
+    let (data, mut gather) = (data(), vec![0; form.payload_bytes()]);
+    timed!(
+        way,
+        times,
+        {
+            empty(form, &mut image);
+            let (image, gather) = black_box((&mut image, &mut gather));
+            boundary::binary_write(image, OWNER, black_box(file), black_box(&data), gather, black_box(0))
+        },
+        {
+            empty(form, &mut image);
+            let (image, gather) = black_box((&mut image, &mut gather));
+            let result = requests::binary_write(image, OWNER, black_box(file), black_box(&data), gather, black_box(0));
+            model::answers::WriteAnswer::from(result)
+        }
+    )
 }
 
 /// A command of 120 characters with every part in it.

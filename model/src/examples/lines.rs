@@ -10,19 +10,19 @@ use crate::requests::lines::{line_end, line_read, line_write, Read, Written};
 use crate::requests::{self, File};
 use crate::words::set_word;
 
-const NORMAL: usize = 0;
-const SPECIAL: usize = 1;
-const MODES: [usize; 2] = [NORMAL, SPECIAL];
+pub(super) const NORMAL: usize = 0;
+pub(super) const SPECIAL: usize = 1;
+pub(super) const MODES: [usize; 2] = [NORMAL, SPECIAL];
 
 /// What stands in a buffer before the call.
-const OLD: u8 = b'?';
+pub(super) const OLD: u8 = b'?';
 
-fn the_file() -> File {
+pub(super) fn the_file() -> File {
     file("TEXT", "")
 }
 
 /// The smallest pack with a linked file that a writer has open.
-fn written(form: Form) -> Vec<u8> {
+pub(super) fn written(form: Form) -> Vec<u8> {
     let mut image = smallest(form);
     requests::openo(&mut image, OWNER, the_file(), 0).expect("there is an entry");
     image
@@ -30,7 +30,7 @@ fn written(form: Form) -> Vec<u8> {
 
 /// The same with these bytes in the file, NULs behind them to the end of its last block, and a reader in place of the
 /// writer.
-fn holding(form: Form, bytes: &[u8]) -> Vec<u8> {
+pub(super) fn holding(form: Form, bytes: &[u8]) -> Vec<u8> {
     let mut image = written(form);
     for part in bytes.chunks(form.payload_bytes()) {
         let mut payload = vec![0; form.payload_bytes()];
@@ -41,7 +41,7 @@ fn holding(form: Form, bytes: &[u8]) -> Vec<u8> {
     image
 }
 
-fn to_be_read(image: &mut [u8]) {
+pub(super) fn to_be_read(image: &mut [u8]) {
     requests::close(image, OWNER, the_file(), OUTPUT as usize).expect("it was opened so");
     requests::openi(image, OWNER, the_file()).expect("it is closed");
 }
@@ -68,17 +68,17 @@ fn gathered(count: usize, status: usize, filled: usize) -> Result<Written, Refus
     Ok(Written { count, status, filled })
 }
 
-fn form_of(image: &[u8]) -> Form {
+pub(super) fn form_of(image: &[u8]) -> Form {
     Form::of_image(image).expect("it was formatted")
 }
 
 /// A payload of which each byte says its place, with bit 7 set, so that no text is taken for it.
-fn places(form: Form) -> Vec<u8> {
+pub(super) fn places(form: Form) -> Vec<u8> {
     (0..form.payload_bytes()).map(|place| 0o200 | (place % 127) as u8).collect()
 }
 
 /// The payloads of the file, joined.
-fn joined(image: &[u8]) -> Vec<u8> {
+pub(super) fn joined(image: &[u8]) -> Vec<u8> {
     let form = form_of(image);
     let found = requests::look(image, OWNER, the_file()).expect("it is there");
     let mut number = found.first as usize;
@@ -91,7 +91,7 @@ fn joined(image: &[u8]) -> Vec<u8> {
 }
 
 /// Changes a word of the entry of the file, which is the first.
-fn with(image: &[u8], word: usize, value: u16) -> Vec<u8> {
+pub(super) fn with(image: &[u8], word: usize, value: u16) -> Vec<u8> {
     let mut changed = image.to_vec();
     set_word(form_of(image).entry_mut(&mut changed, 0), word, value);
     assert!(examine(&changed).is_ok());
@@ -459,24 +459,24 @@ fn the_ending_call() {
 }
 
 /// The files of the tests of codes: one that is not there, one whose name is not legal, a contiguous one, and a linked one.
-fn absent() -> File {
+pub(super) fn absent() -> File {
     file("NONE", "")
 }
 
-fn illegal() -> File {
+pub(super) fn illegal() -> File {
     File { name1: 64000, ..absent() }
 }
 
-fn contiguous() -> File {
+pub(super) fn contiguous() -> File {
     File { uic: OWNER, ..file("BLOCKS", "") }
 }
 
-fn linked() -> File {
+pub(super) fn linked() -> File {
     File { uic: OWNER, ..the_file() }
 }
 
 /// A pack with a contiguous file that a stranger may not touch, and a linked one of a block that is closed; no block is free.
-fn closed(form: Form) -> Vec<u8> {
+pub(super) fn closed(form: Form) -> Vec<u8> {
     let mut image = smallest(form);
     let segments = form.segments * (bodies(form) - 1);
     requests::alloc(&mut image, OWNER, contiguous(), 0o77, segments).expect("there is room");
@@ -488,14 +488,14 @@ fn closed(form: Form) -> Vec<u8> {
 }
 
 /// The same with its linked file open.
-fn opened(form: Form, word: usize, value: u16) -> Vec<u8> {
+pub(super) fn opened(form: Form, word: usize, value: u16) -> Vec<u8> {
     let mut image = closed(form);
     set_word(form.entry_mut(&mut image, 1), word, value);
     image
 }
 
 /// The same with a word 0 that is no form's.
-fn broken(form: Form) -> Vec<u8> {
+pub(super) fn broken(form: Form) -> Vec<u8> {
     let mut image = closed(form);
     image[0] = 0;
     image

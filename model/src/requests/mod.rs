@@ -1,17 +1,20 @@
 //! The requests on a lent image. Each tests the causes of a refusal in the order of 01's table, then acts in place.
 
 pub mod append;
+pub mod binary;
 pub mod block;
 pub mod creating;
 pub mod directory;
 pub mod finish;
 pub mod format;
+mod gather;
 pub mod lines;
 pub mod linked;
 pub mod opening;
 pub mod owner;
 
 pub use append::appnd;
+pub use binary::{binary_read, binary_write};
 pub use block::{block_in, block_out};
 pub use creating::{alloc, openo};
 pub use directory::{delet, keep, look, renam};

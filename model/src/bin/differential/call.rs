@@ -1,13 +1,15 @@
 //! One call with all its arguments, made in both ways.
 
 use crate::request::Request;
-use model::answers::{code, Answer, LookAnswer, OwnerAnswer, ReadAnswer, SpecificationAnswer, WriteAnswer};
+use model::answers::{
+    code, Answer, BinaryAnswer, LookAnswer, OwnerAnswer, ReadAnswer, SpecificationAnswer, WriteAnswer,
+};
 use model::pack::form::Form;
 use model::requests::File;
 use model::{boundary, command, conversions, requests};
 use std::fmt;
 
-/// The numbers of a call. What it lends besides is an image, a line or text, and a buffer.
+/// The numbers of a call. What it lends besides is an image, a line, text or data, and a buffer.
 #[derive(Clone, Copy, Debug)]
 #[rustfmt::skip]
 pub enum Numbers {
@@ -18,10 +20,13 @@ pub enum Numbers {
     New { caller: usize, file: File, protect: usize, segments: usize },
     Mode { caller: usize, file: File, mode: usize },
     Place { caller: usize, file: File, place: usize },
-    /// Of a line that is read, of text that is written, and of its end.
+    /// Of a line that is read, and of text that is written.
     Reading { caller: usize, file: File, mode: usize, position: usize },
     Writing { caller: usize, file: File, mode: usize, filled: usize },
-    Ending { caller: usize, file: File, filled: usize },
+    /// Of its end, and of a binary line that is written.
+    Gathering { caller: usize, file: File, filled: usize },
+    /// Of a binary line that is read, or a part of it.
+    BinaryReading { caller: usize, file: File, mode: usize, position: usize, to_come: usize, sum: usize },
     Rename { caller: usize, old: File, new: File, protect: usize },
     Append { caller: usize, first: File, second: File },
     /// A block, a caller, or a number to be converted.
@@ -78,6 +83,10 @@ fn written(answer: WriteAnswer) -> Said {
     vec![answer.code, answer.count, answer.status, answer.filled]
 }
 
+fn binary(answer: BinaryAnswer) -> Said {
+    vec![answer.code, answer.count, answer.status, answer.position, answer.to_come, answer.sum]
+}
+
 fn specification(answer: SpecificationAnswer) -> Said {
     let SpecificationAnswer { code, place, present, device, unit, name1, name2, extension, group, user, switches } =
         answer;
@@ -93,10 +102,16 @@ impl Call {
         }
     }
 
-    /// The mode and the status of a line that was read, or of text that was written.
+    /// The mode and the status of a line that was read, or of what was written.
     pub fn status(&self, answer: &Said) -> Option<(usize, usize)> {
+        if answer[0] != 0 {
+            return None;
+        }
         match self.numbers {
-            Numbers::Reading { mode, .. } | Numbers::Writing { mode, .. } if answer[0] == 0 => Some((mode, answer[2])),
+            Numbers::Reading { mode, .. } | Numbers::Writing { mode, .. } | Numbers::BinaryReading { mode, .. } => {
+                Some((mode, answer[2]))
+            }
+            Numbers::Gathering { .. } if self.request == Request::BinaryWrite => Some((0, answer[2])),
             _ => None,
         }
     }
@@ -127,7 +142,9 @@ impl Call {
             (R::LinkedAdd, N::File { caller, file }) => number(boundary::linked_add(image, caller, file, buffer)),
             (R::LineRead, N::Reading { caller, file, mode, position }) => read(boundary::line_read(image, caller, file, mode, position, buffer)),
             (R::LineWrite, N::Writing { caller, file, mode, filled }) => written(boundary::line_write(image, caller, file, mode, line, buffer, filled)),
-            (R::LineEnd, N::Ending { caller, file, filled }) => vec![boundary::line_end(image, caller, file, buffer, filled)],
+            (R::LineEnd, N::Gathering { caller, file, filled }) => vec![boundary::line_end(image, caller, file, buffer, filled)],
+            (R::BinaryRead, N::BinaryReading { caller, file, mode, position, to_come, sum }) => binary(boundary::binary_read(image, caller, file, mode, position, to_come, sum, buffer)),
+            (R::BinaryWrite, N::Gathering { caller, file, filled }) => written(boundary::binary_write(image, caller, file, line, buffer, filled)),
             (R::Radpk, N::None) => number(boundary::radpk(buffer)),
             (R::Radup, N::One(word)) => vec![boundary::radup(word, buffer)],
             (R::D2bin, N::None) => number(boundary::d2bin(buffer)),
@@ -167,7 +184,9 @@ impl Call {
             (R::LinkedAdd, N::File { caller, file }) => number(requests::linked_add(image, caller, file, buffer).into()),
             (R::LineRead, N::Reading { caller, file, mode, position }) => read(requests::line_read(image, caller, file, mode, position, buffer).into()),
             (R::LineWrite, N::Writing { caller, file, mode, filled }) => written(requests::line_write(image, caller, file, mode, line, buffer, filled).into()),
-            (R::LineEnd, N::Ending { caller, file, filled }) => vec![code(requests::line_end(image, caller, file, buffer, filled))],
+            (R::LineEnd, N::Gathering { caller, file, filled }) => vec![code(requests::line_end(image, caller, file, buffer, filled))],
+            (R::BinaryRead, N::BinaryReading { caller, file, mode, position, to_come, sum }) => binary(requests::binary_read(image, caller, file, mode, position, to_come, sum, buffer).into()),
+            (R::BinaryWrite, N::Gathering { caller, file, filled }) => written(requests::binary_write(image, caller, file, line, buffer, filled).into()),
             (R::Radpk, N::None) => number(conversions::radpk(buffer).into()),
             (R::Radup, N::One(word)) => vec![code(conversions::radup(word, buffer))],
             (R::D2bin, N::None) => number(conversions::d2bin(buffer).into()),

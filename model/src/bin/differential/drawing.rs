@@ -1,5 +1,6 @@
 //! Draws the arguments of a call: mostly such as a deed can come of, and some that are wrong in one way or another.
 
+use crate::binaries;
 use crate::call::{Call, Numbers};
 use crate::files::{new_file, old_file, pool_file, present, spoil};
 use crate::lines;
@@ -46,6 +47,8 @@ pub fn call(random: &mut Random, request: Request, image: &[u8]) -> Call {
         Request::LineRead => without_line(transfers::reading(random, seen, image)),
         Request::LineWrite => transfers::writing(random, seen),
         Request::LineEnd => without_line(transfers::ending(random, seen)),
+        Request::BinaryRead => without_line(binaries::reading(random, seen, image)),
+        Request::BinaryWrite => binaries::writing(random, seen),
         Request::Radpk | Request::D2bin | Request::O2bin => (Numbers::None, Vec::new(), to_number(random, request)),
         Request::Radup | Request::Bin2d | Request::Bin2o => without_line(to_characters(random, request)),
         Request::Csi1 => condensing(random),

@@ -3,6 +3,7 @@
 //! After each call every number of the answer and every byte of what was lent are compared, also those before and
 //! behind it. A sequence of requests goes on in one pack, which stays consistent; damaged packs are copies of it.
 
+mod binaries;
 mod call;
 mod damage;
 mod drawing;

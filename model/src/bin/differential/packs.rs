@@ -1,5 +1,6 @@
 //! Consistent packs, written word by word and not by requests, so that all states occur.
 
+use crate::binaries;
 use crate::random::Random;
 use crate::text;
 use model::conversions::radpk;
@@ -118,6 +119,7 @@ pub fn consistent(random: &mut Random) -> Vec<u8> {
     let empty = Seen::of(&image);
     let free = if uics.is_empty() { empty.bodies().collect() } else { files(random, &mut image, &empty) };
     write_map(&mut image, &empty, &free);
+    binaries::fill(random, &mut image);
     image
 }
 

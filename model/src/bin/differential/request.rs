@@ -1,4 +1,4 @@
-//! The requests, and the codes that each can give, by the conditions of 01's table and of 02, and its statuses by 02, §1.
+//! The requests, and the codes that each can give, by the conditions of 01's table and of 02, and its statuses by 02, §1 and §10.
 
 #[derive(Clone, Copy, Debug, PartialEq, Eq)]
 pub enum Request {
@@ -22,6 +22,8 @@ pub enum Request {
     LineRead,
     LineWrite,
     LineEnd,
+    BinaryRead,
+    BinaryWrite,
     Finish,
     Radpk,
     Radup,
@@ -56,6 +58,8 @@ pub const ALL: &[Request] = &[
     Request::LineRead,
     Request::LineWrite,
     Request::LineEnd,
+    Request::BinaryRead,
+    Request::BinaryWrite,
     Request::Finish,
     Request::Radpk,
     Request::Radup,
@@ -86,10 +90,10 @@ impl Request {
             Request::Close => &[0, 0o40, 0o15, 0o41, 0o2, 0o45],
             Request::Owner => &[0, 0o40, 0o44],
             Request::Finish => &[0, 0o40],
-            Request::BlockIn | Request::BlockOut | Request::LinkedRead | Request::LineRead => {
+            Request::BlockIn | Request::BlockOut | Request::LinkedRead | Request::LineRead | Request::BinaryRead => {
                 &[0, 0o40, 0o15, 0o41, 0o2, 0o6, 0o43, 0o45, 0o44]
             }
-            Request::LinkedAdd | Request::LineWrite | Request::LineEnd => {
+            Request::LinkedAdd | Request::LineWrite | Request::LineEnd | Request::BinaryWrite => {
                 &[0, 0o40, 0o15, 0o41, 0o2, 0o6, 0o43, 0o45, 0o42]
             }
             Request::Radpk | Request::Radup | Request::D2bin | Request::Bin2d | Request::O2bin | Request::Bin2o => {
@@ -107,6 +111,10 @@ impl Request {
             // "normal mode may set both": special mode stops before the file ends.
             Request::LineRead => [&[0, 1, 64, 65], &[0, 1, 64]],
             Request::LineWrite => [&[0, 1], &[0, 1]],
+            // Special mode verifies only where the buffer is long enough, and stops before the data end.
+            Request::BinaryRead => [&[0, 1, 2, 3, 4, 64, 65], &[0, 1, 2, 4, 64]],
+            // There are no modes; this stands for the one way.
+            Request::BinaryWrite => [&[0], &[]],
             _ => [&[], &[]],
         }
     }
@@ -118,6 +126,7 @@ impl Request {
             Request::BlockIn | Request::BlockOut | Request::LinkedRead | Request::LinkedAdd => 6,
             Request::Delet | Request::Renam | Request::Appnd | Request::Close | Request::LineEnd => 5,
             Request::Csi1 | Request::Csi2 | Request::CsiWrite | Request::LineRead | Request::LineWrite => 10,
+            Request::BinaryRead | Request::BinaryWrite => 10,
             Request::Look | Request::Keep | Request::Owner | Request::Finish => 3,
             _ => 2,
         }

@@ -79,14 +79,14 @@ pub fn writing(random: &mut Random, seen: &Seen) -> (Numbers, Vec<u8>, Vec<u8>) 
 pub fn ending(random: &mut Random, seen: &Seen) -> (Numbers, Vec<u8>) {
     let (caller, file) = old_file(random, seen, is_writable);
     let filled = filled(random, seen.form);
-    (Numbers::Ending { caller, file, filled }, transfer_buffer(random, seen.form, seen.form.payload_bytes()))
+    (Numbers::Gathering { caller, file, filled }, transfer_buffer(random, seen.form, seen.form.payload_bytes()))
 }
 
-fn is_readable(file: &Entry) -> bool {
+pub fn is_readable(file: &Entry) -> bool {
     file.kind == LINKED && file.readers != 0
 }
 
-fn is_writable(file: &Entry) -> bool {
+pub fn is_writable(file: &Entry) -> bool {
     file.kind == LINKED && matches!(file.writer, OUTPUT | EXTEND)
 }
 
@@ -101,7 +101,7 @@ fn place(random: &mut Random, length: usize) -> usize {
     }
 }
 
-fn mode(random: &mut Random) -> usize {
+pub fn mode(random: &mut Random) -> usize {
     if random.chance(1, 16) {
         random.pick(&[2, 3, 255, 256, 65536, 65537, 1 << 32, (1 << 32) + 1, 1 << 63, usize::MAX])
     } else {
@@ -110,7 +110,7 @@ fn mode(random: &mut Random) -> usize {
 }
 
 /// A position in a file of so many blocks, often near the end of one, sometimes behind the end of the file.
-fn position(random: &mut Random, form: Form, length: usize) -> usize {
+pub fn position(random: &mut Random, form: Form, length: usize) -> usize {
     let payload = form.payload_bytes();
     let end = payload * length;
     match random.below(16) {
@@ -126,7 +126,7 @@ fn position(random: &mut Random, form: Form, length: usize) -> usize {
 }
 
 /// A filled count, often at one of its edges, sometimes too large.
-fn filled(random: &mut Random, form: Form) -> usize {
+pub fn filled(random: &mut Random, form: Form) -> usize {
     let full = form.payload_bytes();
     match random.below(12) {
         0 if random.chance(1, 2) => near_full(random, form),

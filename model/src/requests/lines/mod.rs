@@ -23,13 +23,13 @@ pub const END_OF_FILE: usize = 1 << 6;
 
 /// The two modes, by their numbers at the C boundary.
 #[derive(Clone, Copy, PartialEq, Eq)]
-enum Mode {
+pub(super) enum Mode {
     Normal,
     Special,
 }
 
 impl Mode {
-    fn require(mode: usize) -> Result<Mode, Refusal> {
+    pub(super) fn require(mode: usize) -> Result<Mode, Refusal> {
         match mode {
             0 => Ok(Mode::Normal),
             1 => Ok(Mode::Special),

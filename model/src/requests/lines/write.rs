@@ -1,9 +1,10 @@
 //! Line output: text that is gathered in a lent buffer, of which each full one becomes a block of the file.
 
 use super::{is_terminator, Mode, FORM_FEED, INVALID_LINE, NUL, RUBOUT, TAB};
-use crate::pack::consistency::{examine, Pack};
+use crate::pack::consistency::examine;
 use crate::pack::map;
-use crate::refusal::{require, Refusal};
+use crate::refusal::Refusal;
+use crate::requests::gather::{require_gather, require_room, Gather};
 use crate::requests::linked::{join, require_writable};
 use crate::requests::File;
 
@@ -35,12 +36,17 @@ pub fn line_write(
         Mode::Normal => text,
         Mode::Special => text.split_inclusive(|&character| is_terminator(character)).next().unwrap_or(text),
     };
-    // "A write whose full blocks have no room is refused whole."
     let more = taken.iter().filter(|&&character| put_after(character).is_some()).count();
-    let full = (filled + taken.len() + more) / gather.len();
-    require(pack.free().take(full).count() == full, Refusal::NoRoom)?;
+    require_room(&pack, gather, filled, taken.len() + more)?;
 
-    let filled = write_all(image, &pack, index, taken, gather, filled);
+    let mut gathering = Gather::new(image, &pack, index, gather, filled, pack.free());
+    for part in taken.split_inclusive(|&character| put_after(character).is_some()) {
+        gathering.put(part);
+        if let Some(byte) = part.last().and_then(|&character| put_after(character)) {
+            gathering.put(&[byte]);
+        }
+    }
+    let filled = gathering.filled;
     map::renew(image);
     // "both return the count taken, and bit 0 says that its last character was none, or that it is 0."
     let terminated = taken.last().is_some_and(|&character| is_terminator(character));
@@ -63,30 +69,6 @@ pub fn line_end(image: &mut [u8], caller: usize, file: File, gather: &mut [u8], 
     Ok(())
 }
 
-/// "Writing gathers a block's payload in a lent .. buffer, .. and adds full blocks;" gives how far the buffer is filled then.
-fn write_all(image: &mut [u8], pack: &Pack, index: usize, taken: &[u8], gather: &mut [u8], mut filled: usize) -> usize {
-    let mut free = pack.free();
-    let mut put = |mut bytes: &[u8]| {
-        while !bytes.is_empty() {
-            let (now, later) = bytes.split_at(bytes.len().min(gather.len() - filled));
-            gather[filled..filled + now.len()].copy_from_slice(now);
-            filled += now.len();
-            bytes = later;
-            if filled == gather.len() {
-                join(pack.form(), image, index, free.next().expect("there is room for all"), gather);
-                filled = 0;
-            }
-        }
-    };
-    for part in taken.split_inclusive(|&character| put_after(character).is_some()) {
-        put(part);
-        if let Some(byte) = part.last().and_then(|&character| put_after(character)) {
-            put(&[byte]);
-        }
-    }
-    filled
-}
-
 /// "It puts one RUBOUT after TAB and one NUL after FORM FEED."
 #[inline]
 fn put_after(character: u8) -> Option<u8> {
@@ -95,10 +77,4 @@ fn put_after(character: u8) -> Option<u8> {
         FORM_FEED => Some(NUL),
         _ => None,
     }
-}
-
-/// A lent buffer of a payload, "whose filled count" is less than that: in each form "filled to" (02, §11) one byte fewer.
-fn require_gather(pack: &Pack, gather: &[u8], filled: usize) -> Result<(), Refusal> {
-    let payload = pack.form().payload_bytes();
-    require(gather.len() == payload && filled < payload, Refusal::Argument)
 }
