@@ -5,6 +5,7 @@ mod hinting;
 mod mapping;
 mod walking;
 
+pub use mapping::word_of;
 ghost use mathlib.Core.Path.{_≡_};
 ghost use mathlib.Core.Bool.{true, _&&_};
 ghost use Prim.Native.Nat.{ℕ, _+_, _%_, _<_, _≤_};
@@ -41,7 +42,7 @@ pub enum Opened {
 }
 
 // The blocks of the system, taken on the map or given back.
-fn set_system(map: &mut [u8], g: Geometry, taken: u8)
+pub fn set_system(map: &mut [u8], g: Geometry, taken: u8)
     requires { ⌜ g .bodies .0 ≤ length (now map) ⌝ }
     ensures { λ r. ⌜ now (map .exit) ≡ systemSet (now (map .entry)) (g .bodies .0) taken ⌝ }
 {

@@ -32,7 +32,7 @@ fn bits_of(marks: &[u8], b: usize) -> usize
 }
 
 // The word that the map must have at place w: from the last block on all bits are 0.
-fn word_of(marks: &[u8], blocks: usize, w: usize) -> usize
+pub fn word_of(marks: &[u8], blocks: usize, w: usize) -> usize
     requires { ⌜ Marks (now marks) blocks × (w < 65536) ⌝ }
     ensures { λ r. ⌜ r ≡ bitsFrom (markOn (now (marks .entry))) (16 * w) 16 ⌝ }
 {

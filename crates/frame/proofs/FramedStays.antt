@@ -57,18 +57,18 @@ listed-same img img′ uic count-is words listed =
     record { at = listed .at; within = omega (arith, listed .within, count-is); is = words (listed .at) (listed .within) ∙ listed .is }
 
 -- the rules at measures that are those of the image
-record Rules (img : List ℕ) (g : Geometry) : Type 0 where
-  entries : (e : ℕ) → e < slots g → RightEntry img g e
-  differ : (e f : ℕ) → e < f → f < slots g → (Empty img g e → ⊥) → SameKey (keyIn (entryOf img g e)) (keyIn (entryOf img g f)) → ⊥
-  once : (b : ℕ) → heldIn img g b ≤ 1
-  map : MapAgrees img g
+pub record Rules (img : List ℕ) (g : Geometry) : Type 0 where
+  pub entries : (e : ℕ) → e < slots g → RightEntry img g e
+  pub differ : (e f : ℕ) → e < f → f < slots g → (Empty img g e → ⊥) → SameKey (keyIn (entryOf img g e)) (keyIn (entryOf img g f)) → ⊥
+  pub once : (b : ℕ) → heldIn img g b ≤ 1
+  pub map : MapAgrees img g
 
 rules-of : (img : List ℕ) (g : Geometry) → g ≡ geometryOf img → Consistent img → Rules img g
 unfolding held
 rules-of img g stated consistent =
     subst (Rules img) (sym stated) (record { entries = consistent .entries; differ = consistent .differ; once = consistent .once; map = consistent .map })
 
-consistent-of : (img : List ℕ) (g : Geometry) → g ≡ geometryOf img → RightHeader img → Rules img g → Consistent img
+pub consistent-of : (img : List ℕ) (g : Geometry) → g ≡ geometryOf img → RightHeader img → Rules img g → Consistent img
 unfolding held
 consistent-of img g stated header rules =
     let here : Rules img (geometryOf img) = subst (Rules img) stated rules in

@@ -37,6 +37,7 @@ pub mod BinaryExamples
 pub mod Commands
 pub mod CommandCodes
 pub mod WritingCodes
+pub mod MovesCodes
 pub mod ReportFault
 pub mod Effects
 pub mod Main

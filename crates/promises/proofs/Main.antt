@@ -1,9 +1,9 @@
 -- The order, sentence by sentence, in the customer's words, and under each the theorems that carry it. docs/PROMISES.md goes on from here.
 use Prim.Native.Nat.{ℕ, _+_, _*_, _≤_, _<_}
-use mathlib.Core.Path.{_≡_}
+use mathlib.Core.Path.{_≡_, refl}
 use mathlib.Core.Logic.{_↔_, _⊎_}
 use mathlib.Core.Bool.{true}
-use mathlib.Core.List.{List, [], _∷_, _++_, flatten}
+use mathlib.Core.List.{List, [], _∷_, _++_, map, flatten}
 use mathlib.Core.Option.{none, some}
 use native.Mathlib.Omega.{arith}
 use lib.ListN.{length, getD, set, take, drop, replicate}
@@ -23,7 +23,8 @@ use Rattle.pack.specs.declared.Owner.the-variants.{Free}
 use Rattle.pack.specs.Form.{bodiesOf}
 use Rattle.pack.specs.Geometry.{geometryOf, slots, blockBytes, payloadBytes}
 use Rattle.pack.specs.Header.{Measured}
-use Rattle.pack.specs.Entry.{entryOf}
+use Rattle.pack.specs.File.{count}
+use Rattle.pack.specs.Entry.{entryOf, blocksAt}
 use Rattle.pack.specs.Map.{HasMap}
 use Rattle.pack.specs.Consistent.{held, Consistent}
 use Rattle.pack.specs.Owner.{ownerOf, HeldAt, FreeBlock, storedLengths, freeCount}
@@ -92,6 +93,12 @@ use Rattle.command_writing.proofs.CsiWriteOnly
 use Rattle.command_writing.proofs.CsiWriteCauses
 use Rattle.command_writing.proofs.CsiWriteAnswers
 use Rattle.command_writing.proofs.ReadThenWritten
+use Rattle.moving.specs.declared.Way.{Way}
+use Rattle.moving.specs.Ways.{back, moved, renumbered}
+use Rattle.moving.specs.Moved.{movedEntry, Bytes}
+use Rattle.moving.specs.Moving.{Moving}
+use Rattle.moving.proofs.MovingCodes
+use Rattle.moving.proofs.MovesPlain
 use Rattle.requests.specs.Request.{Request, outcome, Names, bufferLent}
 use Rattle.requests.specs.Contract.{Result, numbersIn, Meets, contractOf}
 use Rattle.requests.proofs.RequestConsistent
@@ -105,6 +112,7 @@ use Rattle.promises.specs.GivenWhen.{GivesCode, InTableOrder}
 use Rattle.promises.specs.Codes.{CreatingCases, AddingCases, OtherPayload, OtherGather, NoLineMode, fullBlocks, LongerLine, fullBinary, casesOf}
 use Rattle.promises.specs.CommandCodes.{Csi1Cases, Csi2Cases}
 use Rattle.promises.specs.WritingCodes.{CsiWriteCases}
+use Rattle.promises.specs.MovesCodes.{MoveCases}
 use Rattle.promises.specs.AddedAgain.{openedImage}
 use Rattle.promises.specs.AllocZeros.{allocatedImage, readableImage, zeroBlock}
 use Rattle.promises.specs.Refused.{NotRadix, NotWord, TooLarge, NotNumeral}
@@ -135,6 +143,7 @@ use Rattle.promises.proofs.ConversionsDemands
 use Rattle.promises.proofs.Commands
 use Rattle.promises.proofs.CommandCodes
 use Rattle.promises.proofs.WritingCodes
+use Rattle.promises.proofs.MovesCodes
 
 -- 1.1 "Every request accepts any numbers and any image."
 -- No exported function (`crates/service/src`) has a `requires`: its contract holds of every input, and the code it gives is 0 or one of the paper's table.
@@ -150,6 +159,11 @@ csi2-answers = Csi2Only.csi2-answers
 
 pub csi-write-answers : (outputs inputs : ℕ) (records buffer : List ℕ) → (answer : Answer) × (after : List ℕ) × CsiWriteAnswered outputs inputs records buffer answer after
 csi-write-answers = CsiWriteAnswers.csi-write-answers
+
+-- So is that of a move between forms (02 §8), each way: it allows an answer to any source, into any target. `Bytes`, that the numbers are below 256, holds of
+-- every slice: the contracts of both moves say so of the source and of the target behind the call.
+pub moves-answers : (way : Way) (src target : List ℕ) → Bytes src → (code : ℕ) × (after : List ℕ) × Moving way src target code after
+moves-answers way src target small = let answered = MovesPlain.moving-answered way src target small in (answered .code, answered .after, answered .is)
 
 -- 1.2 "What cannot be done is refused with the code that the build document orders first,"
 -- Each request on an image gives each code exactly in its case (`specs/Codes.antt`), and the cases stand in the order of the paper's table.
@@ -172,6 +186,11 @@ csi2-code-iff = CommandCodes.csi2-code-iff
 pub csi-write-code-iff : (outputs inputs : ℕ) (records buffer : List ℕ) (answer : Answer) (after : List ℕ) → CsiWriteAnswered outputs inputs records buffer answer after
     → (code : ℕ) → answer .code ≡ code ↔ GivesCode (CsiWriteCases outputs inputs records buffer) code
 csi-write-code-iff = WritingCodes.csi-write-code-iff
+
+-- and a move between forms, in the paper's own numbers
+pub moves-code-iff : (way : Way) (src target : List ℕ) (given : ℕ) (after : List ℕ) → Moving way src target given after
+    → (code : ℕ) → given ≡ code ↔ GivesCode (MoveCases way src (length target)) code
+moves-code-iff = MovesCodes.moves-code-iff
 
 -- and the conversions; a field of these is for 1.1, one for 1.3
 pub radpk-demands : NumberDemands 3 NotRadix radpk
@@ -208,6 +227,9 @@ csi2-kept = CommandCodes.csi2-kept
 pub csi-write-kept : (outputs inputs : ℕ) (records buffer : List ℕ) (answer : Answer) (after : List ℕ) → CsiWriteAnswered outputs inputs records buffer answer after
     → (answer .code ≡ 0 → ⊥) → (after ≡ buffer) × (answer .number ≡ 0)
 csi-write-kept = CsiWriteCauses.csi-write-kept
+
+pub moves-kept : (way : Way) (src target : List ℕ) (code : ℕ) (after : List ℕ) → Moving way src target code after → (code ≡ 0 → ⊥) → after ≡ target
+moves-kept way src target code after is refused = MovingCodes.refused-same is refused
 
 -- 2.1 "From any consistent image, each request has exactly the effect and answer that the build document draws from the handbook."
 -- Each contract is an equation with the request's `outcome`, whose definition says every word that changes. It allows one result:
@@ -387,9 +409,53 @@ module _ (image : List ℕ) (form blocks contents : ℕ) (uics : List ℕ) (righ
       → FreeBlock (formatted image form blocks contents uics) b × (ownerOf (formatted image form blocks contents uics) b ≡ Free)
   format-frees = format-free image form blocks contents uics (format-iff (length image) form blocks contents uics .1 right)
 
+-- 02 §8: a move allows one answer and one target, whatever this held before;
+pub moves-one : (way : Way) (src target : List ℕ) (code code′ : ℕ) (after after′ : List ℕ) → Moving way src target code after → Moving way src target code′ after′
+    → Bytes after → Bytes after′ → (code ≡ code′) × (after ≡ after′)
+moves-one way src target code code′ after after′ first second small small′ =
+    (MovingCodes.moving-code first second, MovingCodes.moving-single first second small small′)
+
+-- "Each way followed by the other gives every byte of the starting image again.": the second call is not refused, and its target is the first one's source
+pub moves-again : (way : Way) (src target mid target′ after : List ℕ) (code : ℕ) → Moving way src target 0 mid → Moving (back way) mid target′ code after
+    → length target′ ≡ length src → Bytes src → Bytes after → (code ≡ 0) × (after ≡ src)
+moves-again way src target mid target′ after code there again size small small′ =
+    (MovingCodes.back-accepted there again size, MovingCodes.back-same there again size small small′)
+
+-- each file is there with the same entry, opens too, but for its numbers of blocks (`movedEntry`), and holds the same blocks at their new numbers; there are no
+-- entries more; "Free bodies and contiguous ones are copied untouched", and so is every byte of a body behind its link
+module _ {way : Way} {src target after : List ℕ} (done : Moving way src target 0 after) where
+  pub moves-slots : slots (geometryOf after) ≡ slots (geometryOf src)
+  moves-slots = MovesPlain.moves-slots done
+
+  pub moves-entry : (e : ℕ) → e < slots (geometryOf src) → entryOf after (geometryOf after) e ≡ movedEntry way (entryOf src (geometryOf src) e)
+  moves-entry = MovesPlain.moves-entry done
+
+  pub moves-blocks : (e : ℕ) → e < slots (geometryOf src) → blocksAt after (geometryOf after) e ≡ map (renumbered way) (blocksAt src (geometryOf src) e)
+  moves-blocks = MovesPlain.moves-blocks done
+
+  pub moves-free : (b : ℕ) → geometryOf src .bodies .0 ≤ b → b < geometryOf src .blocks → held src b ≡ 0 → (i : ℕ) → i < blockBytes (geometryOf src)
+      → getD after (moved way b * blockBytes (geometryOf src) + i) 0 ≡ getD src (b * blockBytes (geometryOf src) + i) 0
+  moves-free = MovesPlain.moves-free done
+
+  pub moves-contiguous : (e : ℕ) → e < slots (geometryOf src) → entryOf src (geometryOf src) e .kind ≡ 1 → (b : ℕ) → 0 < count b (blocksAt src (geometryOf src) e)
+      → (i : ℕ) → i < blockBytes (geometryOf src) → getD after (moved way b * blockBytes (geometryOf src) + i) 0 ≡ getD src (b * blockBytes (geometryOf src) + i) 0
+  moves-contiguous = MovesPlain.moves-contiguous done
+
+  pub moves-payload : (b : ℕ) → geometryOf src .bodies .0 ≤ b → b < geometryOf src .blocks → (i : ℕ) → 2 ≤ i → i < blockBytes (geometryOf src)
+      → getD after (moved way b * blockBytes (geometryOf src) + i) 0 ≡ getD src (b * blockBytes (geometryOf src) + i) 0
+  moves-payload = MovesPlain.moves-payload done
+
 -- 2.2 "The image stays consistent: each block is system, free, or held by one file."
 pub stays-consistent : (r : Request) {img : List ℕ} → Consistent img → Consistent (outcome r img .image)
 stays-consistent = RequestConsistent.stays-consistent
+
+-- 02 §8: the target of a move is consistent, and each block of it is whose its twin is
+module _ {way : Way} {src target after : List ℕ} (done : Moving way src target 0 after) where
+  pub moves-consistent : Consistent after
+  moves-consistent = MovingCodes.moving-consistent done refl
+
+  pub moves-owner : (b : ℕ) → geometryOf src .bodies .0 ≤ b → ownerOf after (moved way b) ≡ ownerOf src b
+  moves-owner = MovesPlain.moves-owner done
 
 -- any image is judged, exactly as document 01 says, and 02 in §7 and §11
 pub judged : (img : List ℕ) → consistent img ≡ true ↔ Consistent img

@@ -7,6 +7,7 @@ pub mod GivenWhen
 pub mod Codes
 pub mod CommandCodes
 pub mod WritingCodes
+pub mod MovesCodes
 pub mod AddedAgain
 pub mod AllocZeros
 pub mod BytesAgain

@@ -1,0 +1,26 @@
+-- The laws of moving.
+pub mod WayNumbers
+pub mod ChainMapped
+pub mod MapWords
+pub mod MovedMeasures
+pub mod SourceNumbers
+pub mod MovedFiles
+pub mod MovedMap
+pub mod MovedConsistent
+pub mod MovedBack
+pub mod MovedSingle
+pub mod MovedExists
+pub mod MovedBodies
+pub mod MovedOwners
+pub mod MovingCodes
+pub mod MovesPlain
+pub mod MovedPartsSteps
+pub mod MovedPartsWalked
+pub mod LinkWalked
+pub mod EntryMoved
+pub mod CopiedRuns
+pub mod MapWriting
+pub mod MarkedBehind
+pub mod PackCopied
+pub mod MovedWhole
+pub mod MovingStage
