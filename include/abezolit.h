@@ -297,6 +297,22 @@ typedef struct {
 abz_report_answer abz_report(const uint8_t *image, size_t image_len);
 
 /*
+ * Moves between forms 1 and 2: the pack of source is written into target in the other form, where it has the map, and so
+ * one block, more or less. The source is only read; the target is written whole, and what it held is not looked at.
+ *
+ * Block 0 and the contents are copied with the new form and n, opens too, and the map is made where there is one. Each
+ * body is copied to the block whose number is one higher (to form 1: one lower), and with the bodies every number of a
+ * block that is not 0 rises (falls) by one: the first and last block of each file, and the links of linked files. All
+ * other bytes of bodies, of free ones and contiguous files all, are copied as they are. So each file is there with the
+ * same bytes, each block is whose it was, and each move followed by the other gives every byte of the source again.
+ *   ABZ_INCONSISTENT  source is no consistent pack, or not of form 1 (abz_to_form1: not of form 2);
+ *   ABZ_ARGUMENT      target_len is not 512 (n + 1) (abz_to_form1: not 512 (n - 1)), where n is the source's; or, of
+ *                     abz_to_form1, form 1 has no such pack: n - 1 is not 16 to 1024, or c is over 8.
+ */
+size_t abz_to_form2(const uint8_t *source, size_t source_len, uint8_t *target, size_t target_len);
+size_t abz_to_form1(const uint8_t *source, size_t source_len, uint8_t *target, size_t target_len);
+
+/*
  * Rights
  *
  * The protect code of a file says what a caller may do with it:

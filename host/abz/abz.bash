@@ -37,7 +37,7 @@ _abz_offer() {
 _abz_argument() {
     local word=${COMP_WORDS[COMP_CWORD]#[\'\"]} option=
     case $1 in
-    PACK | HOSTFILE) option=-f ;;
+    PACK | NEWPACK | HOSTFILE) option=-f ;;
     DIRECTORY) option=-d ;;
     CALLER) _abz_offer "$(_abz_uics "$abz" "$pack")" ;;
     FILE | OLD | FIRST | SECOND | PATTERN) _abz_offer "$(_abz_files "$abz" "$pack" "$caller")" ;;

@@ -21,6 +21,7 @@ int command_owners(char **arguments);
 int command_info(char **arguments);
 int command_map(char **arguments);
 int command_report(char **arguments);
+int command_convert(char **arguments);
 
 /* Files */
 int command_look(char **arguments);

@@ -12,6 +12,9 @@ static const struct {
     const char *are;
 } arguments[] = {
     { "PACK", "a regular file of this computer, with a pack in it" },
+    { "NEWPACK",
+      "another file of this computer, which gets the pack; - is standard\n"
+      "output. It is made, or replaced if it is a regular file." },
     { "CALLER", "for whom it is done: a UIC as 23,10 or [23,10], whose rights count" },
     { "UIC", "group and user, each octal and at most 377: 23,10 or [23,10]" },
     { "FILE, OLD, NEW, FIRST, SECOND",

@@ -1,6 +1,6 @@
 /*
  * abz: the files of a pack, at the command line; and an example of a host of the service. How a host calls it is shown
- * in requests.c, closing.c, finish.c, bodies.c, text.c, binary.c, blocks.c, report.c and reading.c, and how it replaces a file in
+ * in requests.c, closing.c, finish.c, bodies.c, text.c, binary.c, blocks.c, report.c, convert.c and reading.c, and how it replaces a file in
  * replace.c; the rest is what a program with files and arguments needs.
  */
 #include "commands.h"
@@ -50,6 +50,12 @@ static const command commands[] = {
     { "report", "PACK", 1, 1, command_report,
       "whether the pack is consistent, and if not the first that is wrong\n"
       "with it: which rule, where, and in words" },
+    { "convert", "[--force] PACK NEWPACK", 2, 2, command_convert,
+      "write the pack of PACK into NEWPACK in the other form: one of form 1 in\n"
+      "form 2, with a free map and so a block more, and one of form 2 in\n"
+      "form 1, if that can have it. PACK stays as it is, and converted back\n"
+      "it is the same in every byte. --force overwrites a NEWPACK that is\n"
+      "there, but never PACK." },
     { "look", "PACK CALLER FILE", 3, 3, command_look,
       "all that the pack says of a file, and how many of its bytes are in\n"
       "use, which are those up to the last that is not NUL" },

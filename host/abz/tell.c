@@ -23,8 +23,10 @@ typedef struct {
  * no command of abz meets.
  */
 static const cause causes[] = {
+    { ABZ_INCONSISTENT, "convert", "the file is not a consistent pack of form 1 or 2; abz report tells whether it is one" },
     { ABZ_INCONSISTENT, NULL, "the file is not a consistent pack; abz report tells what is wrong with it" },
     { ABZ_NAME, NULL, "a name is 1 to 6 of A-Z and 0-9, an extension 0 to 3 of them" },
+    { ABZ_ARGUMENT, "convert", "form 1 has no such pack: it has 16 to 1024 blocks, which is one less, and lists files in 8 at most" },
     { ABZ_ARGUMENT, "load", "HOSTFILE is empty, and a contiguous file has at least a block" },
     { ABZ_ARGUMENT, NULL, "an argument is not one that the request takes" },
     { ABZ_NO_USER, NULL, "the owner is not in the pack's list of UICs" },

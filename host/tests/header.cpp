@@ -15,6 +15,8 @@ size_t abz_format(uint8_t *, size_t, size_t, size_t, size_t, const uint8_t *, si
 abz_look_answer abz_look(const uint8_t *, size_t, size_t, size_t, size_t, size_t, size_t);
 abz_owner_answer abz_owner(const uint8_t *, size_t, size_t);
 abz_report_answer abz_report(const uint8_t *, size_t);
+size_t abz_to_form2(const uint8_t *, size_t, uint8_t *, size_t);
+size_t abz_to_form1(const uint8_t *, size_t, uint8_t *, size_t);
 size_t abz_openi(uint8_t *, size_t, size_t, size_t, size_t, size_t, size_t);
 size_t abz_openu(uint8_t *, size_t, size_t, size_t, size_t, size_t, size_t);
 size_t abz_opene(uint8_t *, size_t, size_t, size_t, size_t, size_t, size_t);

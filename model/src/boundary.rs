@@ -20,6 +20,8 @@ extern "C" {
     fn abz_finish(image: *mut u8, image_len: usize, caller: usize) -> Answer;
     fn abz_owner(image: *const u8, image_len: usize, block: usize) -> OwnerAnswer;
     fn abz_report(image: *const u8, image_len: usize) -> crate::report::ReportAnswer;
+    fn abz_to_form2(source: *const u8, source_len: usize, target: *mut u8, target_len: usize) -> usize;
+    fn abz_to_form1(source: *const u8, source_len: usize, target: *mut u8, target_len: usize) -> usize;
     fn abz_block_in(image: *const u8, image_len: usize, caller: usize, name1: usize, name2: usize, extension: usize, uic: usize, place: usize, buffer: *mut u8, buffer_len: usize) -> usize;
     fn abz_block_out(image: *mut u8, image_len: usize, caller: usize, name1: usize, name2: usize, extension: usize, uic: usize, place: usize, buffer: *const u8, buffer_len: usize) -> usize;
     fn abz_linked_read(image: *const u8, image_len: usize, caller: usize, name1: usize, name2: usize, extension: usize, uic: usize, place: usize, buffer: *mut u8, buffer_len: usize) -> usize;
@@ -119,6 +121,14 @@ pub fn owner(image: &[u8], block: usize) -> OwnerAnswer {
 
 pub fn report(image: &[u8]) -> crate::report::ReportAnswer {
     unsafe { abz_report(image.as_ptr(), image.len()) }
+}
+
+pub fn to_form2(source: &[u8], target: &mut [u8]) -> usize {
+    unsafe { abz_to_form2(source.as_ptr(), source.len(), target.as_mut_ptr(), target.len()) }
+}
+
+pub fn to_form1(source: &[u8], target: &mut [u8]) -> usize {
+    unsafe { abz_to_form1(source.as_ptr(), source.len(), target.as_mut_ptr(), target.len()) }
 }
 
 #[rustfmt::skip]

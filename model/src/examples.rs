@@ -5,6 +5,7 @@ mod disk;
 mod finish;
 mod lines;
 mod map;
+mod moves;
 mod writing;
 
 use crate::answers::SpecificationAnswer;

@@ -10,6 +10,7 @@ pub mod format;
 mod gather;
 pub mod lines;
 pub mod linked;
+pub mod moves;
 pub mod opening;
 pub mod owner;
 
@@ -22,6 +23,7 @@ pub use finish::finish;
 pub use format::format;
 pub use lines::{line_end, line_read, line_write};
 pub use linked::{linked_add, linked_read};
+pub use moves::{to_form1, to_form2};
 pub use opening::{close, opene, openi, openu};
 pub use owner::owner;
 

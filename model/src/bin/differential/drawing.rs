@@ -41,6 +41,8 @@ pub fn call(random: &mut Random, request: Request, image: &[u8]) -> Call {
         Request::Close => numbers_alone(closing(random, seen)),
         Request::Finish => numbers_alone(Numbers::One(finishing(random, seen))),
         Request::Owner => numbers_alone(Numbers::One(block(random, seen))),
+        Request::ToForm2 => (Numbers::None, Vec::new(), target(random, seen, seen.blocks + 1)),
+        Request::ToForm1 => (Numbers::None, Vec::new(), target(random, seen, seen.blocks - 1)),
         Request::BlockIn | Request::BlockOut | Request::LinkedRead | Request::LinkedAdd => {
             without_line(transfers::transferring(random, request, seen))
         }
@@ -91,6 +93,17 @@ fn format(random: &mut Random) -> (Numbers, Vec<u8>) {
         _ => (word, blocks, contents),
     };
     (Numbers::Format { form: word, blocks, contents }, format_uics(random, form))
+}
+
+/// The target of a move, of so many blocks, sometimes of another size.
+fn target(random: &mut Random, seen: &Seen, blocks: usize) -> Vec<u8> {
+    let right = seen.form.block_bytes() * blocks;
+    let length = match random.below(12) {
+        0 => random.pick(&[0, 1, right - 1, right + 1, right - 2, right + 2]),
+        1 => seen.form.block_bytes() * random.pick(&[blocks - 1, blocks + 1, seen.blocks]),
+        _ => right,
+    };
+    random.bytes(length)
 }
 
 fn creating(random: &mut Random, seen: &Seen) -> Numbers {

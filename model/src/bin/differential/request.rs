@@ -1,5 +1,7 @@
 //! The requests, and the codes that each can give, by the conditions of 01's table and of 02, and its statuses by 02, §1 and §10.
 
+use model::pack::form::Form;
+
 #[derive(Clone, Copy, Debug, PartialEq, Eq)]
 pub enum Request {
     Format,
@@ -25,6 +27,8 @@ pub enum Request {
     BinaryRead,
     BinaryWrite,
     Finish,
+    ToForm2,
+    ToForm1,
     Radpk,
     Radup,
     D2bin,
@@ -61,6 +65,8 @@ pub const ALL: &[Request] = &[
     Request::BinaryRead,
     Request::BinaryWrite,
     Request::Finish,
+    Request::ToForm2,
+    Request::ToForm1,
     Request::Radpk,
     Request::Radup,
     Request::D2bin,
@@ -90,6 +96,7 @@ impl Request {
             Request::Close => &[0, 0o40, 0o15, 0o41, 0o2, 0o45],
             Request::Owner => &[0, 0o40, 0o44],
             Request::Finish => &[0, 0o40],
+            Request::ToForm2 | Request::ToForm1 => &[0, 0o40, 0o41],
             Request::BlockIn | Request::BlockOut | Request::LinkedRead | Request::LineRead | Request::BinaryRead => {
                 &[0, 0o40, 0o15, 0o41, 0o2, 0o6, 0o43, 0o45, 0o44]
             }
@@ -102,6 +109,15 @@ impl Request {
             Request::Csi1 => &[0, 0o53, 0o52, 0o50, 0o54],
             Request::Csi2 => &[0, 0o53, 0o50, 0o54, 0o51, 0o52],
             Request::CsiWrite => &[0, 0o41, 0o53, 0o52],
+        }
+    }
+
+    /// Those that are to be reached beside a pack of a form: only a pack of the one form is moved to the other.
+    pub fn codes_beside(self, form: Form) -> &'static [usize] {
+        match self {
+            Request::ToForm2 if form != Form::ONE => &[0o40],
+            Request::ToForm1 if form != Form::TWO => &[0o40],
+            _ => self.codes(),
         }
     }
 

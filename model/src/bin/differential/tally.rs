@@ -86,7 +86,7 @@ impl Tally {
 
     fn missed_of(&self, form: Form, request: Request) -> Vec<String> {
         let mut missed = Vec::new();
-        for &code in request.codes().iter().filter(|&&code| self.times(form, request, code) == 0) {
+        for &code in request.codes_beside(form).iter().filter(|&&code| self.times(form, request, code) == 0) {
             missed.push(format!("{code:02o} of {request:?} in form {}", form.word));
         }
         for (mode, statuses) in request.statuses().into_iter().enumerate() {
