@@ -1,11 +1,12 @@
 -- The laws of keys: found exactly if an entry has the key, and at most one has it.
-use Prim.Native.Nat.{ℕ, suc, zero, _+_, _-_, _≤_, _<_}
+use Prim.Native.Nat.{ℕ, suc, zero, _+_, _*_, _-_, _%_, _≤_, _<_}
 use mathlib.Core.Path.{_≡_, refl, sym, ap, subst, _∙_}
 use mathlib.Core.Logic.{inl, inr, _↔_}
 use mathlib.Core.Bool.{Bool, true, false}
 use mathlib.Core.List.{List}
 use mathlib.Core.Option.{Option, none, some}
 use native.Mathlib.Omega.{arith}
+use native.Mathlib.Nat.{mul-comm, mul-assoc}
 use native.Mathlib.Decide.{ℕ-discrete, decLt}
 use borrow.Author.Tests.{eq-eqb, ne-eqb}
 use Rattle.radix.specs.Names.{LegalName, LegalExtension}
@@ -61,6 +62,21 @@ module _ (img : List ℕ) (g : Geometry) (key : Key) (e t : ℕ) (less : e < t) 
   pub find-next : (k : Key) → k ≡ keyIn (entryOf img g e) → sameKey k key ≡ false → findFrom img g key e (t - e) ≡ findFrom img g key (e + 1) (t - (e + 1))
   unfolding findFrom
   find-next k is m = ap (findFrom img g key e) left ∙ rw (rw is at m)
+
+-- two at a turn: a pack has an even number of entries
+slots-even : (g : Geometry) → slots g % 2 ≡ 0
+slots-even g = omega (arith, mul-comm (g .contents) (4 * g .segments .0), mul-assoc 4 (g .segments .0) (g .contents))
+
+pub pair-below : (g : Geometry) {e total : ℕ} → total ≡ slots g → e % 2 ≡ 0 → e < total → e + 1 < slots g
+pair-below g is even below = omega (arith, is, even, below, slots-even g)
+
+pub find-both : (img : List ℕ) (g : Geometry) (key : Key) (e t : ℕ) → e + 1 < t → (k k′ : Key) → k ≡ keyIn (entryOf img g e) → sameKey k key ≡ false
+    → k′ ≡ keyIn (entryOf img g (e + 1)) → sameKey k′ key ≡ false → findFrom img g key e (t - e) ≡ findFrom img g key (e + 2) (t - (e + 2))
+find-both img g key e t less k k′ here not-here behind not-behind =
+    let two : e + 1 + 1 ≡ e + 2 = omega arith in
+    find-next img g key e t (omega (arith, less)) k here not-here
+    ∙ find-next img g key (e + 1) t less k′ behind not-behind
+    ∙ (λ j. findFrom img g key (two j) (t - two j))
 
 pub find-end : (img : List ℕ) (g : Geometry) (key : Key) (e t : ℕ) → t ≤ e → findFrom img g key e (t - e) ≡ none
 unfolding findFrom

@@ -67,6 +67,7 @@ pub fn is_legal(key: Key) -> bool
     Radix50(key.extension).is_legal_extension()
 }
 
+// The entries of a pack are even in number, so two are looked at in a turn: most of a search is its counting.
 pub fn find(img: &[u8], g: Geometry, key: Key) -> Found
     requires { ⌜ Sized (now img) g ⌝ }
     ensures { λ r. ⌜ foundIn r ≡ findFrom (now (img .entry)) g key 0 (slots g) ⌝ }
@@ -77,7 +78,11 @@ pub fn find(img: &[u8], g: Geometry, key: Key) -> Found
         if pack::is_same_key(pack::read_key(img, g, e), key) {
             return Found::At(e);
         }
-        e += 1;
+        let next = e + 1;
+        if pack::is_same_key(pack::read_key(img, g, next), key) {
+            return Found::At(next);
+        }
+        e += 2;
     }
     Found::Nothing
 }

@@ -55,6 +55,10 @@ module _ (img : List ℕ) (g : Geometry) where
     unfolding emptyFrom
     empty-next never = ap (emptyFrom img g e) left ∙ rw (first-used e (λ zero-word. never (is ∙ zero-word)))
 
+  -- two entries on
+  pub pair-next : (e t : ℕ) → emptyFrom img g (e + 1 + 1) (t - (e + 1 + 1)) ≡ emptyFrom img g (e + 2) (t - (e + 2))
+  pair-next e t = let two : e + 1 + 1 ≡ e + 2 = omega arith in (λ j. emptyFrom img g (two j) (t - two j))
+
   pub empty-end : (e t : ℕ) → t ≤ e → emptyFrom img g e (t - e) ≡ none
   unfolding emptyFrom
   empty-end e t over = let none-left : t - e ≡ 0 = omega arith in ap (emptyFrom img g e) none-left

@@ -72,7 +72,7 @@ pub fn decide_creating(
     Creating::At(g, e)
 }
 
-// A name is never 0, so where all entries are right the first word alone says whether one is empty.
+// A name is never 0, so where all entries are right the first word alone says whether one is empty. Two are looked at in a turn, as in a search for a file.
 fn lowest_empty(img: &[u8], g: Geometry) -> Found
     requires { ⌜ Sized (now img) g ⌝ }
     requires { ⌜ ((e : ℕ) → e < slots g → RightEntry (now img) g e) ⌝ }
@@ -84,7 +84,11 @@ fn lowest_empty(img: &[u8], g: Geometry) -> Found
         if pack::entry_word(img, g, e, 0) == 0 {
             return Found::At(e);
         }
-        e += 1;
+        let next = e + 1;
+        if pack::entry_word(img, g, next, 0) == 0 {
+            return Found::At(next);
+        }
+        e += 2;
     }
     Found::Nothing
 }

@@ -39,5 +39,6 @@ pub mod CommandCodes
 pub mod WritingCodes
 pub mod MovesCodes
 pub mod ReportFault
+pub mod Many
 pub mod Effects
 pub mod Main

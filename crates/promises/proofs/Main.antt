@@ -1,10 +1,10 @@
 -- The order, sentence by sentence, in the customer's words, and under each the theorems that carry it. docs/PROMISES.md goes on from here.
-use Prim.Native.Nat.{ℕ, _+_, _*_, _≤_, _<_}
+use Prim.Native.Nat.{ℕ, suc, _+_, _*_, _/_, _≤_, _<_}
 use mathlib.Core.Path.{_≡_, refl}
 use mathlib.Core.Logic.{_↔_, _⊎_}
 use mathlib.Core.Bool.{true}
 use mathlib.Core.List.{List, [], _∷_, _++_, map, flatten}
-use mathlib.Core.Option.{none, some}
+use mathlib.Core.Option.{Option, none, some}
 use native.Mathlib.Omega.{arith}
 use lib.ListN.{length, getD, set, take, drop, replicate}
 use Rattle.answers.specs.declared.Answer.{Answer}
@@ -100,11 +100,14 @@ use Rattle.moving.specs.Moving.{Moving}
 use Rattle.moving.proofs.MovingCodes
 use Rattle.moving.proofs.MovesPlain
 use Rattle.requests.specs.Request.{Request, outcome, Names, bufferLent}
-use Rattle.requests.specs.Contract.{Result, numbersIn, Meets, contractOf}
+use Rattle.requests.specs.Contract.{code-and-both, Result, numbersIn, Meets, contractOf}
 use Rattle.requests.proofs.RequestConsistent
 use Rattle.requests.proofs.RequestRefused
 use Rattle.requests.proofs.RequestUntouched
 use Rattle.requests.proofs.ContractSingle
+use Rattle.listed.specs.Record.{requestIn}
+use Rattle.many.specs.Layout.{recordAt}
+use Rattle.many.specs.Many.{many, imageBehind, recordOutcome}
 use Rattle.requests.specs.Changes.{MayChange}
 use Rattle.requests.proofs.Changes
 use Rattle.promises.specs.Measures.{DocumentHeader, SystemBlocks, bitInMap, DocumentMeasures}
@@ -113,6 +116,7 @@ use Rattle.promises.specs.Codes.{CreatingCases, AddingCases, OtherPayloa
 use Rattle.promises.specs.CommandCodes.{Csi1Cases, Csi2Cases}
 use Rattle.promises.specs.WritingCodes.{CsiWriteCases}
 use Rattle.promises.specs.MovesCodes.{MoveCases}
+use Rattle.promises.specs.Many.{ManyCases, wordOf, NamedBy, NotNamed, Answers}
 use Rattle.promises.specs.AddedAgain.{openedImage}
 use Rattle.promises.specs.AllocZeros.{allocatedImage, readableImage, zeroBlock}
 use Rattle.promises.specs.Refused.{NotRadix, NotWord, TooLarge, NotNumeral}
@@ -144,6 +148,7 @@ use Rattle.promises.proofs.Commands
 use Rattle.promises.proofs.CommandCodes
 use Rattle.promises.proofs.WritingCodes
 use Rattle.promises.proofs.MovesCodes
+use Rattle.promises.proofs.Many
 
 -- 1.1 "Every request accepts any numbers and any image."
 -- No exported function (`crates/service/src`) has a `requires`: its contract holds of every input, and the code it gives is 0 or one of the paper's table.
@@ -192,6 +197,10 @@ pub moves-code-iff : (way : Way) (src target : List ℕ) (given : ℕ) (after : 
     → (code : ℕ) → given ≡ code ↔ GivesCode (MoveCases way src (length target)) code
 moves-code-iff = MovesCodes.moves-code-iff
 
+-- and many requests in one call (02 §9): "41 for the whole call .. if there are over 64 records or a part of one, or the answers have less room than the records"
+pub many-code-iff : (img records answers : List ℕ) (code : ℕ) → many img records answers .code ≡ code ↔ GivesCode (ManyCases records answers) code
+many-code-iff = Many.many-code-iff
+
 -- and the conversions; a field of these is for 1.1, one for 1.3
 pub radpk-demands : NumberDemands 3 NotRadix radpk
 radpk-demands = ConversionsDemands.radpk-demands
@@ -231,11 +240,18 @@ csi-write-kept = CsiWriteCauses.csi-write-kept
 pub moves-kept : (way : Way) (src target : List ℕ) (code : ℕ) (after : List ℕ) → Moving way src target code after → (code ≡ 0 → ⊥) → after ≡ target
 moves-kept way src target code after is refused = MovingCodes.refused-same is refused
 
+pub many-kept : (img records answers : List ℕ) → (many img records answers .code ≡ 0 → ⊥) → Unchanged (many img records answers) [] img answers
+many-kept = Many.many-kept
+
 -- 2.1 "From any consistent image, each request has exactly the effect and answer that the build document draws from the handbook."
 -- Each contract is an equation with the request's `outcome`, whose definition says every word that changes. It allows one result:
 pub one-result : (r : Request) (img : List ℕ) (a b : Result (contractOf r))
     → Meets (contractOf r) img (outcome r img) a → Meets (contractOf r) img (outcome r img) b → a ≡ b
 one-result = ContractSingle.one-result
+
+pub many-one : (img records answers : List ℕ) (a b : Result code-and-both)
+    → Meets code-and-both img (many img records answers) a → Meets code-and-both img (many img records answers) b → a ≡ b
+many-one = Many.many-one
 
 -- no word of the image changes but those that the request may change (`MayChange`, row by row from the paper),
 pub nothing-else : (r : Request) (img : List ℕ) (w : ℕ) → (MayChange r img w → ⊥) → wordAt (outcome r img .image) w ≡ wordAt img w
@@ -394,6 +410,45 @@ pub finish-again : (img : List ℕ) (caller : ℕ) → finish img caller .code �
     → finish (finish img caller .image) caller ≡ record { code = 0; numbers = 0 ∷ []; image = finish img caller .image; buffer = [] }
 finish-again = FinishEffect.finish-again
 
+-- 02 §9: "Take a lent list of request records": which request the words of a record name; each is made of the image that those before it left, so that every theorem
+-- over `Request` here holds of it; "A record that names no such request gets 41 and changes nothing, before code 40 is looked at", of any image
+pub record-names : (records : List ℕ) (i : ℕ) (o : Option Request) → NamedBy (wordOf records i) o ↔ requestIn (recordAt records i) ≡ o
+record-names = Many.names-iff
+
+module _ (img records : List ℕ) where
+  pub record-known : (i : ℕ) (r : Request) → NamedBy (wordOf records i) (some r) → recordOutcome img records i ≡ outcome r (imageBehind img records i)
+  record-known = Many.record-known img records
+
+  pub record-unknown : (i : ℕ) → NamedBy (wordOf records i) none
+      → recordOutcome img records i ≡ record { code = 0o41; numbers = []; image = imageBehind img records i; buffer = [] }
+  record-unknown = Many.record-unknown img records
+
+  pub images-begin : imageBehind img records 0 ≡ img
+  images-begin = Many.images-begin img records
+
+  pub images-go-on : (i : ℕ) → imageBehind img records (suc i) ≡ recordOutcome img records i .image
+  images-go-on = Many.images-go-on img records
+
+-- "Image and answers must equal those of the same requests made singly in that order": the image is the one that the last leaves, answer i what record i comes to,
+-- and the bytes behind the answers stay
+module _ (img records answers : List ℕ) (success : many img records answers .code ≡ 0) where
+  pub many-image : many img records answers .image ≡ imageBehind img records (length records / 32)
+  many-image = Many.many-image img records answers success
+
+  pub many-answers : (i : ℕ) → i < length records / 32 → Answers (many img records answers .buffer) i (recordOutcome img records i)
+  many-answers = Many.many-answers img records answers success
+
+  pub many-behind : (k : ℕ) → length records ≤ k → getD (many img records answers .buffer) k 0 ≡ getD answers k 0
+  many-behind = Many.many-behind img records answers success
+
+pub many-nothing : (img answers : List ℕ) → many img [] answers ≡ record { code = 0; numbers = []; image = img; buffer = answers }
+many-nothing = Many.many-nothing
+
+-- a file that no record names has its words and bytes
+pub many-untouched : (img records answers : List ℕ) → Consistent img → (who : Key) → NotNamed records who (length records / 32)
+    → Untouched who img (many img records answers .image)
+many-untouched = Many.many-untouched
+
 -- Format makes a consistent pack of any image, of the form, n and c that it is told (02 §7: "Format is told the form."), whose bodies are all free
 module _ (image : List ℕ) (form blocks contents : ℕ) (uics : List ℕ) (right : Formattable (length image) form blocks contents uics) where
   pub format-makes : Consistent (formatted image form blocks contents uics)
@@ -456,6 +511,9 @@ module _ {way : Way} {src target after : List ℕ} (done : Moving way src target
 
   pub moves-owner : (b : ℕ) → geometryOf src .bodies .0 ≤ b → ownerOf after (moved way b) ≡ ownerOf src b
   moves-owner = MovesPlain.moves-owner done
+
+pub many-consistent : (img records answers : List ℕ) → Consistent img → Consistent (many img records answers .image)
+many-consistent = Many.many-consistent
 
 -- any image is judged, exactly as document 01 says, and 02 in §7 and §11
 pub judged : (img : List ℕ) → consistent img ≡ true ↔ Consistent img

@@ -14,3 +14,4 @@ pub mod BytesAgain
 pub mod LinesAgain
 pub mod BinaryAgain
 pub mod BinaryExamples
+pub mod Many

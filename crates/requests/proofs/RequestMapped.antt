@@ -37,7 +37,7 @@ map-stays map img img′ same kept mapped tested =
     record { enough = omega (arith, m .enough, ap (λ (g : Geometry). g .blocks) (o .1)); says = λ b. m .says b ∙ sym (kept (o .0) b) }
 
 -- none of them is Format
-no-format : (r : Request) → Listable r → NotFormat r
+pub no-format : (r : Request) → Listable r → NotFormat r
 no-format r (alloc key caller protect segments) form blocks contents uics is = let z : _≡_ {A = ℕ} 0 1 = cc in absurd (omega (arith, z))
 no-format r (delet key caller) form blocks contents uics is = let z : _≡_ {A = ℕ} 0 1 = cc in absurd (omega (arith, z))
 no-format r (renam old name1 name2 extension protect caller) form blocks contents uics is = let z : _≡_ {A = ℕ} 0 1 = cc in absurd (omega (arith, z))

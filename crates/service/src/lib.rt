@@ -4,6 +4,7 @@ pub mod bodies;
 pub mod commands;
 pub mod conversions;
 pub mod entries;
+pub mod lists;
 pub mod moves;
 pub mod opens;
 pub mod packs;
