@@ -174,8 +174,8 @@ size_t abz_bin2o(size_t number, uint8_t *chars, size_t chars_len);
  * What the free blocks and those of contiguous files hold does not matter.
  *
  * Every call on an image but abz_format takes any bytes for it, of any length, and refuses with ABZ_INCONSISTENT
- * before all else where they are no consistent pack; abz_report then tells why. No call makes a consistent pack
- * inconsistent.
+ * before all else where they are no consistent pack; abz_report then tells why. abz_many puts this code into its
+ * answers. No call makes a consistent pack inconsistent.
  */
 
 /* The measures of form 1. Word 0 of an image says whether they are its. */
@@ -777,6 +777,65 @@ abz_write_answer abz_binary_write(uint8_t *image, size_t image_len, size_t calle
                                   size_t name1, size_t name2, size_t extension, size_t uic,
                                   const uint8_t *data, size_t data_len,
                                   uint8_t *gather, size_t gather_len, size_t filled);
+
+/*
+ * Many requests in one call
+ *
+ * A host that has several requests at hand need not call for each. It lends them as a list of records, and gets the
+ * answer of each in a list beside it. The image and the answers are those of the same requests made by the calls above,
+ * one after another in the order of the list: each is made of the image that those before it left, and what one of them
+ * is refused changes nothing for the others. The image is looked through once, whatever the list has.
+ *
+ * A record is 16 words, low byte first. Word 0 is the request, one of the numbers below; word 1 is the caller, and words
+ * 2 to 5 are name1, name2, extension and uic of the file, where uic 0 means the caller's:
+ *
+ *   word 0                  6                7                8                9
+ *   1   ALLOC               protect          segments
+ *   2   DELET
+ *   3   RENAM               new name1        new name2        new extension    protect
+ *   4   APPND               name1, name2, extension and uic of the second file
+ *   5   KEEP
+ *   6   OPENO               protect
+ *   7   OPENI
+ *   8   OPENU
+ *   9   OPENE
+ *   10  CLOSE               mode
+ *
+ * Words that are not named are not looked at; so words 10 to 15 never are. Where word 0 is any other number, that of no
+ * request or of one that a list may not have, the record's answer is ABZ_ARGUMENT, also where the image is no consistent
+ * pack, and it changes nothing.
+ *
+ * An answer is 16 words too, low byte first: word 0 is the code, word 1 is with ABZ_OK the first block of an ALLOC, and
+ * every other word is 0. The answer of record i, counted from 0, stands at byte 32 * i of the answers.
+ */
+
+enum {
+    ABZ_RECORD_BYTES = 32, /* of a record, and of an answer */
+    ABZ_RECORDS_MOST = 64  /* in one call */
+};
+
+/* The requests that a list may have. */
+enum {
+    ABZ_LIST_ALLOC = 1,
+    ABZ_LIST_DELET = 2,
+    ABZ_LIST_RENAM = 3,
+    ABZ_LIST_APPND = 4,
+    ABZ_LIST_KEEP  = 5,
+    ABZ_LIST_OPENO = 6,
+    ABZ_LIST_OPENI = 7,
+    ABZ_LIST_OPENU = 8,
+    ABZ_LIST_OPENE = 9,
+    ABZ_LIST_CLOSE = 10
+};
+
+/*
+ * Makes the requests of a list of records, and lays the answer of each into answers. The bytes behind the last answer
+ * stay. The code is that of the whole call: it says nothing of the answers. With no records it does nothing.
+ *   ABZ_ARGUMENT  records_len is that of more than 64 records, or not a multiple of 32; or answers_len is less than
+ *                 records_len.
+ */
+size_t abz_many(uint8_t *image, size_t image_len, const uint8_t *records, size_t records_len,
+                uint8_t *answers, size_t answers_len);
 
 /*
  * Command lines

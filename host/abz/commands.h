@@ -32,6 +32,7 @@ int command_append(char **arguments);
 int command_keep(char **arguments);
 int command_finish(char **arguments);
 int command_close(char **arguments);
+int command_run(char **arguments);
 
 /* Bytes of files, linked and contiguous */
 int command_put(char **arguments);

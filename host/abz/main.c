@@ -1,6 +1,6 @@
 /*
  * abz: the files of a pack, at the command line; and an example of a host of the service. How a host calls it is shown
- * in requests.c, closing.c, finish.c, bodies.c, text.c, binary.c, blocks.c, report.c, convert.c and reading.c, and how it replaces a file in
+ * in requests.c, closing.c, finish.c, run.c, bodies.c, text.c, binary.c, blocks.c, report.c, convert.c and reading.c, and how it replaces a file in
  * replace.c; the rest is what a program with files and arguments needs.
  */
 #include "commands.h"
@@ -81,6 +81,18 @@ static const command commands[] = {
       "left it behind. MODE says which; of input one reader goes. It may be\n"
       "missing where the file is open in one way only. With --all every open\n"
       "of MODE goes, or every open where MODE is missing." },
+    { "run", "PACK CALLER HOSTFILE", 3, 3, command_run,
+      "make the requests that stand in HOSTFILE, one in a line, each on what\n"
+      "those before it left: all of them, or none. Prints the first block of\n"
+      "each alloc, and how many requests there were. A line is one of these,\n"
+      "and one that is empty or begins with # is passed over:\n"
+      "    alloc FILE SEGMENTS [PROTECT]\n"
+      "    delete FILE\n"
+      "    rename OLD NEW PROTECT\n"
+      "    append FIRST SECOND\n"
+      "    keep FILE\n"
+      "    open FILE MODE [PROTECT]        PROTECT for output only\n"
+      "    close FILE MODE" },
     { "put", "[--binary] PACK CALLER FILE HOSTFILE [PROTECT]", 4, 5, command_put,
       "make a linked file with the bytes of HOSTFILE. It has 510 bytes in\n"
       "each block, in form 3 126; the last is filled up with NUL. With\n"
@@ -140,12 +152,12 @@ static const char rest_of_help[] =
     "\n"
     "Exit status: 0 if it was done; 1 if the service refused it, which is told with\n"
     "the code, if a file could not be read or written or is there already, if what\n"
-    "is entered is no text, or if a binary line is wrong; 2 if the arguments are\n"
-    "wrong whatever PACK holds, and then no file was opened. Unless it is 0, PACK\n"
-    "and a HOSTFILE to be replaced are as they were, also if a signal ended it (HUP,\n"
-    "INT, QUIT, TERM and the like). A KILL, or a stop of the computer, leaves each\n"
-    "as before or as after the command, and perhaps a file .abz-new.* beside it,\n"
-    "which the next command there clears away.\n"
+    "is entered is no text, if a line for run is no request, or if a binary line is\n"
+    "wrong; 2 if the arguments are wrong whatever PACK holds, and then no file was\n"
+    "opened. Unless it is 0, PACK and a HOSTFILE to be replaced are as they were,\n"
+    "also if a signal ended it (HUP, INT, QUIT, TERM and the like). A KILL, or a\n"
+    "stop of the computer, leaves each as before or as after the command, and\n"
+    "perhaps a file .abz-new.* beside it, which the next command there clears away.\n"
     "\n"
     "Example: a pack of 64 blocks for two users, and a file in it:\n"
     "  abz format station.pack 64 2 23,10 12,4\n"

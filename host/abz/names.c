@@ -161,6 +161,15 @@ bool read_name(const char *text, file_name *file)
     return true;
 }
 
+/* A file keeps its owner, so that a UIC here would be passed over in silence. */
+bool read_new_name(const char *text, file_name *file)
+{
+    if (strchr(text, '[') == NULL)
+        return read_name(text, file);
+    complain("'%s': a new name has no UIC, since a file keeps its owner", text);
+    return false;
+}
+
 bool is_same_name(file_name a, file_name b)
 {
     return a.name1 == b.name1 && a.name2 == b.name2 && a.extension == b.extension;

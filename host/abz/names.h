@@ -23,6 +23,7 @@ bool read_decimal(const char *what, const char *text, size_t least, size_t most,
 bool read_protect(const char *text, size_t *protect); /* octal; NULL leaves the number as it is */
 bool read_uic(const char *text, size_t *uic);         /* [23,10] or 23,10 */
 bool read_name(const char *text, file_name *file);    /* FREQ.DAT or FREQ.DAT[23,10] */
+bool read_new_name(const char *text, file_name *file); /* FREQ.DAT, of a file that keeps its owner */
 bool read_path(const char *what, const char *text);   /* of a file of this computer: only that it is not empty */
 
 /* Whether two files have one name and extension, whoever owns them. */

@@ -15,7 +15,6 @@
 #include "use.h"
 
 #include <stdio.h>
-#include <string.h>
 
 static pack_file pack;
 
@@ -179,15 +178,6 @@ int command_delete(char **arguments)
 static size_t present_protect(size_t caller, file_name file)
 {
     return abz_look(pack.image, pack.length, caller, FOUR(file)).protect;
-}
-
-/* A file keeps its owner, so that a UIC here would be passed over in silence. */
-static bool read_new_name(const char *text, file_name *file)
-{
-    if (strchr(text, '[') == NULL)
-        return read_name(text, file);
-    complain("'%s': a new name has no UIC, since a file keeps its owner", text);
-    return false;
 }
 
 int command_rename(char **arguments)

@@ -41,6 +41,7 @@ abz_write_answer abz_binary_write(uint8_t *, size_t, size_t, size_t, size_t, siz
 abz_answer abz_finish(uint8_t *, size_t, size_t);
 abz_answer abz_alloc(uint8_t *, size_t, size_t, size_t, size_t, size_t, size_t, size_t, size_t);
 size_t abz_openo(uint8_t *, size_t, size_t, size_t, size_t, size_t, size_t, size_t);
+size_t abz_many(uint8_t *, size_t, const uint8_t *, size_t, uint8_t *, size_t);
 
 abz_answer abz_csi1(const uint8_t *, size_t, uint8_t *, size_t);
 abz_specification abz_csi2(const uint8_t *, size_t, size_t, size_t, uint8_t *, size_t);

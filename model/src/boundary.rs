@@ -18,6 +18,7 @@ extern "C" {
     fn abz_look(image: *const u8, image_len: usize, caller: usize, name1: usize, name2: usize, extension: usize, uic: usize) -> LookAnswer;
     fn abz_keep(image: *mut u8, image_len: usize, caller: usize, name1: usize, name2: usize, extension: usize, uic: usize) -> usize;
     fn abz_finish(image: *mut u8, image_len: usize, caller: usize) -> Answer;
+    fn abz_many(image: *mut u8, image_len: usize, records: *const u8, records_len: usize, answers: *mut u8, answers_len: usize) -> usize;
     fn abz_owner(image: *const u8, image_len: usize, block: usize) -> OwnerAnswer;
     fn abz_report(image: *const u8, image_len: usize) -> crate::report::ReportAnswer;
     fn abz_to_form2(source: *const u8, source_len: usize, target: *mut u8, target_len: usize) -> usize;
@@ -113,6 +114,13 @@ pub fn keep(image: &mut [u8], caller: usize, file: File) -> usize {
 
 pub fn finish(image: &mut [u8], caller: usize) -> Answer {
     unsafe { abz_finish(image.as_mut_ptr(), image.len(), caller) }
+}
+
+#[rustfmt::skip]
+pub fn many(image: &mut [u8], records: &[u8], answers: &mut [u8]) -> usize {
+    unsafe {
+        abz_many(image.as_mut_ptr(), image.len(), records.as_ptr(), records.len(), answers.as_mut_ptr(), answers.len())
+    }
 }
 
 pub fn owner(image: &[u8], block: usize) -> OwnerAnswer {

@@ -4,6 +4,7 @@ mod binary;
 mod disk;
 mod finish;
 mod lines;
+mod many;
 mod map;
 mod moves;
 mod writing;

@@ -1,5 +1,5 @@
-//! The file service of document 01, with the lines, cleared blocks, bounds, writing, report, free map, moves, binary lines, 64-word disk and Finish of 02 (§1 to §4,
-//! §6 to §8 and §10 to §12), as a plain program, written from those papers and not from the library, so that the two can be run side by side. Nothing here is proved; what
+//! The file service of document 01, with the lines, cleared blocks, bounds, writing, report, free map, moves, lists of requests, binary lines, 64-word disk and Finish of 02 (§1 to §4,
+//! §6 to §12), as a plain program, written from those papers and not from the library, so that the two can be run side by side. Nothing here is proved; what
 //! counts is that it was written apart.
 
 pub mod answers;

@@ -4,6 +4,7 @@ use crate::binaries;
 use crate::call::{Call, Numbers};
 use crate::files::{new_file, old_file, pool_file, present, spoil};
 use crate::lines;
+use crate::lists;
 use crate::packs::{self, Seen};
 use crate::random::Random;
 use crate::request::Request;
@@ -40,6 +41,7 @@ pub fn call(random: &mut Random, request: Request, image: &[u8]) -> Call {
         }
         Request::Close => numbers_alone(closing(random, seen)),
         Request::Finish => numbers_alone(Numbers::One(finishing(random, seen))),
+        Request::Many => lists::list(random, image),
         Request::Owner => numbers_alone(Numbers::One(block(random, seen))),
         Request::ToForm2 => (Numbers::None, Vec::new(), target(random, seen, seen.blocks + 1)),
         Request::ToForm1 => (Numbers::None, Vec::new(), target(random, seen, seen.blocks - 1)),

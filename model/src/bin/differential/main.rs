@@ -10,6 +10,7 @@ mod drawing;
 mod files;
 mod lent;
 mod lines;
+mod lists;
 mod packs;
 mod random;
 mod reports;
@@ -22,6 +23,7 @@ mod wrong;
 
 use call::{Call, Numbers, Said};
 use lent::Lent;
+use lists::Lists;
 use model::command::grammar;
 use model::pack::consistency::examine;
 use model::pack::form::Form;
@@ -61,6 +63,7 @@ struct Report {
     damaged: usize,
     damaged_consistent: usize,
     reports: Reports,
+    lists: Lists,
 }
 
 fn main() -> ExitCode {
@@ -90,7 +93,8 @@ fn main() -> ExitCode {
         start.elapsed().as_secs_f64()
     );
     report.reports.print();
-    let missed: Vec<String> = report.tally.missed().into_iter().chain(report.reports.missed()).collect();
+    report.lists.print();
+    let missed = [report.tally.missed(), report.reports.missed(), report.lists.missed()].concat();
     for what in &missed {
         println!("NOT REACHED: {what}");
     }
@@ -201,6 +205,10 @@ fn compare(call: &Call, image: &mut Pair, report: &mut Report) -> Result<Said, S
     }
     let kept = image.model.slice() == before && buffer.model.slice() == call.buffer;
     differences.extend(faults(call, &model, kept));
+    if call.request == Request::Many && model[0] == 0 {
+        let made = (image.library.slice(), buffer.library.slice());
+        differences.extend(report.lists.compare(before, &call.line, made));
+    }
     if differences.is_empty() {
         return Ok(model);
     }

@@ -29,6 +29,7 @@ pub enum Request {
     Finish,
     ToForm2,
     ToForm1,
+    Many,
     Radpk,
     Radup,
     D2bin,
@@ -67,6 +68,7 @@ pub const ALL: &[Request] = &[
     Request::Finish,
     Request::ToForm2,
     Request::ToForm1,
+    Request::Many,
     Request::Radpk,
     Request::Radup,
     Request::D2bin,
@@ -97,6 +99,7 @@ impl Request {
             Request::Owner => &[0, 0o40, 0o44],
             Request::Finish => &[0, 0o40],
             Request::ToForm2 | Request::ToForm1 => &[0, 0o40, 0o41],
+            Request::Many => &[0, 0o41],
             Request::BlockIn | Request::BlockOut | Request::LinkedRead | Request::LineRead | Request::BinaryRead => {
                 &[0, 0o40, 0o15, 0o41, 0o2, 0o6, 0o43, 0o45, 0o44]
             }
@@ -143,13 +146,14 @@ impl Request {
             Request::Delet | Request::Renam | Request::Appnd | Request::Close | Request::LineEnd => 5,
             Request::Csi1 | Request::Csi2 | Request::CsiWrite | Request::LineRead | Request::LineWrite => 10,
             Request::BinaryRead | Request::BinaryWrite => 10,
-            Request::Look | Request::Keep | Request::Owner | Request::Finish => 3,
+            Request::Look | Request::Keep | Request::Owner | Request::Finish | Request::Many => 3,
             _ => 2,
         }
     }
 
-    /// Whether the request is on an image that must be a consistent pack.
+    /// Whether the request is on an image that is asked to be a consistent pack.
     pub fn is_on_pack(self) -> bool {
-        self.codes().contains(&0o40)
+        // A list has this code in its answers.
+        self.codes().contains(&0o40) || self == Request::Many
     }
 }
