@@ -40,5 +40,7 @@ pub mod WritingCodes
 pub mod MovesCodes
 pub mod ReportFault
 pub mod Many
+pub mod Sequence
+pub mod SequenceExamples
 pub mod Effects
 pub mod Main

@@ -1,6 +1,6 @@
 -- The order, sentence by sentence, in the customer's words, and under each the theorems that carry it. docs/PROMISES.md goes on from here.
 use Prim.Native.Nat.{ℕ, suc, _+_, _*_, _/_, _≤_, _<_}
-use mathlib.Core.Path.{_≡_, refl}
+use mathlib.Core.Path.{_≡_, refl, ap}
 use mathlib.Core.Logic.{_↔_, _⊎_}
 use mathlib.Core.Bool.{true}
 use mathlib.Core.List.{List, [], _∷_, _++_, map, flatten}
@@ -24,7 +24,7 @@ use Rattle.pack.specs.Form.{bodiesOf}
 use Rattle.pack.specs.Geometry.{geometryOf, slots, blockBytes, payloadBytes}
 use Rattle.pack.specs.Header.{Measured}
 use Rattle.pack.specs.File.{count}
-use Rattle.pack.specs.Entry.{entryOf, blocksAt}
+use Rattle.pack.specs.Entry.{entryWord, entryOf, blocksAt}
 use Rattle.pack.specs.Map.{HasMap}
 use Rattle.pack.specs.Consistent.{held, Consistent}
 use Rattle.pack.specs.Owner.{ownerOf, HeldAt, FreeBlock, storedLengths, freeCount}
@@ -99,7 +99,8 @@ use Rattle.moving.specs.Moved.{movedEntry, Bytes}
 use Rattle.moving.specs.Moving.{Moving}
 use Rattle.moving.proofs.MovingCodes
 use Rattle.moving.proofs.MovesPlain
-use Rattle.requests.specs.Request.{Request, outcome, Names, bufferLent}
+use Rattle.requests.specs.Request.{Request, outcome, Names, bufferLent, NotFormat}
+use Rattle.requests.specs.FileAt.{FileAt, NoFile}
 use Rattle.requests.specs.Contract.{code-and-both, Result, numbersIn, Meets, contractOf}
 use Rattle.requests.proofs.RequestConsistent
 use Rattle.requests.proofs.RequestRefused
@@ -117,6 +118,8 @@ use Rattle.promises.specs.CommandCodes.{Csi1Cases, Csi2Cases}
 use Rattle.promises.specs.WritingCodes.{CsiWriteCases}
 use Rattle.promises.specs.MovesCodes.{MoveCases}
 use Rattle.promises.specs.Many.{ManyCases, wordOf, NamedBy, NotNamed, Answers}
+use Rattle.promises.specs.Sequence.{Step, stepOutcome, imageAfterAll, RequestIn, Unnamed}
+use Rattle.promises.specs.SequenceExamples.{NamedExamples}
 use Rattle.promises.specs.AddedAgain.{openedImage}
 use Rattle.promises.specs.AllocZeros.{allocatedImage, readableImage, zeroBlock}
 use Rattle.promises.specs.Refused.{NotRadix, NotWord, TooLarge, NotNumeral}
@@ -149,6 +152,8 @@ use Rattle.promises.proofs.CommandCodes
 use Rattle.promises.proofs.WritingCodes
 use Rattle.promises.proofs.MovesCodes
 use Rattle.promises.proofs.Many
+use Rattle.promises.proofs.Sequence
+use Rattle.promises.proofs.SequenceExamples as NamedShown
 
 -- 1.1 "Every request accepts any numbers and any image."
 -- No exported function (`crates/service/src`) has a `requires`: its contract holds of every input, and the code it gives is 0 or one of the paper's table.
@@ -167,8 +172,9 @@ csi-write-answers = CsiWriteAnswers.csi-write-answers
 
 -- So is that of a move between forms (02 §8), each way: it allows an answer to any source, into any target. `Bytes`, that the numbers are below 256, holds of
 -- every slice: the contracts of both moves say so of the source and of the target behind the call.
-pub moves-answers : (way : Way) (src target : List ℕ) → Bytes src → (code : ℕ) × (after : List ℕ) × Moving way src target code after
-moves-answers way src target small = let answered = MovesPlain.moving-answered way src target small in (answered .code, answered .after, answered .is)
+pub moves-answers : (way : Way) (src target : List ℕ) → Bytes src → Bytes target → (code : ℕ) × (after : List ℕ) × Moving way src target code after × Bytes after
+moves-answers way src target small held =
+    let answered = MovesPlain.moving-answered way src target small in (answered .code, answered .after, answered .is, answered .bytes held)
 
 -- 1.2 "What cannot be done is refused with the code that the build document orders first,"
 -- Each request on an image gives each code exactly in its case (`specs/Codes.antt`), and the cases stand in the order of the paper's table.
@@ -423,6 +429,15 @@ module _ (img records : List ℕ) where
       → recordOutcome img records i ≡ record { code = 0o41; numbers = []; image = imageBehind img records i; buffer = [] }
   record-unknown = Many.record-unknown img records
 
+  -- so "Demands 1 and 2 hold of each record": every theorem over `Request` here, as those of its codes and of a refusal
+  pub record-code-iff : (i : ℕ) (r : Request) → NamedBy (wordOf records i) (some r) → (code : ℕ)
+      → recordOutcome img records i .code ≡ code ↔ GivesCode (casesOf r (imageBehind img records i)) code
+  record-code-iff i r named code = rw (record-known i r named) (code-iff r (imageBehind img records i) code)
+
+  pub record-kept : (i : ℕ) (r : Request) → NamedBy (wordOf records i) (some r) → (recordOutcome img records i .code ≡ 0 → ⊥)
+      → recordOutcome img records i .image ≡ imageBehind img records i
+  record-kept i r named = rw (record-known i r named) (λ refused. refusal-leaves r (imageBehind img records i) refused .same-image)
+
   pub images-begin : imageBehind img records 0 ≡ img
   images-begin = Many.images-begin img records
 
@@ -437,6 +452,9 @@ module _ (img records answers : List ℕ) (success : many img records answers .c
 
   pub many-answers : (i : ℕ) → i < length records / 32 → Answers (many img records answers .buffer) i (recordOutcome img records i)
   many-answers = Many.many-answers img records answers success
+
+  pub many-length : length (many img records answers .buffer) ≡ length answers
+  many-length = Many.many-length img records answers success
 
   pub many-behind : (k : ℕ) → length records ≤ k → getD (many img records answers .buffer) k 0 ≡ getD answers k 0
   many-behind = Many.many-behind img records answers success
@@ -504,7 +522,7 @@ module _ {way : Way} {src target after : List ℕ} (done : Moving way src target
 pub stays-consistent : (r : Request) {img : List ℕ} → Consistent img → Consistent (outcome r img .image)
 stays-consistent = RequestConsistent.stays-consistent
 
--- 02 §8: the target of a move is consistent, and each block of it is whose its twin is
+-- 02 §8: the target of a move is consistent, and each body of it is whose its twin is
 module _ {way : Way} {src target after : List ℕ} (done : Moving way src target 0 after) where
   pub moves-consistent : Consistent after
   moves-consistent = MovingCodes.moving-consistent done refl
@@ -564,6 +582,64 @@ unfolding storedLengths
 blocks-summed {img} right =
     let m = document-measures right in
     (geometryOf img .bodies .0, (m .bodies, omega (arith, sum-of-blocks right, m .blocks)))
+
+-- 02 §13: "from a consistent image, after any sequence of requests, a file that no request names by its name, extension and UIC, and whose owner calls no Finish, still
+-- has the same entry words and the same body bytes": the pack has the same measures, and so blocks of one size; the sixteen words of its entry are the same; its blocks,
+-- and so their number; and byte i of the block at every place of its body.
+-- The requests are in specs/Sequence.antt: a step of a sequence is any request, or a call of many; "Records of §9 count as requests".
+module _ {img : List ℕ} (right : Consistent img) (steps : List Step) (who : Key) (unnamed : Unnamed who steps) (e : ℕ) (there : FileAt img who e) where
+  pub unnamed-measures : geometryOf (imageAfterAll img steps) ≡ geometryOf img
+  unnamed-measures = Sequence.unnamed-measures steps who unnamed right e there
+
+  pub unnamed-words : (i : ℕ) → i < 16 → entryWord (imageAfterAll img steps) (geometryOf (imageAfterAll img steps)) e i ≡ entryWord img (geometryOf img) e i
+  unnamed-words = Sequence.unnamed-words steps who unnamed right e there
+
+  pub unnamed-blocks : blocksAt (imageAfterAll img steps) (geometryOf (imageAfterAll img steps)) e ≡ blocksAt img (geometryOf img) e
+  unnamed-blocks = Sequence.unnamed-blocks steps who unnamed right e there
+
+  pub unnamed-count : length (blocksAt (imageAfterAll img steps) (geometryOf (imageAfterAll img steps)) e) ≡ length (blocksAt img (geometryOf img) e)
+  unnamed-count = ap length unnamed-blocks
+
+  pub unnamed-bytes : (place : ℕ) → place < length (blocksAt img (geometryOf img) e) → (i : ℕ) → i < blockBytes (geometryOf img)
+      → getD (imageAfterAll img steps)
+      (getD (blocksAt (imageAfterAll img steps) (geometryOf (imageAfterAll img steps)) e) place 0 * blockBytes (geometryOf (imageAfterAll img steps)) + i) 0
+      ≡ getD img (getD (blocksAt img (geometryOf img) e) place 0 * blockBytes (geometryOf img) + i) 0
+  unnamed-bytes = Sequence.unnamed-bytes steps who unnamed right e there
+
+-- It is there afterwards exactly if it was there before, and at the same entry; so a file that is not there, and that nobody names, is not there afterwards either.
+-- Of any image: consistency, the paper's hypothesis, is not needed once Format is out, for every other request leaves an inconsistent image as it was
+-- (`sequence-inconsistent`).
+module _ (steps : List Step) (who : Key) (unnamed : Unnamed who steps) (img : List ℕ) where
+  pub unnamed-there : (e : ℕ) → FileAt img who e ↔ FileAt (imageAfterAll img steps) who e
+  unnamed-there = Sequence.unnamed-there steps who unnamed img
+
+  pub unnamed-absent : NoFile img who → NoFile (imageAfterAll img steps) who
+  unnamed-absent = Sequence.unnamed-absent steps who unnamed img
+
+  pub nobody-named : Untouched who img (imageAfterAll img steps)
+  nobody-named = Sequence.nobody-named steps who unnamed img
+
+pub sequence-inconsistent : (steps : List Step) → ((r : Request) → RequestIn r steps → NotFormat r) → (img : List ℕ) → (Consistent img → ⊥) → imageAfterAll img steps ≡ img
+sequence-inconsistent = Sequence.sequence-inconsistent
+
+-- every image on the way is consistent, Format or not: a beginning of a sequence is a sequence, and the rest goes on from what it leaves; and so between the records of a call
+pub sequence-consistent : (steps : List Step) {img : List ℕ} → Consistent img → Consistent (imageAfterAll img steps)
+sequence-consistent = Sequence.sequence-consistent
+
+pub sequence-append : (img : List ℕ) (front back : List Step) → imageAfterAll img (front ++ back) ≡ imageAfterAll (imageAfterAll img front) back
+sequence-append = Sequence.sequence-append
+
+pub images-consistent : (img records : List ℕ) → Consistent img → (count : ℕ) → Consistent (imageBehind img records count)
+images-consistent = Many.images-consistent
+
+-- what a refused request, or a refused call of many, adds to a sequence is nothing
+pub refused-nothing : (img : List ℕ) (front : List Step) (step : Step) (back : List Step) → (stepOutcome step (imageAfterAll img front) .code ≡ 0 → ⊥)
+    → imageAfterAll img (front ++ (step ∷ back)) ≡ imageAfterAll img (front ++ back)
+refused-nothing = Sequence.refused-nothing
+
+-- and a file that is named may be harmed: its owner's Finish, DELET, RENAM of it, APPND naming it second, Format; or made: OPENO, and RENAM onto its name
+pub named-examples : NamedExamples
+named-examples = NamedShown.named-examples
 
 -- 2.3 "A request for room with nothing else against it is refused exactly if no such room is free."
 module _ (img : List ℕ) (key : Key) (caller protect segments : ℕ) (clear : GivesCode (CreatingCases img key caller protect (segments ≡ 0)) 0) where

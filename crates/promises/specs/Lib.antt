@@ -15,3 +15,5 @@ pub mod LinesAgain
 pub mod BinaryAgain
 pub mod BinaryExamples
 pub mod Many
+pub mod Sequence
+pub mod SequenceExamples

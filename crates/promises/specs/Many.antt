@@ -22,7 +22,7 @@ ManyCases records answers =
 abbrev pub wordOf : List ℕ → ℕ → ℕ → ℕ
 wordOf bytes i k = wordAt bytes (16 * i + k)
 
--- "a file is four numbers", here words 2 to 5, and of APPND's second file words 6 to 9; "UIC 0 means the caller's", who is word 1
+-- a file's two name words, extension and UIC are words 2 to 5, and those of APPND's second file words 6 to 9; "UIC 0 in a request means the caller's.", who is word 1
 module _ (word : ℕ → ℕ) where
   abbrev pub fileNamed : Key
   fileNamed = keyOf (word 1) (word 2) (word 3) (word 4) (word 5)

@@ -15,3 +15,5 @@ pub mod ChangesFinish
 pub mod ChangesLines
 pub mod Changes
 pub mod ContractSingle
+pub mod RequestKeys
+pub mod RequestFiles

@@ -4,3 +4,4 @@ pub mod RequestMap
 pub mod Changes
 pub mod Taken
 pub mod Contract
+pub mod FileAt
