@@ -1,7 +1,7 @@
 /*
  * abz: the files of a pack, at the command line; and an example of a host of the service. How a host calls it is shown
- * in requests.c, closing.c, finish.c, run.c, bodies.c, text.c, binary.c, blocks.c, report.c, convert.c and reading.c, and how it replaces a file in
- * replace.c; the rest is what a program with files and arguments needs.
+ * in requests.c, closing.c, finish.c, run.c, bodies.c, text.c, binary.c, blocks.c, report.c, convert.c and reading.c,
+ * and how it replaces a file in replace.c; the rest is what a program with files and arguments needs.
  */
 #include "commands.h"
 #include "files.h"
