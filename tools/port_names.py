@@ -35,11 +35,20 @@ def new(name):
 def declared(text):
     """Top declarations, fields and constructors of a file of definitions or lemmas."""
     found, fields = set(), set()
-    block = None
+    block = inner = None
     for line in text.split("\n"):
         if re.match(r"\s*--", line) or line.startswith(("use ", "open ", "mod ", "pub mod ", "pub use ", "unfolding ")):
             continue
+        nested = re.match(r"(\s+)(?:pub )?(record|data) ", line)
+        if nested:
+            inner = nested.group(2), len(nested.group(1))
+            continue
+        if inner and line.strip() and len(line) - len(line.lstrip()) <= inner[1]:
+            inner = None
         m = re.match(r"\s+((?:abbrev |unfoldable |pub )*)(" + NAME + r") : ", line)
+        if m and inner and inner[0] == "record":
+            fields.add(m.group(2))
+            continue
         if m and block not in ("record", "data"):
             found.add(m.group(2))
             continue

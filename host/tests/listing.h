@@ -7,8 +7,7 @@
 
 #include "check.h"
 
-/* $EMULATOR is empty where the machine runs the program itself (host/tests/run) */
-#define LISTING "$EMULATOR target/bin/listing"
+#define LISTING "target/bin/listing"
 #define LISTED "target/host/listed.image"
 
 enum { LISTING_ROOM = 20480 }; /* more than any listing needs: form 2 has up to 512 files */

@@ -6,7 +6,7 @@
 #include "image.h"
 #include "listing.h"
 
-#define REPORT "$EMULATOR target/bin/report"
+#define REPORT "target/bin/report"
 #define REPORTED "target/host/reported.image"
 
 enum { LONGEST = 65536, ROOM = LONGEST + 2 * BLOCK_MOST, ME = 023 * 256 + 010, N = 32 };

@@ -43,7 +43,7 @@ same_access : (x y : Entry) (caller : ℕ) → y.uic ≡ x.uic → y.protect ≡
     → Accessed x caller Write 1 (not (open_for_adding x)) → Accessed y caller Write 1 (not (open_for_adding y))
 same_access x y caller uic protect kind writer a =
     record {
-      right_given = ap (λ (u : ℕ). may Write caller u y.protect) uic ∙ ap (may Write caller x.uic) protect ∙ a.right-given;
+      right_given = ap (λ (u : ℕ). may Write caller u y.protect) uic ∙ ap (may Write caller x.uic) protect ∙ a.right_given;
       kind = λ is. a.kind (sym kind ∙ is);
       opened = ap (λ (w : ℕ). not (eqb w 2 || eqb w 3)) writer ∙ a.opened;
     }

@@ -169,7 +169,7 @@ module _ (img : List ℕ) (key : Key) (caller : ℕ) (payload : List ℕ) (size 
   unfolding linked_add
   linked_add_denied code told =
       let r = stage_is_refused rows img key code (refused_in (added_block img) (stage_of rows img key) (at_stated ∙ told)) in
-      let a = refused_answer rows img payload _ r.first r.not-zero in
+      let a = refused_answer rows img payload _ r.first r.not_zero in
       (a.0, (a.1, a.2))
 
   module _ (g : Geometry) (e : ℕ) (b : BlockNo) (told : adding ≡ Block g e b) where

@@ -38,7 +38,7 @@ abbrev pub added_block : List ℕ → ℕ
 added_block img = or_else 0 (highest_free img)
 
 -- what may change: words 6 to 8 of the entry, the new block, the link of the last block of a file that has one, and the word of the map that has the
--- new block's bit (`linked-add-changes`)
+-- new block's bit (`linked_add_changes`)
 abbrev pub AddWords : Geometry → ℕ → Entry → ℕ → ℕ → Type 0
 AddWords g e x b w = InWords g e 6 8 w ⊎ (InBlock g b w ⊎ (((0 < x.length) × (w ≡ block_at g x.last.0)) ⊎ MapWord g b w))
 

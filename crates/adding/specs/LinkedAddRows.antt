@@ -1,5 +1,5 @@
--- Means: the rows of tests of linked add; `code-iff` (promises) ties them to the propositions of the paper.
-use Rattle.std.specs.Prelude.{ℕ, ◌+◌, Bool, not, ◌||◌, List, [], ◌∷◌, ◌++◌, eqb, ltb}
+-- Means: the rows of tests of linked add; `code_iff` (promises) ties them to the propositions of the paper.
+use Rattle.std.specs.Prelude.{ℕ, Bool, not, ◌||◌, List, [], ◌∷◌, ◌++◌, eqb, ltb}
 use Rattle.answers.specs.Refusals.{Row, row}
 use Rattle.pack.specs.declared.Entry.{Entry}
 use Rattle.pack.specs.declared.Key.{Key}

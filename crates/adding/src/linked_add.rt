@@ -20,7 +20,7 @@ use pack::{BlockNo, Entry, Geometry, Key};
 use room::{Blocks, Run};
 
 // The pack's measures, the entry of the file, and the block that is added to it; or a refusal's code.
-#[derive(Drop)]
+#[derive(Clone, Copy)]
 enum Adding {
     Block(Geometry, usize, BlockNo),
     Refused(usize),

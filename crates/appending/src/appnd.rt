@@ -13,14 +13,14 @@ use consistency::Opened;
 use pack::{Entry, Geometry, Key};
 
 // The entries of two files, or that one of them is missing.
-#[derive(Drop)]
+#[derive(Clone, Copy)]
 enum Both {
     Files(usize, Entry, usize, Entry),
     Missing,
 }
 
 // What to join: the measures, the first file's entry and its number, the second's; or a refusal's code.
-#[derive(Drop)]
+#[derive(Clone, Copy)]
 enum Appending {
     Join(Geometry, usize, Entry, usize, Entry),
     Refused(usize),

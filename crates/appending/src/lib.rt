@@ -1,2 +1,4 @@
 // APPND: two linked files made one.
+#![tactic(auto)]
+
 pub mod appnd;

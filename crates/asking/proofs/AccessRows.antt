@@ -65,7 +65,7 @@ module _ (x : Entry) (caller : ℕ) (right : Right) (other : ℕ) (closed : Bool
   access_coded = refl
 
   pub accessed_clear : Accessed → first_of (access_rows x caller right other closed) ≡ 0
-  accessed_clear a = sym (code_0 Granted (sym a.right-given) refl a.kind a.opened)
+  accessed_clear a = sym (code_0 Granted (sym a.right_given) refl a.kind a.opened)
 
   pub clear_accessed : first_of (access_rows x caller right other closed) ≡ 0 → Accessed
   unfolding access_rows

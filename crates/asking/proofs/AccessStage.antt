@@ -76,8 +76,8 @@ module _ (img : List ℕ) (key : Key) (wrong : Bool) (caller : ℕ) (right : Rig
     unreached_rows {code} is =
         let r = stage_is_refused front img key code is in
         record {
-          first = ap first_of (sym (append_assoc (file_rows img key wrong) (of (file_of img key)) more)) ∙ behind_refused more front r.first r.not-zero;
-          not_zero = r.not-zero;
+          first = ap first_of (sym (append_assoc (file_rows img key wrong) (of (file_of img key)) more)) ∙ behind_refused more front r.first r.not_zero;
+          not_zero = r.not_zero;
         }
 
     -- where no row is given at all
@@ -92,7 +92,7 @@ module _ (img : List ℕ) (key : Key) (wrong : Bool) (caller : ℕ) (right : Rig
     module _ (buffer : List ℕ) (effect : Outcome) where
       pub outcome_unreached : {code : ℕ} → accessed_of img key wrong caller right other closed ≡ Refused code
           → settled (all more) img buffer effect ≡ record { code = code; numbers = zeroed effect.numbers; image = img; buffer = buffer }
-      outcome_unreached is = let r = unreached_rows is in settled_refused (all more) img buffer effect r.first r.not-zero
+      outcome_unreached is = let r = unreached_rows is in settled_refused (all more) img buffer effect r.first r.not_zero
 
       module _ {g : Geometry} {e : ℕ} {x : Entry} (reached : Reached g e x) where
         pub outcome_stopped : {code : ℕ} → first_of more ≡ code → (code ≡ 0 → ⊥)

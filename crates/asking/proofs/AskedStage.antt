@@ -77,7 +77,7 @@ unfolding file_of
 file_found_law img key g e measures there =
     ap (λ (h : Geometry). entry_of img h (entry_no img key)) measures ∙ ap (entry_of img g) (number_found img key there)
 
--- The file of a name: where an entry has a legal key, it is the key's file. Where none has it `entryNo` says 0, and nothing rests on that.
+-- The file of a name: where an entry has a legal key, it is the key's file. Where none has it `entry_no` says 0, and nothing rests on that.
 pub file_of_name : {img : List ℕ} → Consistent img → (key : Key) → legal_key key ≡ true → (e : ℕ) → e < slots (geometry_of img)
     → SameKey (key_in (entry_of img (geometry_of img) e)) key → (entry_no img key ≡ e) × (file_of img key ≡ entry_of img (geometry_of img) e)
 file_of_name {img} right key legal e inside keyed =
@@ -151,7 +151,7 @@ module _ (rows : List Row) (img : List ℕ) (key : Key) where
 
   pub stage_refuses : {code : ℕ} → Refusal code → Refused code ≡ stage_of rows img key
   unfolding stage_of on_success
-  stage_refuses {code} r = rw (r.first, ne_eqb code 0 r.not-zero)
+  stage_refuses {code} r = rw (r.first, ne_eqb code 0 r.not_zero)
 
   pub stage_gives : {g : Geometry} {e : ℕ} {x : Entry} → Given g e x → File g e x ≡ stage_of rows img key
   unfolding stage_of on_success
@@ -183,7 +183,7 @@ module _ (rows : List Row) (img : List ℕ) (key : Key) where
   module _ (buffer : List ℕ) (effect : Outcome) where
     pub outcome_refused : (code : ℕ) → stage_of rows img key ≡ Refused code
         → settled rows img buffer effect ≡ record { code = code; numbers = zeroed effect.numbers; image = img; buffer = buffer }
-    outcome_refused code is = let r = stage_is_refused code is in settled_refused rows img buffer effect r.first r.not-zero
+    outcome_refused code is = let r = stage_is_refused code is in settled_refused rows img buffer effect r.first r.not_zero
 
     pub outcome_file : (g : Geometry) (e : ℕ) (x : Entry) → stage_of rows img key ≡ File g e x
         → settled rows img buffer effect ≡ record { code = 0; numbers = effect.numbers; image = effect.image; buffer = effect.buffer }
@@ -197,7 +197,7 @@ module _ (rows : List Row) (img : List ℕ) (key : Key) where
     pub writing_refused : (code : ℕ) → decision ≡ Refused code → (code ≡ outcome.code) × (img ≡ outcome.image)
     writing_refused code told =
         let r = stage_is_refused code (sym is ∙ told) in
-        let o = refused_answer rows img [] _ r.first r.not-zero in
+        let o = refused_answer rows img [] _ r.first r.not_zero in
         (o.0, o.2)
 
     pub writing_done : (g : Geometry) (e : ℕ) (x : Entry) → decision ≡ File g e x → (img' : List ℕ) → img' ≡ write g e x
@@ -220,7 +220,7 @@ asked_is_refused img key wrong code is = stage_is_refused (file_rows img key wro
 -- the rows of a request begin with those of the stage
 module _ (img : List ℕ) (key : Key) (wrong : Bool) (more : List Row) where
   pub file_refused : {code : ℕ} → FileRefused img key wrong code → first_of (file_rows img key wrong ++ more) ≡ code
-  file_refused r = behind_refused more (file_rows img key wrong) r.first r.not-zero
+  file_refused r = behind_refused more (file_rows img key wrong) r.first r.not_zero
 
   pub file_clear : {g : Geometry} {e : ℕ} {x : Entry} → FileAsked img key wrong g e x → first_of (file_rows img key wrong ++ more) ≡ first_of more
   unfolding file_rows first_of
@@ -260,7 +260,7 @@ module _ (img : List ℕ) (key : Key) (wrong : Bool) (more : Entry → List Row)
     pub stage_refused : (code : ℕ) → asked ≡ Refused code → Refused code ≡ stage_of all img key
     stage_refused code told =
         let r = asked_is_refused img key wrong code (sym is ∙ told) in
-        stage_refuses all img key (record { first = file_refused img key wrong (more (file_of img key)) r; not_zero = r.not-zero })
+        stage_refuses all img key (record { first = file_refused img key wrong (more (file_of img key)) r; not_zero = r.not_zero })
 
     module _ (g : Geometry) (e : ℕ) (x : Entry) (told : asked ≡ File g e x) {code : ℕ} (judged : first_of (more x) ≡ code) where
       rest_decides : first_of all ≡ code

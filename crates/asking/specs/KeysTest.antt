@@ -1,4 +1,4 @@
--- Means: is a key legal, and which entry has it? `legal-iff`, `found-iff`, `absent-iff` (proofs/Keys.antt) tie them to the rules and the entries.
+-- Means: is a key legal, and which entry has it? `legal_iff`, `found_iff`, `absent_iff` (proofs/Keys.antt) tie them to the rules and the entries.
 use Rattle.std.specs.Prelude.{Bool, ◌&&◌, cond, ℕ, suc, zero, ◌+◌, List}
 use Rattle.radix.specs.NamesTest.{legal_name, legal_extension}
 use Rattle.pack.specs.declared.Key.{Key}

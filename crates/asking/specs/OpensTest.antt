@@ -1,4 +1,4 @@
--- Means: is a file open, and does it have all the opens that there may be? `open-iff`, `full-iff` (proofs) tie them to the number of opens.
+-- Means: is a file open, and does it have all the opens that there may be? `open_iff`, `full_iff` (proofs) tie them to the number of opens.
 use Rattle.std.specs.Prelude.{Bool, leb, ltb}
 use Rattle.pack.specs.declared.Entry.{Entry}
 use Rattle.asking.specs.Opens.{opens}

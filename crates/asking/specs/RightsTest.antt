@@ -1,4 +1,4 @@
--- Means: rights as a test; `may-iff` (proofs/Rights.antt) ties it to `May`.
+-- Means: rights as a test; `may_iff` (proofs/Rights.antt) ties it to `May`.
 use Rattle.std.specs.Prelude.{ℕ, ◌/◌, ◌%◌, Bool, true, cond, eqb, leb}
 use Rattle.asking.specs.declared.Right.{Right}
 use Rattle.asking.specs.declared.Right.TheVariants.{Delete, Write, Read}

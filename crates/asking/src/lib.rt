@@ -1,4 +1,6 @@
 // What all requests share: the key of a file, finding its entry, rights, opens.
+#![tactic(auto)]
+
 pub mod access;
 
 ghost use Rattle.std.specs.Prelude.{◌≡◌};
@@ -16,27 +18,27 @@ use pack::{Entry, Geometry, Key};
 use radix::Radix50;
 
 // An entry, or that there is none.
-#[derive(Drop)]
+#[derive(Clone, Copy)]
 pub enum Found {
     At(usize),
     Nothing,
 }
 
-#[derive(Drop)]
+#[derive(Clone, Copy)]
 pub enum Right {
     Delete,
     Write,
     Read,
 }
 
-#[derive(Drop)]
+#[derive(Clone, Copy)]
 pub enum Grant {
     Granted,
     Denied,
 }
 
 // The file of a key: the pack's measures, its entry's number, and its entry; or a refusal's code.
-#[derive(Drop)]
+#[derive(Clone, Copy)]
 pub enum Asked {
     File(Geometry, usize, Entry),
     Refused(usize),

@@ -32,24 +32,24 @@ nothing_given : (f : BinaryFound) → (f.to_come ≡ 0) × (f.sum ≡ 0) → wro
 nothing_given f g = rw (g.0, g.1)
 
 -- whatever a reading gives back may be
-pub given_again : (mode : LineMode) (most toCome sum : ℕ) (s : List ℕ) → 0 < most → toCome ≤ 511
-    → wrong_given (binary_found mode most toCome sum s).to_come (binary_found mode most toCome sum s).sum ≡ false
-given_again Normal most toCome sum s some few =
-    nothing_given (binary_found Normal most toCome sum s) (normal_given_none most toCome sum s)
-given_again Special most toCome sum s some few = by (ℕ_discrete (binary_found Special most toCome sum s).status 1)
+pub given_again : (mode : LineMode) (most to_come sum : ℕ) (s : List ℕ) → 0 < most → to_come ≤ 511
+    → wrong_given (binary_found mode most to_come sum s).to_come (binary_found mode most to_come sum s).sum ≡ false
+given_again Normal most to_come sum s some few =
+    nothing_given (binary_found Normal most to_come sum s) (normal_given_none most to_come sum s)
+given_again Special most to_come sum s some few = by (ℕ_discrete (binary_found Special most to_come sum s).status 1)
   where
-    by : Dec ((binary_found Special most toCome sum s).status ≡ 1)
-        → wrong_given (binary_found Special most toCome sum s).to_come (binary_found Special most toCome sum s).sum ≡ false
+    by : Dec ((binary_found Special most to_come sum s).status ≡ 1)
+        → wrong_given (binary_found Special most to_come sum s).to_come (binary_found Special most to_come sum s).sum ≡ false
     by (yes one) =
-        let g = special_given most toCome sum s some (omega arith) one in
-        let f = binary_found Special most toCome sum s in
+        let g = special_given most to_come sum s some (omega arith) one in
+        let f = binary_found Special most to_come sum s in
         right_given f.to_come f.sum g.1 g.2 (λ is. absurd (omega (arith, g.0, is)))
-    by (no other) = nothing_given (binary_found Special most toCome sum s) (special_given_none most toCome sum s other)
+    by (no other) = nothing_given (binary_found Special most to_come sum s) (special_given_none most to_come sum s other)
 
-module _ (img : List ℕ) (key : Key) (caller mode position toCome sum : ℕ) (buffer : List ℕ)
-    (none : (binary_read img key caller mode position toCome sum buffer).code ≡ 0) where
+module _ (img : List ℕ) (key : Key) (caller mode position to_come sum : ℕ) (buffer : List ℕ)
+    (none : (binary_read img key caller mode position to_come sum buffer).code ≡ 0) where
   abbrev found : BinaryFound
-  found = binary_found (mode_of mode) (length buffer) toCome sum (bytes_behind img key position)
+  found = binary_found (mode_of mode) (length buffer) to_come sum (bytes_behind img key position)
 
   pub bytes_next : bytes_behind img key (position + found.passed) ≡ drop found.passed (bytes_behind img key position)
   bytes_next = sym (drop-drop found.passed position (payloads_of img (geometry_of img) (blocks_of img (geometry_of img) (file_of img key))))
@@ -63,12 +63,12 @@ module _ (img : List ℕ) (key : Key) (caller mode position toCome sum : ℕ) (b
       passed
       ∙ ap (λ (s : List ℕ). binary_outcome img (position + found.passed) buffer' (binary_found (mode_of mode') (length buffer') found.to_come found.sum s)) bytes_next
     where
-      r : BinaryAsked img key caller mode toCome sum buffer (geometry_of img) (entry_no img key) (file_of img key)
+      r : BinaryAsked img key caller mode to_come sum buffer (geometry_of img) (entry_no img key) (file_of img key)
           × (position ≤ (file_of img key).length * payload_bytes (geometry_of img))
-      r = binary_read_clear img key caller mode position toCome sum buffer none
+      r = binary_read_clear img key caller mode position to_come sum buffer none
 
       again : wrong_asking mode' found.to_come found.sum buffer' ≡ false
-      again = rw right (given_again (mode_of mode) (length buffer) toCome sum (bytes_behind img key position) (asked_room r.0) (asked_given r.0).0)
+      again = rw right (given_again (mode_of mode) (length buffer) to_come sum (bytes_behind img key position) (asked_room r.0) (asked_given r.0).0)
 
       reached' : BinaryAsked img key caller mode' found.to_come found.sum buffer' (geometry_of img) (entry_no img key) (file_of img key)
       reached' =
@@ -82,7 +82,7 @@ module _ (img : List ℕ) (key : Key) (caller mode position toCome sum : ℕ) (b
       inside =
           omega (
             arith,
-            passed_most (mode_of mode) (length buffer) toCome sum (bytes_behind img key position),
+            passed_most (mode_of mode) (length buffer) to_come sum (bytes_behind img key position),
             bytes_left r.0.reached position,
             r.1,
           )

@@ -1,5 +1,5 @@
 -- For the loops that will read: NULs passed one by one; the data laid and added part by part; and the buffer and the count that a reading leaves.
-use Prim.Native.Nat.{ℕ, suc, ◌+◌, ◌-◌, ◌≤◌, ◌<◌, min}
+use Prim.Native.Nat.{ℕ, suc, ◌≤◌, ◌<◌, min}
 use mathlib.Core.Path.{◌≡◌, refl, sym}
 use mathlib.Core.List.{List, ◌∷◌, ◌++◌}
 use native.Mathlib.Omega.{arith}
@@ -34,37 +34,37 @@ module _ (s : List ℕ) (i : ℕ) (there : i < length s) where
       here : (x : ℕ) (t : List ℕ) → (x ≡ 0 → ⊥) → drop (nuls_before (x ∷ t)) (x ∷ t) ≡ x ∷ t
       here x t other = rw (none x t other)
 
-module _ (most toCome sum : ℕ) (s : List ℕ) where
+module _ (most to_come sum : ℕ) (s : List ℕ) where
   -- where a reading goes on to the end of the data, the limit is none
-  limit_all : {mode : LineMode} → GoesOn most toCome s mode → toCome < length s → limit_of mode most toCome ≡ toCome
+  limit_all : {mode : LineMode} → GoesOn most to_come s mode → to_come < length s → limit_of mode most to_come ≡ to_come
   limit_all surplus_over all = refl
   limit_all (held fits) all = omega arith
   limit_all (ends_before few) all = omega arith
 
-  limit_end : {mode : LineMode} → GoesOn most toCome s mode → length s ≤ toCome → length s ≤ limit_of mode most toCome
+  limit_end : {mode : LineMode} → GoesOn most to_come s mode → length s ≤ to_come → length s ≤ limit_of mode most to_come
   limit_end surplus_over few = few
   limit_end (held fits) few = omega arith
   limit_end (ends_before less) few = omega arith
 
   -- the buffer behind a reading, in either mode: so many bytes laid one after another
-  buffer_case : {mode : LineMode} {kind : Kind} {f : BinaryFound} (buffer : List ℕ) → length buffer ≡ most → 0 < most → DataCase most toCome sum s mode kind f
-      → f.laid ++ drop (length f.laid) buffer ≡ laid_all most buffer 0 (take (limit_of mode most toCome) s)
+  buffer_case : {mode : LineMode} {kind : Kind} {f : BinaryFound} (buffer : List ℕ) → length buffer ≡ most → 0 < most → DataCase most to_come sum s mode kind f
+      → f.laid ++ drop (length f.laid) buffer ≡ laid_all most buffer 0 (take (limit_of mode most to_come) s)
   buffer_case buffer long some (buffer_full less full) =
-      let limit : min toCome most ≡ most = omega arith in
+      let limit : min to_come most ≡ most = omega arith in
       rw limit (sym (laid_front most buffer long (take most s) (omega (arith, length-take most s))))
-  buffer_case buffer long some (line_read on all) = rw (limit_all on all) (sym (laid_all_law most buffer long (take toCome s) some))
+  buffer_case buffer long some (line_read on all) = rw (limit_all on all) (sym (laid_all_law most buffer long (take to_come s) some))
   buffer_case {mode} buffer long some (data_ended on few) =
-      rw (take_all (limit_of mode most toCome) s (limit_end on few)) (sym (laid_all_law most buffer long s some))
+      rw (take_all (limit_of mode most to_come) s (limit_end on few)) (sym (laid_all_law most buffer long s some))
 
   pub data_buffer : (mode : LineMode) (buffer : List ℕ) → length buffer ≡ most → 0 < most
-      → (data_found mode most toCome sum s).laid ++ drop (length (data_found mode most toCome sum s).laid) buffer
-      ≡ laid_all most buffer 0 (take (limit_of mode most toCome) s)
-  data_buffer mode buffer long some = buffer_case buffer long some (data_case most toCome sum s mode)
+      → (data_found mode most to_come sum s).laid ++ drop (length (data_found mode most to_come sum s).laid) buffer
+      ≡ laid_all most buffer 0 (take (limit_of mode most to_come) s)
+  data_buffer mode buffer long some = buffer_case buffer long some (data_case most to_come sum s mode)
 
-  count_case : {mode : LineMode} {kind : Kind} {f : BinaryFound} → DataCase most toCome sum s mode kind f → f.count ≡ min (limit_of mode most toCome) (length s)
+  count_case : {mode : LineMode} {kind : Kind} {f : BinaryFound} → DataCase most to_come sum s mode kind f → f.count ≡ min (limit_of mode most to_come) (length s)
   count_case (buffer_full less full) = omega arith
   count_case (line_read on all) = omega (arith, limit_all on all)
   count_case (data_ended on few) = omega (arith, limit_end on few)
 
-  pub data_count : (mode : LineMode) → (data_found mode most toCome sum s).count ≡ min (limit_of mode most toCome) (length s)
-  data_count mode = count_case (data_case most toCome sum s mode)
+  pub data_count : (mode : LineMode) → (data_found mode most to_come sum s).count ≡ min (limit_of mode most to_come) (length s)
+  data_count mode = count_case (data_case most to_come sum s mode)

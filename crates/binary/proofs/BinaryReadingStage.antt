@@ -33,72 +33,72 @@ or_false true b is = absurd (true≢false is)
 or_false false b is = (refl, is)
 
 -- what is passed in, where it is not refused
-pub given_right : (toCome sum : ℕ) → wrong_given toCome sum ≡ false → (toCome ≤ 511) × (sum ≤ 255) × (toCome ≡ 0 → sum ≡ 0)
-given_right toCome sum right =
-    let a = or_false (ltb 511 toCome) _ right in
+pub given_right : (to_come sum : ℕ) → wrong_given to_come sum ≡ false → (to_come ≤ 511) × (sum ≤ 255) × (to_come ≡ 0 → sum ≡ 0)
+given_right to_come sum right =
+    let a = or_false (ltb 511 to_come) _ right in
     let b = or_false (ltb 255 sum) _ a.1 in
-    (ltb-false 511 toCome a.0, ltb-false 255 sum b.0, λ none. by (eqb toCome 0) (eqb sum 0) refl refl b.1 none)
+    (ltb-false 511 to_come a.0, ltb-false 255 sum b.0, λ none. by (eqb to_come 0) (eqb sum 0) refl refl b.1 none)
   where
-    by : (n z : Bool) → eqb toCome 0 ≡ n → eqb sum 0 ≡ z → (n && not z) ≡ false → toCome ≡ 0 → sum ≡ 0
+    by : (n z : Bool) → eqb to_come 0 ≡ n → eqb sum 0 ≡ z → (n && not z) ≡ false → to_come ≡ 0 → sum ≡ 0
     by true true n z is none = eqb-true sum 0 z
     by true false n z is none = absurd (true≢false is)
-    by false z' n z is none = absurd (eqb-false toCome 0 n none)
+    by false z' n z is none = absurd (eqb-false to_come 0 n none)
 
-pub right_given : (toCome sum : ℕ) → toCome ≤ 511 → sum ≤ 255 → (toCome ≡ 0 → sum ≡ 0) → wrong_given toCome sum ≡ false
-right_given toCome sum few low none = rw (le-ltb 511 toCome few, le-ltb 255 sum low) (by (ℕ_discrete toCome 0))
+pub right_given : (to_come sum : ℕ) → to_come ≤ 511 → sum ≤ 255 → (to_come ≡ 0 → sum ≡ 0) → wrong_given to_come sum ≡ false
+right_given to_come sum few low none = rw (le-ltb 511 to_come few, le-ltb 255 sum low) (by (ℕ_discrete to_come 0))
   where
-    by : Dec (toCome ≡ 0) → (eqb toCome 0 && not (eqb sum 0)) ≡ false
-    by (yes is) = rw (eq-eqb toCome 0 is, eq-eqb sum 0 (none is))
-    by (no other) = rw (ne_eqb toCome 0 other)
+    by : Dec (to_come ≡ 0) → (eqb to_come 0 && not (eqb sum 0)) ≡ false
+    by (yes is) = rw (eq-eqb to_come 0 is, eq-eqb sum 0 (none is))
+    by (no other) = rw (ne_eqb to_come 0 other)
 
 -- a file that passed the stage
-pub record BinaryAsked (img : List ℕ) (key : Key) (caller mode toCome sum : ℕ) (buffer : List ℕ) (g : Geometry) (e : ℕ) (x : Entry) : Type 0 where
-  pub reached : Reached img key (wrong_asking mode toCome sum buffer) caller Read 1 (λ y. eqb y.readers 0) g e x
+pub record BinaryAsked (img : List ℕ) (key : Key) (caller mode to_come sum : ℕ) (buffer : List ℕ) (g : Geometry) (e : ℕ) (x : Entry) : Type 0 where
+  pub reached : Reached img key (wrong_asking mode to_come sum buffer) caller Read 1 (λ y. eqb y.readers 0) g e x
 
-module _ {img : List ℕ} {key : Key} {caller mode toCome sum : ℕ} {buffer : List ℕ} {g : Geometry} {e : ℕ} {x : Entry}
-    (file : BinaryAsked img key caller mode toCome sum buffer g e x) where
+module _ {img : List ℕ} {key : Key} {caller mode to_come sum : ℕ} {buffer : List ℕ} {g : Geometry} {e : ℕ} {x : Entry}
+    (file : BinaryAsked img key caller mode to_come sum buffer g e x) where
   pub asked_room : 0 < length buffer
-  asked_room = some_room mode buffer (or_false (wrong_reading mode buffer) (wrong_given toCome sum) file.reached.file.argument).0
+  asked_room = some_room mode buffer (or_false (wrong_reading mode buffer) (wrong_given to_come sum) file.reached.file.argument).0
 
-  pub asked_given : (toCome ≤ 511) × (sum ≤ 255) × (toCome ≡ 0 → sum ≡ 0)
-  asked_given = given_right toCome sum (or_false (wrong_reading mode buffer) (wrong_given toCome sum) file.reached.file.argument).1
+  pub asked_given : (to_come ≤ 511) × (sum ≤ 255) × (to_come ≡ 0 → sum ≡ 0)
+  asked_given = given_right to_come sum (or_false (wrong_reading mode buffer) (wrong_given to_come sum) file.reached.file.argument).1
 
   -- a reading whose conditions hold
   pub binary_read_given : (position : ℕ) → position ≤ x.length * payload_bytes g
-      → binary_read img key caller mode position toCome sum buffer
-      ≡ binary_outcome img position buffer (binary_found (mode_of mode) (length buffer) toCome sum (bytes_behind img key position))
+      → binary_read img key caller mode position to_come sum buffer
+      ≡ binary_outcome img position buffer (binary_found (mode_of mode) (length buffer) to_come sum (bytes_behind img key position))
   unfolding binary_read binary_read_rows
   binary_read_given position inside = reading_given file.reached position inside buffer _
 
-module _ (img : List ℕ) (key : Key) (caller mode position toCome sum : ℕ) (buffer : List ℕ) where
+module _ (img : List ℕ) (key : Key) (caller mode position to_come sum : ℕ) (buffer : List ℕ) where
   abbrev outcome : Outcome
-  outcome = binary_read img key caller mode position toCome sum buffer
+  outcome = binary_read img key caller mode position to_come sum buffer
 
   abbrev found : BinaryFound
-  found = binary_found (mode_of mode) (length buffer) toCome sum (bytes_behind img key position)
+  found = binary_found (mode_of mode) (length buffer) to_come sum (bytes_behind img key position)
 
   -- 40, 15, 41, 2, 6, 43, 45 and 44 stand in the order of the table
-  pub binary_read_ordered : in_order table_order 0 (binary_read_rows img key caller mode position toCome sum buffer) ≡ true
+  pub binary_read_ordered : in_order table_order 0 (binary_read_rows img key caller mode position to_come sum buffer) ≡ true
   unfolding binary_read_rows
-  binary_read_ordered = reading_ordered img key caller (wrong_asking mode toCome sum buffer) position
+  binary_read_ordered = reading_ordered img key caller (wrong_asking mode to_come sum buffer) position
 
   -- "and nothing in the image or a lent buffer changes"
   pub binary_read_refused : (outcome.code ≡ 0 → ⊥) → Unchanged outcome (0 ∷ (0 ∷ (0 ∷ (0 ∷ (0 ∷ []))))) img buffer
   unfolding binary_read
-  binary_read_refused never = refusal_keeps (binary_read_rows img key caller mode position toCome sum buffer) img buffer _ never
+  binary_read_refused never = refusal_keeps (binary_read_rows img key caller mode position to_come sum buffer) img buffer _ never
 
   -- reading changes no image
   pub binary_read_image : outcome.image ≡ img
   unfolding binary_read
-  binary_read_image = image_by (binary_read_rows img key caller mode position toCome sum buffer) img buffer _ (λ i. i ≡ img) refl (λ clear. refl)
+  binary_read_image = image_by (binary_read_rows img key caller mode position to_come sum buffer) img buffer _ (λ i. i ≡ img) refl (λ clear. refl)
 
   module _ (none : outcome.code ≡ 0) where
     -- where the code is 0, its conditions hold
-    pub binary_read_clear : BinaryAsked img key caller mode toCome sum buffer (geometry_of img) (entry_no img key) (file_of img key)
+    pub binary_read_clear : BinaryAsked img key caller mode to_come sum buffer (geometry_of img) (entry_no img key) (file_of img key)
         × (position ≤ (file_of img key).length * payload_bytes (geometry_of img))
     unfolding binary_read binary_read_rows
     binary_read_clear =
-        let c = reading_clear img key caller (wrong_asking mode toCome sum buffer) position (sym (code_is _ img buffer _) ∙ none) in
+        let c = reading_clear img key caller (wrong_asking mode to_come sum buffer) position (sym (code_is _ img buffer _) ∙ none) in
         (record { reached = c.0 }, c.1)
 
     -- it answers with what is found in the bytes from the position on
@@ -115,7 +115,7 @@ module _ (img : List ℕ) (key : Key) (caller mode position toCome sum : ℕ) (b
         omega (
           arith,
           next_is,
-          passed_most (mode_of mode) (length buffer) toCome sum (bytes_behind img key position),
+          passed_most (mode_of mode) (length buffer) to_come sum (bytes_behind img key position),
           bytes_left clear.0.reached position,
           clear.1,
         )
@@ -129,5 +129,5 @@ module _ (img : List ℕ) (key : Key) (caller mode position toCome sum : ℕ) (b
         omega (
           arith,
           next_is,
-          passed_some (mode_of mode) (length buffer) toCome sum (bytes_behind img key position) (asked_room clear.0) left (λ four. right (status ∙ four)),
+          passed_some (mode_of mode) (length buffer) to_come sum (bytes_behind img key position) (asked_room clear.0) left (λ four. right (status ∙ four)),
         )

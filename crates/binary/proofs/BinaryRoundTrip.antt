@@ -11,7 +11,7 @@ use Rattle.lines.specs.declared.LineMode.TheVariants.{Normal, Special}
 use Rattle.binary.specs.BinaryLine.{sum_of, header_bytes, header_and_data, sum_byte, binary_line}
 use Rattle.binary.specs.BinaryRead.{BinaryFound, nuls_before, line_from, header_of, binary_found}
 use Rattle.binary.specs.InParts.{InParts}
-use Rattle.binary.specs.BinaryRoundTrip.{ReadBack, at_end_law, one_read, Stored, only_nuls, one_line, LinesFit, no_line, one_more, binary_lines}
+use Rattle.binary.specs.BinaryRoundTrip.{ReadBack, at_end, one_read, Stored, only_nuls, one_line, LinesFit, no_line, one_more, binary_lines}
 use Rattle.binary.proofs.BinarySums.{sum_append, sum_set, line_length}
 use Rattle.binary.proofs.InParts.{read_cut, parts_are_one}
 use Rattle.binary.proofs.NormalLast.{normal_alike}
@@ -94,7 +94,7 @@ nuls_read mode most k = read_cut mode most 0 (replicate k 0) (ap header_of (nuls
 
 -- so lines read back one after another
 pub lines_read_back : (mode : LineMode) {s : List ℕ} {contents : List (List ℕ)} → Stored s contents → ReadBack mode s contents
-lines_read_back mode (only_nuls k) = at_end_law (λ most. nuls_read mode most k)
+lines_read_back mode (only_nuls k) = at_end (λ most. nuls_read mode most k)
 lines_read_back mode (one_line {content = content} {s = s} {contents = contents} k few rest) =
     one_read {contents = contents} (k + length (binary_line content)) (written_read content few k s mode) (rw (written_left content few k s) (lines_read_back mode rest))
 

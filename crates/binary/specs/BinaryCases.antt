@@ -25,15 +25,15 @@ pub data Kind : Type 0 where
 
 -- a reading goes on to the end of the data: normal always, special where the buffer holds them or the bytes end before it is full
 pub data GoesOn (most to_come : ℕ) (s : List ℕ) : LineMode → Type 0 where
-  surplus_over : GoesOn most toCome s Normal
-  held : toCome ≤ most → GoesOn most toCome s Special
-  ends_before : length s < most → GoesOn most toCome s Special
+  surplus_over : GoesOn most to_come s Normal
+  held : to_come ≤ most → GoesOn most to_come s Special
+  ends_before : length s < most → GoesOn most to_come s Special
 
 -- the data from their first on, or from where the last part stopped: bit 0, "special keeps the rest"; the line read and verified; bit 6, "the data ending first"
-pub data DataCase (most toCome sum : ℕ) (s : List ℕ) : LineMode → Kind → BinaryFound → Type 0 where
-  buffer_full : most < toCome → most ≤ length s → DataCase most toCome sum s Special BufferFull (stopped most toCome sum s)
-  line_read : {mode : LineMode} → GoesOn most toCome s mode → toCome < length s → DataCase most toCome sum s mode LineRead (verified most toCome sum s)
-  data_ended : {mode : LineMode} → GoesOn most toCome s mode → length s ≤ toCome → DataCase most toCome sum s mode DataEnded (ended most toCome s)
+pub data DataCase (most to_come sum : ℕ) (s : List ℕ) : LineMode → Kind → BinaryFound → Type 0 where
+  buffer_full : most < to_come → most ≤ length s → DataCase most to_come sum s Special BufferFull (stopped most to_come sum s)
+  line_read : {mode : LineMode} → GoesOn most to_come s mode → to_come < length s → DataCase most to_come sum s mode LineRead (verified most to_come sum s)
+  data_ended : {mode : LineMode} → GoesOn most to_come s mode → length s ≤ to_come → DataCase most to_come sum s mode DataEnded (ended most to_come s)
 
 -- a new line, with 0 passed in: bit 6 inside the header; bit 2; or the data behind the header. A line that goes on has neither NULs before it nor a header.
 pub data BinaryCase (mode : LineMode) (most sum : ℕ) (s : List ℕ) : ℕ → Kind → BinaryFound → Type 0 where
@@ -41,7 +41,7 @@ pub data BinaryCase (mode : LineMode) (most sum : ℕ) (s : List ℕ) : ℕ → 
   header_wrong : header_of (line_from s) ≡ wrong → BinaryCase mode most sum s 0 HeaderWrong wrong_found
   new_line : {kind : Kind} {f : BinaryFound} (many : ℕ) → header_of (line_from s) ≡ counts many
       → DataCase most many (sum_of (take 4 (line_from s))) (drop 4 (line_from s)) mode kind f → BinaryCase mode most sum s 0 kind (behind (nuls_before s + 4) f)
-  going_on : {kind : Kind} {f : BinaryFound} {to_come : ℕ} → 0 < toCome → DataCase most toCome sum s mode kind f → BinaryCase mode most sum s toCome kind f
+  going_on : {kind : Kind} {f : BinaryFound} {to_come : ℕ} → 0 < to_come → DataCase most to_come sum s mode kind f → BinaryCase mode most sum s to_come kind f
 
 -- the statuses that can come: bit 0 with another bit in normal mode only
 pub data StatusOf : LineMode → ℕ → Type 0 where

@@ -20,6 +20,6 @@ binary_outcome img position buffer found = record { code = 0; numbers = numbers_
 
 -- the buffer's length is the maximum count
 unfoldable pub binary_read : List ℕ → Key → ℕ → ℕ → ℕ → ℕ → ℕ → List ℕ → Outcome
-binary_read img key caller mode position toCome sum buffer =
-    settled (binary_read_rows img key caller mode position toCome sum buffer) img buffer
-    (binary_outcome img position buffer (binary_found (mode_of mode) (length buffer) toCome sum (bytes_behind img key position)))
+binary_read img key caller mode position to_come sum buffer =
+    settled (binary_read_rows img key caller mode position to_come sum buffer) img buffer
+    (binary_outcome img position buffer (binary_found (mode_of mode) (length buffer) to_come sum (bytes_behind img key position)))

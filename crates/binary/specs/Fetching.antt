@@ -11,8 +11,8 @@ use Rattle.binary.specs.BinaryLine.{sum_of}
 
 -- how many data bytes a reading takes at most: special no more than the buffer has
 abbrev pub limit_of : LineMode → ℕ → ℕ → ℕ
-limit_of Normal most to_come = toCome
-limit_of Special most to_come = min toCome most
+limit_of Normal most to_come = to_come
+limit_of Special most to_come = min to_come most
 
 -- of the bytes s so many at most: counted, added, laid in the buffer one after another; and what stands behind them
 pub record Fetched (img : List ℕ) (g : Geometry) (s : List ℕ) (limit : ℕ) (buffer after : List ℕ) (r : Fetch) : Type 0 where

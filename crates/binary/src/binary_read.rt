@@ -22,7 +22,7 @@ use stream::Spot;
 use transfer::linked_read;
 
 #[repr(C)]
-#[derive(Drop)]
+#[derive(Clone, Copy)]
 pub struct BinaryAnswer {
     pub code: usize,
     pub count: usize,
@@ -33,7 +33,7 @@ pub struct BinaryAnswer {
 }
 
 // What one reading comes to: the data bytes read, the status, the bytes passed, and what is given back of a line that goes on.
-#[derive(Drop)]
+#[derive(Clone, Copy)]
 pub struct Part {
     pub count: usize,
     pub status: usize,

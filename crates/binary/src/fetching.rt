@@ -10,7 +10,7 @@ use pack::Geometry;
 use stream::Spot;
 
 // How many data bytes were read, their sum, and what stands behind them.
-#[derive(Drop)]
+#[derive(Clone, Copy)]
 pub struct Fetch {
     pub count: usize,
     pub sum: usize,

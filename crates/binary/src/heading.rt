@@ -8,14 +8,14 @@ use pack::Geometry;
 use stream::Spot;
 
 // Where a line begins, and how many NULs stand before it.
-#[derive(Drop)]
+#[derive(Clone, Copy)]
 pub struct Begin {
     pub nuls: usize,
     pub spot: Spot,
 }
 
 // Two bytes and what stands behind them, or how many bytes there are where that are less than two.
-#[derive(Drop)]
+#[derive(Clone, Copy)]
 pub enum Word {
     Cut(usize),
     Bytes(u8, u8, Spot),
@@ -23,7 +23,7 @@ pub enum Word {
 
 // How many bytes there are where they end inside the header; a word of it is wrong; or how many data bytes it counts, the sum of its own bytes,
 // and what stands behind it.
-#[derive(Drop)]
+#[derive(Clone, Copy)]
 pub enum Heading {
     Cut(usize),
     Wrong,

@@ -1,4 +1,4 @@
--- Means: is a lent buffer of another size than asked? `code-iff` (promises) ties it to the propositions of the paper.
+-- Means: is a lent buffer of another size than asked? `code_iff` (promises) ties it to the propositions of the paper.
 use Rattle.std.specs.Prelude.{ℕ, Bool, not, List, eqb, length}
 use Rattle.pack.specs.Geometry.{geometry_of, block_bytes, payload_bytes}
 

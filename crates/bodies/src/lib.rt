@@ -1,5 +1,7 @@
 // The bytes of blocks: a block or its payload read and written, the size of each, the block at a place of a file, links, and the words of an
 // entry that say where its chain is.
+#![tactic(auto)]
+
 ghost use Rattle.std.specs.Prelude.{◌≡◌, ℕ, ◌+◌, ◌≤◌, ◌<◌, length, get_or};
 ghost use Rattle.words.specs.Word.{word_at, set_word};
 ghost use Rattle.pack.specs.Geometry.{geometry_of, slots, block_at, block_bytes, payload_bytes};

@@ -12,7 +12,7 @@ use command_sides::Located;
 pub const RAW_LIMIT: usize = 512;
 
 // What CSI1 answers: the length of the condensed line, or why it is refused.
-#[derive(Drop)]
+#[derive(Clone, Copy)]
 pub enum Condensing {
     Accepted(usize),
     TooLong,
@@ -22,7 +22,7 @@ pub enum Condensing {
 }
 
 // Whether the grammar writes a line, and its numbers keep their bounds; where the grammar does not, the place.
-#[derive(Drop)]
+#[derive(Clone, Copy)]
 enum Judgement {
     Right,
     Wrong(usize),

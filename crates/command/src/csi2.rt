@@ -10,7 +10,7 @@ use command_parts::Numbers;
 use command_sides::Located;
 
 // What CSI2 answers: the numbers of a specification, or why it is refused.
-#[derive(Drop)]
+#[derive(Clone, Copy)]
 pub enum Asking {
     Given(Numbers),
     TooLong,
@@ -22,7 +22,7 @@ pub enum Asking {
 
 // CSI2's answer in the numbers that a host sees: the code first, a refusal's other numbers 0 but for the place with 50.
 #[repr(C)]
-#[derive(Drop)]
+#[derive(Clone, Copy)]
 pub struct SpecificationAnswer {
     pub code: usize,
     pub place: usize,

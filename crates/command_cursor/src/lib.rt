@@ -1,4 +1,6 @@
 // A cursor over a command line: a value whose methods return the advanced cursor. And what stands between two places of a line: a number, a word, a name.
+#![tactic(auto)]
+
 pub mod characters;
 
 ghost use Rattle.std.specs.Prelude.{◌≡◌, true, ◌+◌, ◌-◌, ◌<◌, ◌≤◌, length, take, drop, get_or};
@@ -16,20 +18,20 @@ ghost use Rattle.command_cursor.specs.FilledWord.{filled_word, first_word, secon
 use radix::Radix50;
 
 // A place of a line.
-#[derive(Drop)]
+#[derive(Clone, Copy)]
 pub struct Cursor {
     pub at: usize,
 }
 
 // A number, and the place behind it.
-#[derive(Drop)]
+#[derive(Clone, Copy)]
 pub struct Number {
     pub value: usize,
     pub next: Cursor,
 }
 
 // Where the cursor stands then, or the place of the refusal.
-#[derive(Drop)]
+#[derive(Clone, Copy)]
 pub enum Part {
     Read(Cursor),
     Refused(usize),
@@ -186,7 +188,7 @@ pub fn word_of(line: &[u8], first: usize, end: usize) -> usize
 }
 
 // The two words of a name.
-#[derive(Drop)]
+#[derive(Clone, Copy)]
 pub struct NameWords {
     pub first: usize,
     pub second: usize,

@@ -1,5 +1,5 @@
 -- Specifications, sides, commands, and the whole line.
-use Prim.Native.Nat.{ℕ, suc, ◌-◌, ◌≤◌, ◌<◌}
+use Prim.Native.Nat.{ℕ, suc, ◌≤◌, ◌<◌}
 use mathlib.Core.Path.{◌≡◌, refl, sym, ap, ◌∙◌, subst}
 use mathlib.Core.Logic.{◌⊎◌, inl, inr}
 use mathlib.Core.List.{List, [], ◌∷◌, ◌++◌, append_assoc, append-nil}
@@ -15,10 +15,10 @@ use Rattle.command_grammar.specs.Parsed.{Switch, Specification, Parsed}
 use Rattle.command_grammar.specs.Grammar.{IsUic, AreSwitches, IsSwitch, IsSpecification, IsSide, Command}
 use Rattle.command_grammar.specs.LinePlace.{Viable, Wrong, LinePlace}
 use Rattle.command_grammar.specs.Grammar as G
-use Rattle.command_grammar.specs.Reader.{is, Res, ok, no, used, second, Tail, mk_tail, mk_specification, mk_reading, uic, switch, specification, side, command, whole_from, read_line}
+use Rattle.command_grammar.specs.Reader.{is, Res, ok, no, used, second, Tail, mk_tail, mk_specification, mk_reading, specification, side, command, whole_from, read_line}
 use Rattle.command_grammar.proofs.ReaderAgree.{agree_take}
 use Rattle.command_grammar.proofs.LinePlace.{viable_shorter}
-use Rattle.command_grammar.proofs.ReaderTheory.{Sound, IsReader, reads_as, SeqR, both, seq_reads, Begins, begins, OptR, absent, present, opt_reads, ManyR, finish, more, many_reads}
+use Rattle.command_grammar.proofs.ReaderTheory.{Sound, IsReader, reads_as, SeqR, both, seq_reads, Begins, OptR, absent, present, opt_reads, ManyR, finish, more, many_reads}
 use Rattle.command_grammar.proofs.ReaderParts.{ChrR, chr, chr_reads, chr_first, Next, final, next, next_stop, next_sub}
 use Rattle.command_grammar.proofs.ReaderParts.{is_in, seq_first, opt_behind, many_behind, after_spec, after_uic, after_head, uic_part, switches_part}
 use Rattle.command_grammar.proofs.ReaderHeads.{HeadR, head_reads}

@@ -1,5 +1,5 @@
 -- A side is its first specification, and what a comma begins: the law by which the readers of sides and specifications call each other.
-use Prim.Native.Nat.{ℕ, suc, ◌+◌, ◌-◌, ◌≤◌}
+use Prim.Native.Nat.{ℕ, suc, ◌+◌, ◌≤◌}
 use mathlib.Core.Path.{◌≡◌, refl, ap}
 use mathlib.Core.List.{List, ◌∷◌}
 use native.Mathlib.Nat.{le_refl}
@@ -11,7 +11,7 @@ use Rattle.command_grammar.specs.Grammar.{IsSide}
 use Rattle.command_grammar.specs.Grammar as G
 use Rattle.command_grammar.specs.Reader.{is, Res, ok, no, used, later, and_then, seq, many_by, many, one_character, second, specification, side}
 use Rattle.command_grammar.proofs.ReaderAgree.{agree_refl}
-use Rattle.command_grammar.proofs.ReaderTheory.{Sound, seq_reads, at, many_near}
+use Rattle.command_grammar.proofs.ReaderTheory.{Sound, seq_reads, many_near}
 use Rattle.command_grammar.proofs.ReaderParts.{chr_reads, is_in, after_spec}
 use Rattle.command_grammar.proofs.ReaderLines.{specification_reads, next_first, side_reads}
 

@@ -1,5 +1,5 @@
 -- What it is to read a language, and how readers are put together.
-use Prim.Native.Nat.{ℕ, suc, zero, ◌-◌, ◌≤◌}
+use Prim.Native.Nat.{ℕ, suc, zero, ◌≤◌}
 use mathlib.Core.Path.{◌≡◌, refl, ap, ◌∙◌}
 use mathlib.Core.List.{List, [], ◌∷◌, ◌++◌, append_assoc}
 use mathlib.Core.Option.{Option, none, some}
@@ -77,7 +77,7 @@ module _ {A B C : Type 0} {X : List ℕ → A → Type 0} {Y : List ℕ → B �
   pub seq_reads : IsReader (SeqR X Y k) SY (seq k f g)
   seq_reads =
       record {
-        sound = λ s. let w = inhabited [] (g []) (G.sound []) in seq_sound X Y g k G.sound w.0 w.1 w.2 s (f s) (F.sound s);
+        sound = λ s. let w = inhabited {X = Y} [] (g []) (G.sound []) in seq_sound X Y g k G.sound w.0 w.1 w.2 s (f s) (F.sound s);
         near = λ s t h. seq_near k F.near s t g g (f s) refl (λ a n e. G.near (drop n s) (drop n t)) h;
         complete = seq_complete;
       }

@@ -34,8 +34,8 @@ module _ (s : List ℕ) (i : ℕ) (x : DeviceNumbers) (device_is : x ≡ device_
 
   front_by : (r : Res Device) → from device s i ≡ r → {h : Head} {a : ℕ} → from head s i ≡ ok h a → Front h a
   unfolding device_found
-  front_by (ok d e) here {a = a} front = let f = with_parts s i a here front in told {d = some d} f.2 (device-is ∙ ap (device_found i) here) f.1
-  front_by (no p) here {a = a} front = let f = without_parts s i a here front in told {d = none} f.2 (device-is ∙ ap (device_found i) here) f.1
+  front_by (ok d e) here {a = a} front = let f = with_parts s i a here front in told {d = some d} f.2 (device_is ∙ ap (device_found i) here) f.1
+  front_by (no p) here {a = a} front = let f = without_parts s i a here front in told {d = none} f.2 (device_is ∙ ap (device_found i) here) f.1
 
   module _ (y : FileNumbers) (file-is : (f : Option FileName) (j : ℕ) → from file s x.next.at ≡ ok f j → y ≡ file_found f j)
       (z : UicNumbers) (uic-is : (u : Option Uic) (j : ℕ) → from brackets s y.next.at ≡ ok u j → z ≡ uic_found u j)

@@ -52,7 +52,7 @@ pub fn pass_uic(line: &[u8], c: Cursor) -> Passing
 }
 
 // The numbers of a group and a user, whether there are any, and the place behind them.
-#[derive(Drop)]
+#[derive(Clone, Copy)]
 pub struct UicNumbers {
     pub present: bool,
     pub group: usize,

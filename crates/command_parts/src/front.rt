@@ -80,7 +80,7 @@ pub fn pass_head(line: &[u8], c: Cursor, d: Passing) -> Part
 }
 
 // The numbers of a device, whether there is one, and the place behind it.
-#[derive(Drop)]
+#[derive(Clone, Copy)]
 pub struct DeviceNumbers {
     pub present: bool,
     pub word: usize,
@@ -122,7 +122,7 @@ pub fn read_device(line: &[u8], c: Cursor) -> DeviceNumbers
 }
 
 // The word of an extension, 0 where there is none, whether there is one, and the place behind it.
-#[derive(Drop)]
+#[derive(Clone, Copy)]
 pub struct ExtensionNumbers {
     pub present: bool,
     pub word: usize,
@@ -154,7 +154,7 @@ fn read_extension(line: &[u8], c: Cursor) -> ExtensionNumbers
 }
 
 // A file's numbers, whether it has a name, and an extension, and the place behind it.
-#[derive(Drop)]
+#[derive(Clone, Copy)]
 pub struct FileNumbers {
     pub present: bool,
     pub extended: bool,

@@ -1,4 +1,6 @@
 // Readers of the parts of a specification, in the order in which they stand: device and file, group and user, switches.
+#![tactic(auto)]
+
 mod bracket;
 mod front;
 pub mod passing;
@@ -16,7 +18,7 @@ use passing::Passing;
 
 // A specification in the paper's numbers, as a host sees them; those of absent parts are 0.
 #[repr(C)]
-#[derive(Drop)]
+#[derive(Clone, Copy)]
 pub struct Numbers {
     pub present: usize,
     pub device: usize,
@@ -30,7 +32,7 @@ pub struct Numbers {
 }
 
 // The numbers of a specification whose switches are not yet counted, and where these begin.
-#[derive(Drop)]
+#[derive(Clone, Copy)]
 pub struct Parts {
     pub numbers: Numbers,
     pub next: Cursor,

@@ -7,7 +7,7 @@ ghost use Rattle.command_parts.specs.Passed.{always, passing};
 use command_cursor::{Cursor, Part};
 
 // Where a part ends, and whether its numbers keep their bounds; or the place of the refusal.
-#[derive(Drop)]
+#[derive(Clone, Copy)]
 pub enum Passing {
     Read(Cursor, bool),
     Refused(usize),

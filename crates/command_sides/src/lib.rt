@@ -1,4 +1,6 @@
 // The reader of a side and the reader of what it has behind a specification, which call each other; and the whole line.
+#![tactic(auto)]
+
 ghost use Rattle.std.specs.Prelude.{◌≡◌, ◌-◌};
 ghost use Rattle.command_grammar.specs.Reading.{input_of};
 ghost use Rattle.command_grammar.specs.Reader.{from, mapped, side};
@@ -11,21 +13,21 @@ use command_parts::pass_parts;
 use command_parts::passing::Passing;
 
 // How many specifications there are, where one of them begins, and whether the numbers of all keep their bounds.
-#[derive(Drop)]
+#[derive(Clone, Copy)]
 pub struct SideFound {
     pub count: usize,
     pub start: Cursor,
     pub keeps: bool,
 }
 
-#[derive(Drop)]
+#[derive(Clone, Copy)]
 pub enum Sought {
     Read(SideFound, Cursor),
     Refused(usize),
 }
 
 // Where a specification of the line begins; that there is none; that a number of the line is over its bound; or the place at which it is refused.
-#[derive(Drop)]
+#[derive(Clone, Copy)]
 pub enum Located {
     At(Cursor),
     Missing,

@@ -1,4 +1,6 @@
 // The bytes of a specification's switches, written into a lent buffer.
+#![tactic(auto)]
+
 ghost use Rattle.std.specs.Prelude.{◌≡◌, List, ◌++◌, ℕ, ◌+◌, ◌*◌, ◌≤◌, ◌<◌, length, drop};
 ghost use Rattle.command_grammar.specs.LineCharacters.{slash};
 ghost use Rattle.command_grammar.specs.Parsed.{Switch};
@@ -12,7 +14,7 @@ use command_cursor::{Cursor, Part, name_words};
 use words::set_word;
 
 // How many values were written, and where the cursor stands then.
-#[derive(Drop)]
+#[derive(Clone, Copy)]
 pub struct WrittenValues {
     pub values: usize,
     pub next: Cursor,

@@ -9,9 +9,7 @@ use lib.ListN.{length}
 use Rattle.words.specs.Word.{word_bytes}
 use Rattle.command_cursor.specs.FilledWord.{first_word, second_word}
 use Rattle.command_grammar.specs.Parsed.{Switch, Specification}
-use Rattle.command_grammar.specs.Grammar as G
-use Rattle.command_grammar.specs.Bounded as B
-use Rattle.command_grammar.specs.Reading.{Reading, Reads, reads, input_of, side_of}
+use Rattle.command_grammar.specs.Reading.{Reading, Reads, input_of, side_of}
 use Rattle.command_parts.specs.declared.Numbers.{Numbers}
 use Rattle.command_parts.specs.Numbers.{numbers_of}
 use Rattle.command_switches.specs.Encoded.{value_words, all_switch_words, encoded}

@@ -149,7 +149,7 @@ said_line {outputs} {inputs} {reading} says = at reading.input says.input
     first : (s : List ℕ) × IsSide s reading.output × BoundedSide reading.output
     first = side_line says.output.each.all (omega (arith, says.output.each.long, says.output.least))
 
-    at : (i : Option (List Specification)) → SayableInput inputs i → (line : List ℕ) × Reads line (record { output = reading.output; input = i })
+    at : {n : ℕ} (i : Option (List Specification)) → SayableInput n i → (line : List ℕ) × Reads line (record { output = reading.output; input = i })
     at none nothing = (first.0, reads (G.Command.output first.1) (record { output = first.2; input = B.BoundedInput.absent }))
     at (some vs) (Y.SayableInput.side side) =
         let second = side_line side.each.all (omega (arith, side.each.long, side.least)) in

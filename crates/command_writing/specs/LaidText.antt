@@ -1,5 +1,5 @@
 -- Means: characters laid one behind the other in a line, as far as it goes, and counted one further; and what the steps of a walk over records lay.
-use Rattle.std.specs.Prelude.{ℕ, ◌+◌, ◌≤◌, ◌<◌, ◌≡◌, Bool, true, false, cond, List, [], ◌∷◌, ◌++◌, eqb, length, take}
+use Rattle.std.specs.Prelude.{ℕ, ◌≤◌, ◌<◌, ◌≡◌, Bool, true, false, cond, List, [], ◌∷◌, ◌++◌, eqb, length, take}
 use Rattle.std.proofs.Math.Option.{Option, none, some}
 use Rattle.radix.specs.Characters.{character_of}
 use Rattle.radix.specs.Packing.{first_code, second_code, third_code}

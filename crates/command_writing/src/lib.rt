@@ -1,4 +1,6 @@
 // Writing command lines: from the numbers of specifications, as CSI2 returns them, the line that says them.
+#![tactic(auto)]
+
 mod laying;
 mod parts;
 mod sides;
@@ -13,7 +15,7 @@ use command::LINE_LIMIT;
 use sides::write_sides;
 
 // What writing answers: the length of the line, or why it is refused.
-#[derive(Drop)]
+#[derive(Clone, Copy)]
 pub enum Writing {
     Written(usize),
     NoReading,
@@ -22,21 +24,21 @@ pub enum Writing {
 }
 
 // Where a walk over the records stands, by its word, and how many characters it has laid.
-#[derive(Drop)]
+#[derive(Clone, Copy)]
 pub struct Walk {
     pub at: usize,
     pub count: usize,
 }
 
 // Where the walk stands then; or no line says what stands in the records.
-#[derive(Drop)]
+#[derive(Clone, Copy)]
 pub enum Step {
     To(Walk),
     Wrong,
 }
 
 // The same of a part whose numbers were read: how many characters are laid then.
-#[derive(Drop)]
+#[derive(Clone, Copy)]
 pub enum PartStep {
     To(usize),
     Wrong,

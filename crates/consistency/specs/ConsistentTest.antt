@@ -46,7 +46,7 @@ pub record UsedEnd (img : List ℕ) (g : Geometry) (end : ℕ) : Type 0 where
   pub most : end ≤ slots g
   pub empty : (e : ℕ) → end ≤ e → e < slots g → Empty img g e
 
--- the entries of an image are right, and their files differ; judged on a map of so many places (`entries-any`: any number that is enough)
+-- the entries of an image are right, and their files differ; judged on a map of so many places (`entries_any`: any number that is enough)
 unfoldable pub entries_test : ℕ → List ℕ → Geometry → Bool
 entries_test long img g = scan_test img g (system_map long g) 0 (slots g) && differ_test img g 0 (slots g)
 

@@ -13,7 +13,7 @@ use Rattle.consistency.specs.Walk.{takes, blocks_from}
 unfoldable pub key_test : List ℕ → Entry → Bool
 key_test img x = legal_name x.name1 x.name2 && (legal_extension x.extension && listed img x.uic)
 
--- "a contiguous file's writer is 0 or 1, a linked one's 0, 2 or 3": as a rule and as a test (`writer-iff`)
+-- "a contiguous file's writer is 0 or 1, a linked one's 0, 2 or 3": as a rule and as a test (`writer_iff`)
 abbrev pub WriterRight : ℕ → ℕ → Type 0
 WriterRight kind writer = ((kind ≡ 1) × ((writer ≡ 0) ⊎ (writer ≡ 1))) ⊎ ((kind ≡ 2) × ((writer ≡ 0) ⊎ ((writer ≡ 2) ⊎ (writer ≡ 3))))
 
@@ -63,7 +63,7 @@ unfoldable pub open_test : List ℕ → Geometry → ℕ → ℕ → Bool
 open_test img g e kind =
     writer_test kind (entry_word img g e 9) && (opens_test (entry_word img g e 9) (entry_word img g e 10) && rest_test img g e 11)
 
--- what is judged of entry e, one in use, beside its name, extension and UIC (`file-parts`)
+-- what is judged of entry e, one in use, beside its name, extension and UIC (`file_parts`)
 unfoldable pub held_test : List ℕ → Geometry → List ℕ → ℕ → Bool
 held_test img g map e =
     leb (entry_of img g e).protect 255

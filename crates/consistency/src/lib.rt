@@ -1,4 +1,6 @@
 // The check of a whole image: its header, then each entry, with its blocks taken on a map and its file unlike those before it.
+#![tactic(auto)]
+
 mod differing;
 mod eights;
 mod hinting;
@@ -32,7 +34,7 @@ pub const MANY_BYTES: usize = 524288;
 pub const MANY_BLOCKS: usize = 1024;
 
 // What a pack is opened as: the measures of a consistent image, or no consistent image.
-#[derive(Drop)]
+#[derive(Clone, Copy)]
 pub enum Opened {
     Good(Geometry),
     Bad,

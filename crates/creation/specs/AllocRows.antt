@@ -1,4 +1,4 @@
--- Means: the rows of tests of ALLOC; `code-iff` (promises) ties them to the propositions of the paper.
+-- Means: the rows of tests of ALLOC; `code_iff` (promises) ties them to the propositions of the paper.
 use Rattle.std.specs.Prelude.{ℕ, List, [], ◌∷◌, ◌++◌, eqb}
 use Rattle.answers.specs.Refusals.{Row, row}
 use Rattle.answers.specs.Missing.{missing}

@@ -9,7 +9,7 @@ use Rattle.pack.specs.EntryWords.{set_entry_words, words_of}
 use Rattle.creation.specs.declared.creating.Shape.{Shape}
 use Rattle.creation.specs.CreatingLowest.{lowest_empty}
 
--- "the lowest empty entry"; `empty-lowest` and `empty-none` (proofs/CreatingLowest.antt) say that `lowestEmpty` is just this
+-- "the lowest empty entry"; `empty_lowest` and `empty_none` (proofs/CreatingLowest.antt) say that `lowest_empty` is just this
 pub record LowestEmpty (img : List ℕ) (e : ℕ) : Type 0 where
   pub inside : e < slots (geometry_of img)
   pub empty : Empty img (geometry_of img) e

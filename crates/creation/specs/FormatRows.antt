@@ -1,4 +1,4 @@
--- Means: the test of Format; `format-iff` ties it to `Formattable`.
+-- Means: the test of Format; `format_iff` ties it to `Formattable`.
 use Rattle.std.specs.Prelude.{ℕ, ◌%◌, Bool, not, ◌&&◌, List, [], ◌∷◌, eqb, length}
 use Rattle.answers.specs.Refusals.{Row, row}
 use Rattle.pack.specs.HeaderTest.{measured, distinct}

@@ -14,7 +14,7 @@ use pack::{BlockNo, Geometry, Key, Segments};
 use room::{Blocks, Run};
 
 // The pack's measures, the entry of the new file, its first block and its length; or a refusal's code.
-#[derive(Drop)]
+#[derive(Clone, Copy)]
 enum Allocating {
     Extent(Geometry, usize, BlockNo, Blocks),
     Refused(usize),

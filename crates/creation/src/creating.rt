@@ -16,14 +16,14 @@ use consistency::Opened;
 use pack::{BlockNo, Entry, Geometry, Key};
 
 // The pack's measures and the entry of the new file, or a refusal's code.
-#[derive(Drop)]
+#[derive(Clone, Copy)]
 pub enum Creating {
     At(Geometry, usize),
     Refused(usize),
 }
 
 // What a new file has besides its key and its protect code.
-#[derive(Drop)]
+#[derive(Clone, Copy)]
 pub struct Shape {
     pub kind: usize,
     pub first: BlockNo,

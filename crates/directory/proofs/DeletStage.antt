@@ -69,7 +69,7 @@ module _ (img : List ℕ) (key : Key) (caller : ℕ) where
     deleting_refused code told map =
         let o = writing_refused (delet_rows img key caller) img key (λ g e x. deleted img g e) decision is code told in
         let r = stage_is_refused (delet_rows img key caller) img key code (sym is ∙ told) in
-        (o.0, (o.1, sym (refusal_is _ map (λ zero. r.not-zero (sym r.first ∙ zero)))))
+        (o.0, (o.1, sym (refusal_is _ map (λ zero. r.not_zero (sym r.first ∙ zero)))))
 
     module _ (g : Geometry) (e : ℕ) (x : Entry) (told : decision ≡ File g e x) where
       given : Given (delet_rows img key caller) img key g e x

@@ -25,7 +25,7 @@ module _ (img : List ℕ) (key : Key) (asked : Asked) (is : asked ≡ asked_of i
   unfolding look look_rows
   look_refused code told =
       let r = asked_is_refused img key false code (sym is ∙ told) in
-      sym (settled_refused (file_rows img key false) img [] _ r.first r.not-zero)
+      sym (settled_refused (file_rows img key false) img [] _ r.first r.not_zero)
 
   pub look_file : (g : Geometry) (e : ℕ) (x : Entry) → asked ≡ File g e x
       → record { code = 0; numbers = look_numbers x; image = img; buffer = [] } ≡ look img key

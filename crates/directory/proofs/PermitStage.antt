@@ -53,7 +53,7 @@ module _
   pub permitted_refused : (code : ℕ) → asked ≡ Refused code → asked ≡ stage_of all img key
   permitted_refused code told =
       let r = stage_is_refused front img key code (sym is ∙ told) in
-      told ∙ stage_refuses all img key (record { first = behind_refused _ front r.first r.not-zero; not_zero = r.not-zero })
+      told ∙ stage_refuses all img key (record { first = behind_refused _ front r.first r.not_zero; not_zero = r.not_zero })
 
   module _ (g : Geometry) (e : ℕ) (x : Entry) (told : asked ≡ File g e x) (verdict : Verdict) (judged : verdict ≡ verdict_of (permit_rows right caller x)) where
     given : Given front img key g e x

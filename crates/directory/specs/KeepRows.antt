@@ -1,5 +1,5 @@
--- Means: the rows of tests of KEEP; `code-iff` (promises) ties them to the propositions of the paper.
-use Rattle.std.specs.Prelude.{ℕ, ◌+◌, false, not, List, [], ◌∷◌, ◌++◌, eqb}
+-- Means: the rows of tests of KEEP; `code_iff` (promises) ties them to the propositions of the paper.
+use Rattle.std.specs.Prelude.{ℕ, false, not, List, [], ◌∷◌, ◌++◌, eqb}
 use Rattle.answers.specs.Refusals.{Row, row}
 use Rattle.pack.specs.declared.Key.{Key}
 use Rattle.asking.specs.AskedStage.{file_rows}

@@ -1,4 +1,4 @@
--- Means: the rows of tests that DELET and RENAM share, once the file is found; `code-iff` (promises) ties them to the propositions of the paper.
+-- Means: the rows of tests that DELET and RENAM share, once the file is found; `code_iff` (promises) ties them to the propositions of the paper.
 use Rattle.std.specs.Prelude.{ℕ, not, List, [], ◌∷◌}
 use Rattle.answers.specs.Refusals.{Row, row}
 use Rattle.pack.specs.declared.Entry.{Entry}

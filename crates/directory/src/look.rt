@@ -9,7 +9,7 @@ use pack::Key;
 
 // Code first; the other numbers are 0 on a refusal.
 #[repr(C)]
-#[derive(Drop)]
+#[derive(Clone, Copy)]
 pub struct LookAnswer {
     pub code: usize,
     pub kind: usize,

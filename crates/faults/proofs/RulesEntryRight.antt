@@ -13,7 +13,7 @@ use Rattle.pack.specs.Key.{key_in, SameKey}
 use Rattle.pack.proofs.FileCount.{count_nil}
 use Rattle.pack.proofs.EntryRead.{empty_blocks}
 use Rattle.radix.proofs.Names.{name_not_zero}
-use Rattle.faults.specs.Rules.{entry, name, extent, end, Holds, RightField}
+use Rattle.faults.specs.Rules.{entry, extent, Holds, RightField}
 use Rattle.faults.specs.Report.{file_order, entry_order}
 use Rattle.faults.specs.FirstFault.{AllHold, none, also}
 use Rattle.faults.proofs.RulesFile.{Bodies, Once, LinksBodies, LinksOnce, extent_once, extent_bodies, bodies_extent}

@@ -1,4 +1,4 @@
--- Means: the second file that reaches a block, as it is sought; `second-holder` ties it to `SecondHolder`.
+-- Means: the second file that reaches a block, as it is sought; `second_holder` ties it to `SecondHolder`.
 use Rattle.std.specs.Prelude.{ℕ, suc, zero, ◌+◌, Bool, true, false, cond, List, ltb}
 use Rattle.pack.specs.declared.Geometry.{Geometry}
 use Rattle.pack.specs.Geometry.{geometry_of, slots}

@@ -1,4 +1,6 @@
 // The report on an image: the first rule of consistency that fails, with the entry, the word and the block concerned.
+#![tactic(auto)]
+
 mod blocks;
 mod entries;
 mod fields;
@@ -14,7 +16,7 @@ use pack::Header;
 
 // The number of the rule, 0 where none fails, and what it names; 0 in a member that the rule does not name.
 #[repr(C)]
-#[derive(Drop)]
+#[derive(Clone, Copy)]
 pub struct ReportAnswer {
     pub rule: usize,
     pub entry: usize,

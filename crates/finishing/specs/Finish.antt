@@ -39,7 +39,7 @@ pub data EachDeleted (caller : ℕ) : List ℕ → List Key → Type 0 where
       → EachDeleted caller img (key ∷ more)
 
 -- "Delete every file .., in stored order, and return how many." Of a consistent image the keys are those of `ScratchFrom` from entry 0 on, and no others
--- (`keys-listed`, `keys-single`), and each DELET is done: `finish-deletes`.
+-- (`keys_listed`, `keys_single`), and each DELET is done: `finish_deletes`.
 unfoldable pub finish : List ℕ → ℕ → Outcome
 finish img caller =
     settled (finish_rows img) img []

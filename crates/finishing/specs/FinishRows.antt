@@ -1,4 +1,4 @@
--- Means: the row of tests of Finish; `code-iff` (promises) ties it to the proposition of the paper.
+-- Means: the row of tests of Finish; `code_iff` (promises) ties it to the proposition of the paper.
 use Rattle.std.specs.Prelude.{ℕ, not, List, [], ◌∷◌}
 use Rattle.answers.specs.Refusals.{Row, row}
 use Rattle.consistency.specs.ConsistentTest.{consistent}

@@ -1,4 +1,4 @@
--- Means: is the file of an entry one that Finish removes, and the keys of those that are, in stored order; `scratch-iff` and `keys-listed` (proofs/ScratchTestIff.antt)
+-- Means: is the file of an entry one that Finish removes, and the keys of those that are, in stored order; `scratch_iff` and `keys_listed` (proofs/ScratchTestIff.antt)
 -- tie them to `Scratch` and `ScratchFrom`.
 use Rattle.std.specs.Prelude.{ℕ, suc, zero, ◌+◌, ◌/◌, ◌%◌, Bool, cond, not, ◌&&◌, List, [], ◌∷◌, eqb}
 use Rattle.pack.specs.declared.Entry.{Entry}

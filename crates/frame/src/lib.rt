@@ -1,1 +1,2 @@
 // What stays of a pack when a request changes some words of it: laws alone, no code.
+#![tactic(auto)]

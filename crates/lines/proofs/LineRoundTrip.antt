@@ -13,7 +13,7 @@ use Rattle.lines.specs.declared.LineMode.{LineMode}
 use Rattle.lines.specs.TextBytes.{seven_bits, is_discarded, is_terminator}
 use Rattle.lines.specs.LineRead.{LineFound, line_passed, kept_line, is_terminated, whole_line, line_found}
 use Rattle.lines.specs.LineWrite.{put_of, put_all}
-use Rattle.lines.specs.LineRoundTrip.{PlainText, nothing, character, terminated, TextLines, no_line, one_more, ReadBack, at_end_law, one_read, nuls_after}
+use Rattle.lines.specs.LineRoundTrip.{PlainText, nothing, character, terminated, TextLines, no_line, one_more, ReadBack, at_end, one_read, nuls_after}
 use Rattle.lines.proofs.LineReadBytes.{behind_discarded, behind_plain, behind_end}
 use Rattle.lines.proofs.LineReadCases.{ReadCase, whole, surplus, stop, found_case}
 use Rattle.lines.proofs.LineReadProgress.{found_empty}
@@ -165,7 +165,7 @@ module _ (mode : LineMode) (fill : ℕ) where
       → ReadBack mode (replicate j 0 ++ (put_all (flatten lines) ++ replicate fill 0)) lines
   unfolding flatten
   behind_nuls no_line j =
-      (unfold put_all in rw (replicate-append-replicate {A = ℕ} j fill 0) (at_end_law (λ most some. only_nuls (j + fill) mode most some)))
+      (unfold put_all in rw (replicate-append-replicate {A = ℕ} j fill 0) (at_end (λ most some. only_nuls (j + fill) mode most some)))
   behind_nuls (one_more {lines = lines} (terminated {text = text} t plain ends) rest) j =
       rw (put_append (text ++ (t ∷ [])) (flatten lines), append_assoc (put_all (text ++ (t ∷ []))))
       (one_line mode j t (put_all (flatten lines) ++ replicate fill 0) plain ends (behind_nuls rest (nuls_after t)))

@@ -54,39 +54,39 @@ module _ (img : List ℕ) (key : Key) (caller : ℕ) (gather : List ℕ) (filled
 
   pub line_end_rows : outcome.code ≡ first_of (writing_rows img key caller false gather filled nuls)
   unfolding line_end
-  line_end_rows = W.write-code img key caller false gather filled nuls []
+  line_end_rows = W.write_code img key caller false gather filled nuls []
 
   pub line_end_ordered : in_order table_order 0 (writing_rows img key caller false gather filled nuls) ≡ true
-  line_end_ordered = W.write-ordered img key caller false gather filled nuls []
+  line_end_ordered = W.write_ordered img key caller false gather filled nuls []
 
   pub line_end_refused : (outcome.code ≡ 0 → ⊥) → Unchanged outcome [] img gather
   unfolding line_end
-  line_end_refused = W.write-refused img key caller false gather filled nuls []
+  line_end_refused = W.write_refused img key caller false gather filled nuls []
 
   pub line_end_consistent : Consistent img → Consistent outcome.image
   unfolding line_end
-  line_end_consistent = W.write-consistent img key caller false gather filled nuls []
+  line_end_consistent = W.write_consistent img key caller false gather filled nuls []
 
   pub line_end_untouched : (other : Key) → (other ≡ key → ⊥) → Untouched other img outcome.image
   unfolding line_end
-  line_end_untouched = W.write-untouched img key caller false gather filled nuls []
+  line_end_untouched = W.write_untouched img key caller false gather filled nuls []
 
   pub line_end_owner : (b : ℕ) → count b (taken_blocks img key caller after.full) ≡ 0 → owner_of outcome.image b ≡ owner_of img b
   unfolding line_end
-  line_end_owner = W.write-owner img key caller false gather filled nuls []
+  line_end_owner = W.write_owner img key caller false gather filled nuls []
 
   module _ (success : outcome.code ≡ 0) where
     numbers_of : outcome.numbers ≡ []
     unfolding line_end
-    numbers_of = W.write-numbers img key caller false gather filled nuls [] success
+    numbers_of = W.write_numbers img key caller false gather filled nuls [] success
 
     image_of : outcome.image ≡ added_all img key caller after.full
     unfolding line_end
-    image_of = W.write-image img key caller false gather filled nuls [] success
+    image_of = W.write_image img key caller false gather filled nuls [] success
 
     buffer_of : outcome.buffer ≡ after.buffer
     unfolding line_end
-    buffer_of = W.write-buffer img key caller false gather filled nuls [] success
+    buffer_of = W.write_buffer img key caller false gather filled nuls [] success
 
   -- the NULs: none at 0, else as many as the buffer has places left
   by_nuls : (none : Bool) → eqb filled 0 ≡ none → nuls ≡ replicate (cond none 0 (payload_bytes (geometry_of img) - filled)) 0
@@ -152,12 +152,12 @@ module _ (img : List ℕ) (key : Key) (caller : ℕ) (gather : List ℕ) (filled
     pub line_end_42_iff : outcome.code ≡ 0o42 ↔ (0 < filled) × (free_count img ≡ 0)
     unfolding line_end
     line_end_42_iff =
-        let counted = W.write-42-iff img key caller false gather filled nuls [] clear in
+        let counted = W.write_42_iff img key caller false gather filled nuls [] clear in
         (λ code. needs_block.0 (counted.0 code), λ both. counted.1 (needs_block.1 both))
 
     pub line_end_else_0 : (outcome.code ≡ 0o42 → ⊥) → outcome.code ≡ 0
     unfolding line_end
-    line_end_else_0 = W.write-else-0 img key caller false gather filled nuls [] clear
+    line_end_else_0 = W.write_else_0 img key caller false gather filled nuls [] clear
 
   -- "an ending call fills the last with NUL": the block that it adds, and the gather buffer
   module _ (some : filled ≡ 0 → ⊥) (success : outcome.code ≡ 0) where
@@ -172,7 +172,7 @@ module _ (img : List ℕ) (key : Key) (caller : ℕ) (gather : List ℕ) (filled
     joined =
         sym (append-nil (flatten after.full))
         ∙ ap (λ (n : ℕ). flatten after.full ++ take n outcome.buffer) (sym (none_filled some fitting))
-        ∙ W.write-gathered img key caller false gather filled nuls [] success
+        ∙ W.write_gathered img key caller false gather filled nuls [] success
         ∙ ap (λ (s : List ℕ). take filled gather ++ s) (nuls_are some fitting)
 
     pub line_end_full : after.full ≡ last ∷ []
@@ -186,7 +186,7 @@ module _ (img : List ℕ) (key : Key) (caller : ℕ) (gather : List ℕ) (filled
     unfolding line_end last_or
     line_end_buffer =
         ap (λ (n : ℕ). drop n outcome.buffer) (sym (none_filled some fitting))
-        ∙ W.write-stays img key caller false gather filled nuls [] success
+        ∙ W.write_stays img key caller false gather filled nuls [] success
         ∙ ap (λ (n : ℕ). drop n (last_or gather after.full)) (none_filled some fitting)
         ∙ ap (last_or gather) line_end_full
 
@@ -194,5 +194,5 @@ module _ (img : List ℕ) (key : Key) (caller : ℕ) (gather : List ℕ) (filled
         ≡ payloads_of img (geometry_of img) (blocks_at img (geometry_of img) (entry_no img key)) ++ last
     unfolding line_end
     line_end_payloads =
-        W.write-payloads img key caller false gather filled nuls [] success
+        W.write_payloads img key caller false gather filled nuls [] success
         ∙ ap (λ (s : List ℕ). payloads_of img (geometry_of img) (blocks_at img (geometry_of img) (entry_no img key)) ++ s) joined

@@ -1,4 +1,4 @@
--- Means: the rows of tests of reading a line; `code-iff` (promises) ties them to the propositions of the paper.
+-- Means: the rows of tests of reading a line; `code_iff` (promises) ties them to the propositions of the paper.
 use Rattle.std.specs.Prelude.{ℕ, Bool, ◌||◌, List, eqb, ltb, length}
 use Rattle.answers.specs.Refusals.{Row}
 use Rattle.pack.specs.declared.Key.{Key}

@@ -23,7 +23,7 @@ nuls_after terminator = cond (eqb terminator 12) 1 0
 -- "must read back the same when the count allows them": from here each line is read, one after another, in any buffer that holds it,
 -- without a bit set; behind the last there is nothing to read before the end
 pub data ReadBack (mode : LineMode) : List ℕ → List (List ℕ) → Type 0 where
-  at_end_law : {s : List ℕ} → ((most : ℕ) → 0 < most → line_found mode most s ≡ record { laid = []; count = 0; status = 64; passed = length s })
+  at_end : {s : List ℕ} → ((most : ℕ) → 0 < most → line_found mode most s ≡ record { laid = []; count = 0; status = 64; passed = length s })
       → ReadBack mode s []
   one_read : {s line : List ℕ} {lines : List (List ℕ)} (passed : ℕ)
       → ((most : ℕ) → length line ≤ most → line_found mode most s ≡ record { laid = line; count = length line; status = 0; passed = passed })

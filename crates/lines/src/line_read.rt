@@ -15,7 +15,7 @@ use stream::Spot;
 use transfer::linked_read;
 
 #[repr(C)]
-#[derive(Drop)]
+#[derive(Clone, Copy)]
 pub struct ReadAnswer {
     pub code: usize,
     pub count: usize,
@@ -24,7 +24,7 @@ pub struct ReadAnswer {
 }
 
 // How far the reading of a line is: the count, the bytes passed, and whether the line has ended, with the status in which it did.
-#[derive(Drop)]
+#[derive(Clone, Copy)]
 pub struct Reader {
     pub count: usize,
     pub status: usize,
@@ -33,7 +33,7 @@ pub struct Reader {
 }
 
 // What a character is to a reader.
-#[derive(Drop)]
+#[derive(Clone, Copy)]
 pub enum Role {
     Discarded,
     Terminator,

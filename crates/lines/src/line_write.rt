@@ -16,7 +16,7 @@ use stream::Filling;
 
 // What a write answers: "the count taken", the status, and the filled count.
 #[repr(C)]
-#[derive(Drop)]
+#[derive(Clone, Copy)]
 pub struct WriteAnswer {
     pub code: usize,
     pub count: usize,

@@ -1,4 +1,6 @@
 // The requests of a list: a record of words names a request, which is made singly on a pack that was opened, and its answer put beside it.
+#![tactic(auto)]
+
 ghost use Rattle.std.specs.Prelude.{◌≡◌, List, ◌∷◌, ℕ, ◌+◌, ◌*◌, ◌<◌, length, replicate};
 ghost use Rattle.words.specs.Word.{word_bytes};
 ghost use Rattle.consistency.specs.ConsistentTest.{opened_of};
@@ -11,7 +13,7 @@ use opening::Opening;
 use pack::{Key, Segments};
 
 // A record's words that are named: the request, the caller and the file, and what each request makes of words 6 to 9.
-#[derive(Drop)]
+#[derive(Clone, Copy)]
 pub struct Record {
     pub request: usize,
     pub caller: usize,

@@ -1,4 +1,6 @@
 // Many requests in one call: the records are read out of bytes, the pack is opened once, and each request is made singly.
+#![tactic(auto)]
+
 ghost use Rattle.std.specs.Prelude.{◌≡◌, ◌+◌, ◌*◌, ◌/◌, ◌<◌, ◌≤◌, length, take};
 ghost use Rattle.std.proofs.lemmas.List.Edits.{sets};
 ghost use Rattle.consistency.specs.Mapped.{Lent};

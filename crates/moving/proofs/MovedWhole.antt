@@ -16,7 +16,7 @@ use Rattle.moving.specs.declared.Way.{Way}
 use Rattle.moving.specs.declared.Way.TheVariants.{Up, Down}
 use Rattle.moving.specs.Ways.{moved}
 use Rattle.moving.specs.Moved.{moved_measures, Moved, Moves}
-use Rattle.moving.specs.MovedParts.{Source, Partly, AllWalked, marks, MarkedBehind, MapWritten}
+use Rattle.moving.specs.MovedParts.{Source, Partly, AllWalked, MarkedBehind, MapWritten}
 use Rattle.moving.proofs.WayNumbers.{moved_less}
 use Rattle.moving.proofs.MovedMeasures.{source_four, source_bodies, source_sized, bodies_high, target_bodies}
 use Rattle.moving.proofs.SourceNumbers.{blocks_small}

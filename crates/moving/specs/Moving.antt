@@ -13,7 +13,7 @@ pub record RightSource (way : Way) (src : List ℕ) : Type 0 where
   pub consistent : Consistent src
   pub form : word_at src 0 ≡ from_form way
 
--- "or a form 2 pack whose n - 1 is not 16 to 1024 or whose c is over 8": the bounds of the other form, which on the way up always hold (`movable-up`)
+-- "or a form 2 pack whose n - 1 is not 16 to 1024 or whose c is over 8": the bounds of the other form, which on the way up always hold (`movable_up`)
 pub record Movable (way : Way) (src : List ℕ) : Type 0 where
   pub source : RightSource way src
   pub blocks_least : least_blocks ≤ moved way (word_at src 1)

@@ -1,5 +1,7 @@
 // Packs moved between forms: from form 1 to form 2, and back. The source is checked once; then its bytes are copied, the numbers of blocks in entries and
 // links are renumbered, and the map is made of the marks that the check left.
+#![tactic(auto)]
+
 mod chains;
 mod copying;
 mod maps;
@@ -17,7 +19,7 @@ use consistency::Opened;
 use pack::{BlockNo, Geometry};
 
 // "Convert form 1 to form 2", and "the way back".
-#[derive(Drop)]
+#[derive(Clone, Copy)]
 pub enum Way {
     Up,
     Down,

@@ -1,4 +1,6 @@
 // Numbers in digits: one reader and one writer over the base. The decimal and the octal pair stand each in a file of its own.
+#![tactic(auto)]
+
 pub mod decimal;
 pub mod octal;
 
@@ -13,7 +15,7 @@ use answers::Answer;
 pub const LARGEST: usize = 65535;
 
 // The number that characters write, or none.
-#[derive(Drop)]
+#[derive(Clone, Copy)]
 pub enum Numeral {
     Of(usize),
     Nothing,

@@ -30,7 +30,7 @@ use Rattle.opening.proofs.OpenRows.{Openable}
 use Rattle.opening.proofs.OpenStage.{open_cleared}
 use Rattle.opening.proofs.OpenWords.{Rules, OpensSet, RightOpens, writer_set, readers_set, request_file, request_consistent, request_untouched, request_owner, request_held}
 
--- the word that is written gives the writer and the readers of `openedEntry`
+-- the word that is written gives the writer and the readers of `opened_entry`
 opened_set : (mode : Opening) {img : List ℕ} {key : Key} {g : Geometry} {e : ℕ} → Cleared img key g e
     → OpensSet img (set_entry_word img g e (open_word mode) (open_value mode (entry_of img g e))) g e
     (opened_entry mode (entry_of img g e)).writer (opened_entry mode (entry_of img g e)).readers

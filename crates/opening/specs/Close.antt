@@ -1,5 +1,5 @@
 -- CLOSE.
-use Rattle.std.specs.Prelude.{ℕ, ◌+◌, ◌-◌, ◌≡◌, List, []}
+use Rattle.std.specs.Prelude.{ℕ, ◌+◌, ◌≡◌, List, []}
 use Rattle.pack.specs.declared.Entry.{Entry}
 use Rattle.pack.specs.declared.Key.{Key}
 use Rattle.pack.specs.Geometry.{geometry_of}
@@ -10,7 +10,7 @@ use Rattle.opening.specs.Open.{with_opens}
 use Rattle.opening.specs.CloseRows.{close_rows, close_word, close_value}
 
 -- "takes that open away": with mode 4 one of the readers, with another the writer, which has that mode; and nothing else of the entry changes.
--- `proofs/CloseEffect.antt` has it as `close-entry`.
+-- `proofs/CloseEffect.antt` has it as `close_entry`.
 pub data Closed (x : Entry) : ℕ → Entry → Type 0 where
   a_reader : {readers : ℕ} → x.readers ≡ readers + 1 → Closed x 4 (with_opens x x.writer readers)
   the_writer : {mode : ℕ} → (mode ≡ 4 → ⊥) → x.writer ≡ mode → Closed x mode (with_opens x 0 x.readers)

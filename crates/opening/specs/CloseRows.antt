@@ -1,5 +1,5 @@
--- Means: the rows of tests of CLOSE (`code-iff`, promises, ties them to the paper), and the word that it writes (`close-entry`, `nothing-else`).
-use Rattle.std.specs.Prelude.{ℕ, ◌+◌, ◌-◌, Bool, not, cond, ◌||◌, List, [], ◌∷◌, ◌++◌, eqb, ltb}
+-- Means: the rows of tests of CLOSE (`code_iff`, promises, ties them to the paper), and the word that it writes (`close_entry`, `nothing_else`).
+use Rattle.std.specs.Prelude.{ℕ, ◌-◌, Bool, not, cond, ◌||◌, List, [], ◌∷◌, ◌++◌, eqb, ltb}
 use Rattle.answers.specs.Refusals.{Row, row}
 use Rattle.pack.specs.declared.Entry.{Entry}
 use Rattle.pack.specs.declared.Key.{Key}

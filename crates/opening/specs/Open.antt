@@ -28,7 +28,7 @@ with_opens x writer readers =
     }
 
 -- "OPENI needs read, adds a reader. OPENU needs write, contiguous only (43), writer 1. OPENE needs write, writer 3.": and nothing else of the entry
--- changes (`open-entry`, proofs/OpenEffect.antt). "9 writer (0 none, 1 U, 2 O, 3 E); 10 readers"
+-- changes (`open_entry`, proofs/OpenEffect.antt). "9 writer (0 none, 1 U, 2 O, 3 E); 10 readers"
 abbrev pub opened_entry : Opening → Entry → Entry
 opened_entry Input x = with_opens x x.writer (x.readers + 1)
 opened_entry Update x = with_opens x 1 x.readers

@@ -1,4 +1,4 @@
--- Means: the rows of tests of OPENI, OPENU and OPENE (`code-iff`, promises, ties them to the paper), and the word that each writes (`open-entry`, `nothing-else`).
+-- Means: the rows of tests of OPENI, OPENU and OPENE (`code_iff`, promises, ties them to the paper), and the word that each writes (`open_entry`, `nothing_else`).
 use Rattle.std.specs.Prelude.{ℕ, ◌+◌, Bool, true, false, not, ◌&&◌, List, [], ◌∷◌, ◌++◌, eqb, ltb}
 use Rattle.answers.specs.Refusals.{Row, row}
 use Rattle.pack.specs.declared.Entry.{Entry}

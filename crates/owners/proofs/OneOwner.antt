@@ -1,4 +1,4 @@
--- Whose a block of a consistent image is: what each answer of `ownerOf` means, and that every block has one owner.
+-- Whose a block of a consistent image is: what each answer of `owner_of` means, and that every block has one owner.
 use Prim.Native.Nat.{ℕ, ◌+◌, ◌-◌, ◌≤◌, ◌<◌}
 use mathlib.Core.Path.{◌≡◌, refl, sym, ap, subst, ◌∙◌}
 use mathlib.Core.Logic.{◌⊎◌, inl, inr, ◌↔◌, ⊎_elim}
@@ -105,8 +105,8 @@ module _ {img : List ℕ} (right : Consistent img) where
   holder_one {b} body (nobody zeros) = free body (unheld img b zeros)
   holder_one {b} body (entry {i} {p} low high found) = held_by body (held_one (found_held img i p b (omega arith) found))
 
-  -- Every block has one owner, and `ownerOf` names it. A number past the pack comes out as free, since no file reaches it: who asks keeps b below the
-  -- blocks in all, as `freeCount` does.
+  -- Every block has one owner, and `owner_of` names it. A number past the pack comes out as free, since no file reaches it: who asks keeps b below the
+  -- blocks in all, as `free_count` does.
   pub one_owner : (b : ℕ) → OneOwner img b (owner_of img b)
   unfolding owner_of
   one_owner b = by (ltb b (geometry_of img).bodies.0) refl

@@ -1,4 +1,4 @@
--- Means: the rows of tests of the question whose a block is; `code-iff` (promises) ties them to the propositions of the paper.
+-- Means: the rows of tests of the question whose a block is; `code_iff` (promises) ties them to the propositions of the paper.
 use Rattle.std.specs.Prelude.{ℕ, not, List, [], ◌∷◌, leb}
 use Rattle.answers.specs.Refusals.{Row, row}
 use Rattle.pack.specs.Geometry.{geometry_of}

@@ -1,4 +1,6 @@
 // Whose a block of a pack is.
+#![tactic(auto)]
+
 pub mod owner_question;
 
 ghost use Rattle.std.specs.Prelude.{◌≡◌, ℕ, ◌<◌};
@@ -13,7 +15,7 @@ use pack::{BlockNo, Entry, Geometry, Owner, Place};
 
 // `code` is 0 on success; `kind` is 0 for the system's, 1 for a free and 2 for a held block, which has its entry and its place there, else 0.
 #[repr(C)]
-#[derive(Drop)]
+#[derive(Clone, Copy)]
 pub struct OwnerAnswer {
     pub code: usize,
     pub kind: usize,
@@ -22,7 +24,7 @@ pub struct OwnerAnswer {
 }
 
 // Where a file has a block, or that it does not.
-#[derive(Drop)]
+#[derive(Clone, Copy)]
 enum Seen {
     At(Place),
     Nothing,

@@ -1,4 +1,4 @@
--- Means: what every reader of an image with a right header counts on (proofs/HeaderRules.antt, `header-sized`).
+-- Means: what every reader of an image with a right header counts on (proofs/HeaderRules.antt, `header_sized`).
 use Rattle.std.specs.Prelude.{ℕ, ◌*◌, ◌≤◌, ◌<◌, ◌≡◌, List, length}
 use Rattle.pack.specs.declared.Geometry.{Geometry}
 use Rattle.pack.specs.Geometry.{block_words, block_bytes}

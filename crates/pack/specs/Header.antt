@@ -19,7 +19,7 @@ pub record Listed (img : List ℕ) (uic : ℕ) : Type 0 where
 
 -- what block 0 and the image's length say: `long` bytes, the form, n, c and u
 pub record Measured (long form blocks contents uics : ℕ) : Type 0 where
-  -- "Block 0: word 0 is 1;", or a form of document 02: which are known says `form-known` (proofs/FormBounds.antt)
+  -- "Block 0: word 0 is 1;", or a form of document 02: which are known says `form_known` (proofs/FormBounds.antt)
   pub known : 0 < segments_of form
   -- "word 1 is n, the blocks in all, 16 to 1024;", in form 2 to 4096
   pub blocks_least : least_blocks ≤ blocks

@@ -9,6 +9,6 @@ use Rattle.pack.specs.Consistent.{held_in}
 pub record MapSays (img : List ℕ) (g : Geometry) (bit : ℕ → ℕ) : Type 0 where
   pub is : HasMap g → (b : ℕ) → b < map_bits g → map_bit img g b ≡ bit b
 
--- how often the system and files hold block b: at most once in a consistent image, and then this is its bit (`agrees-says`)
+-- how often the system and files hold block b: at most once in a consistent image, and then this is its bit (`agrees_says`)
 unfoldable pub marking : List ℕ → Geometry → ℕ → ℕ
 marking img g b = one (ltb b g.bodies.0) + held_in img g b

@@ -1,5 +1,7 @@
 // The pack image: its units, its measures, its header and its entries. What a form decides, how block 0 and the entries are read, how
 // entries are written and how the free map is, has a file each.
+#![tactic(auto)]
+
 mod entries;
 mod forms;
 mod headers;
@@ -19,7 +21,7 @@ pub use maps::{has_map, set_bit};
 pub use writing::{clear_entry, set_entry_word, write_entry};
 
 // A count of segments of 64 words.
-#[derive(Drop)]
+#[derive(Clone, Copy)]
 pub struct Segments(pub usize);
 
 impl Segments {
@@ -40,11 +42,11 @@ impl Segments {
 }
 
 // The number of a block in the pack.
-#[derive(Drop)]
+#[derive(Clone, Copy)]
 pub struct BlockNo(pub usize);
 
 // The place of a block in a file, from 0.
-#[derive(Drop)]
+#[derive(Clone, Copy)]
 pub struct Place(pub usize);
 
 // The most blocks that a pack of any form has.
@@ -58,7 +60,7 @@ pub const MOST_SEGMENTS: usize = 4;
 pub const MOST_ENTRIES: usize = MOST_CONTENTS * (4 * MOST_SEGMENTS);
 
 // The measures of a pack: the segments in a block, the blocks in all, the blocks of contents, and the first body.
-#[derive(Drop)]
+#[derive(Clone, Copy)]
 pub struct Geometry {
     pub segments: Segments,
     pub blocks: usize,
@@ -66,13 +68,13 @@ pub struct Geometry {
     pub bodies: BlockNo,
 }
 
-#[derive(Drop)]
+#[derive(Clone, Copy)]
 pub enum Header {
     Right(Geometry),
     Wrong,
 }
 
-#[derive(Drop)]
+#[derive(Clone, Copy)]
 pub struct Entry {
     pub name1: usize,
     pub name2: usize,
@@ -88,7 +90,7 @@ pub struct Entry {
 }
 
 // What names a file.
-#[derive(Drop)]
+#[derive(Clone, Copy)]
 pub struct Key {
     pub name1: usize,
     pub name2: usize,
@@ -97,7 +99,7 @@ pub struct Key {
 }
 
 // Whose a block is: the system's, nobody's, or at a place in the file of an entry (entries in stored order, from 0).
-#[derive(Drop)]
+#[derive(Clone, Copy)]
 pub enum Owner {
     System,
     Free,

@@ -1,4 +1,4 @@
--- Means: the line of an entry in the pieces that the code puts one behind another, and the most bytes of each; `line-pieces` says that they make the line.
+-- Means: the line of an entry in the pieces that the code puts one behind another, and the most bytes of each; `line_pieces` says that they make the line.
 use Rattle.std.specs.Prelude.{ℕ, ◌+◌, ◌*◌, ◌/◌, ◌%◌, List, ◌++◌}
 use Rattle.words.specs.Text.{bytes}
 use Rattle.pack.specs.GeometrySized.{most_entries}

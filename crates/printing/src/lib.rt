@@ -1,4 +1,6 @@
 // The listing of a pack as text. Each function but the last puts a piece at a place of a buffer and answers the place behind it.
+#![tactic(auto)]
+
 pub mod reports;
 
 ghost use Rattle.std.specs.Prelude.{◌≡◌, ◌+◌, ◌*◌, ◌<◌, ◌≤◌, ◌++◌, length, drop};

@@ -57,7 +57,7 @@ clear_added {key} {caller} {g} {img} c =
       held =
           record {
             file = cleared;
-            readable = may_reads caller _ _ Write ((may_iff Write caller _ _).0 r.access.right-given);
+            readable = may_reads caller _ _ Write ((may_iff Write caller _ _).0 r.access.right_given);
             linked = asked_linked r.file r.access.kind;
             bytes = refl;
           };

@@ -1,1 +1,2 @@
 // No code: what is promised of the whole stands in specs/ and proofs/.
+#![tactic(auto)]

@@ -1,4 +1,4 @@
--- Means: the tests of names and extensions that requests compute; `name-iff` and `extension-iff` say that each is true exactly if they are legal.
+-- Means: the tests of names and extensions that requests compute; `name_iff` and `extension_iff` say that each is true exactly if they are legal.
 use Rattle.std.specs.Prelude.{ℕ, ◌+◌, ◌*◌, ◌/◌, ◌%◌, ◌^◌, ◌<◌, ◌≡◌, Bool, true, false, not, cond, ◌&&◌, List, [], ◌∷◌, ◌++◌, eqb}
 use Rattle.std.proofs.Math.Option.{Option, none, some}
 use Rattle.std.specs.Int.Bits.{bit_and}

@@ -29,7 +29,7 @@ three_if (some x) (some y) none = none
 three_if (some x) none z = none
 three_if none y z = none
 
--- the first number that is no word of three codes below 40: "RADUP refuses a word with 29 or from 64000 up" (proofs/Packing.antt, `unpacking-refused`)
+-- the first number that is no word of three codes below 40: "RADUP refuses a word with 29 or from 64000 up" (proofs/Packing.antt, `unpacking_refused`)
 abbrev pub upper_end : ℕ
 upper_end = 64000
 

@@ -1,4 +1,6 @@
 // Radix-50: the word type, characters and codes, legal names and extensions; RADPK and RADUP each in a file of its own.
+#![tactic(auto)]
+
 pub mod radpk;
 pub mod radup;
 pub mod unpacking;
@@ -11,7 +13,7 @@ ghost use Rattle.radix.specs.Names.{is_letter};
 ghost use Rattle.radix.specs.NamesTest.{is_letter_or_digit_in, pair_end, pair_named, NamedPairs, filled, legal_name, legal_extension};
 
 // A word of three characters. A host may pass any number as one: from END up no character is in it.
-#[derive(Drop)]
+#[derive(Clone, Copy)]
 pub struct Radix50(pub usize);
 
 impl Radix50 {
@@ -48,7 +50,7 @@ impl Radix50 {
     // Is this the word of three blanks, whose codes are 0?
     pub fn is_blank(self) -> bool
         ensures value { result ≡ eqb self.0 (packed 0 0 0) }
-        ensures* do_value { do ⌜ (← (⟦Self::BLANK⟧).entry) ≡ packed 0 0 0 ⌝ }
+        ensures blank { Radix50.BLANK ≡ packed 0 0 0 }
     {
         self.0 == Self::BLANK
     }
@@ -84,19 +86,19 @@ impl Radix50 {
     }
 }
 
-#[derive(Drop)]
+#[derive(Clone, Copy)]
 pub enum Code {
     Of(usize),
     Nothing,
 }
 
-#[derive(Drop)]
+#[derive(Clone, Copy)]
 pub enum Character {
     Of(u8),
     Nothing,
 }
 
-#[derive(Drop)]
+#[derive(Clone, Copy)]
 pub enum Spelling {
     Of(u8, u8, u8),
     Nothing,

@@ -3,7 +3,7 @@ ghost use Rattle.std.specs.Prelude.{◌≡◌, ◌*◌, ◌≤◌, ◌<◌};
 ghost use Rattle.radix.specs.Packing.{first_code, second_code, third_code, upper_end};
 ghost use Rattle.radix.specs.Unpacking.{weights, lessened, through};
 
-#[derive(Drop)]
+#[derive(Clone, Copy)]
 pub struct Codes {
     pub first: usize,
     pub second: usize,

@@ -1,4 +1,4 @@
--- Means: the test of a free block, and the search for the free run with the highest start; `highest-iff`, `run_none` tie it to `HighestRun`.
+-- Means: the test of a free block, and the search for the free run with the highest start; `highest_iff`, `run_none` tie it to `HighestRun`.
 use Rattle.std.specs.Prelude.{ℕ, suc, zero, ◌+◌, Bool, true, cond, ◌&&◌, List, eqb, leb, ltb}
 use Rattle.std.proofs.Math.Option.{Option, none, some}
 use Rattle.pack.specs.Geometry.{geometry_of}
@@ -18,6 +18,6 @@ unfoldable pub run_below : List ℕ → ℕ → ℕ → Option ℕ
 run_below img length zero = none
 run_below img length (suc s) = cond (are_free img s length) (some s) (run_below img length s)
 
--- "The free run with the highest start", or that there is none; `run-highest` and `run_none` tie it to the rule
+-- "The free run with the highest start", or that there is none; `run_highest` and `run_none` tie it to the rule
 unfoldable pub highest_run : List ℕ → ℕ → Option ℕ
 highest_run img length = run_below img length (geometry_of img).blocks

@@ -1,5 +1,7 @@
 // What is free in a pack, on the map that the check of an image fills: the free run with the highest start, how many blocks are free; and the
 // taking and the giving up of blocks.
+#![tactic(auto)]
+
 ghost use Rattle.std.specs.Prelude.{◌≡◌, true, [], ◌∷◌, ℕ, ◌+◌, ◌-◌, ◌≤◌, ◌<◌, eqb, ltb, length, set};
 ghost use Rattle.std.proofs.Math.Option.{some};
 ghost use Rattle.answers.specs.Refusals.{row};
@@ -15,11 +17,11 @@ use answers::Verdict;
 use pack::{BlockNo, Entry, Geometry};
 
 // A count of blocks.
-#[derive(Drop)]
+#[derive(Clone, Copy)]
 pub struct Blocks(pub usize);
 
 // Where a free run starts, or that there is none.
-#[derive(Drop)]
+#[derive(Clone, Copy)]
 pub enum Run {
     Start(BlockNo),
     Nowhere,

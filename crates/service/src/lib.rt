@@ -1,4 +1,6 @@
 // The boundary to a host in C: one thin function for each name, over numbers and byte slices, with no condition on the caller.
+#![tactic(auto)]
+
 pub mod binaries;
 pub mod bodies;
 pub mod commands;

@@ -44,7 +44,7 @@ module _ (img : List ℕ) (key : Key) (caller : ℕ) (wrong : Bool) (gather : Li
     unfolding bytes_written
     write_denied {code} told =
         let r = stage_is_refused (writing_rows img key caller wrong gather filled put) img key code (sym is ∙ told) in
-        let o = sym (settled_refused (writing_rows img key caller wrong gather filled put) img gather _ r.first r.not-zero) in
+        let o = sym (settled_refused (writing_rows img key caller wrong gather filled put) img gather _ r.first r.not_zero) in
         (ap (λ (p : Outcome). p.code) o, (ap (λ (p : Outcome). p.numbers) o, (ap (λ (p : Outcome). p.image) o, ap (λ (p : Outcome). p.buffer) o)))
 
     -- the file is given: so many blocks are free as the bytes will fill

@@ -107,13 +107,13 @@ module _ {size : ℕ} {first : List ℕ} {g : Gathered} (at : Gathering size fir
 pub gathering_all : {size : ℕ} {first : List ℕ} {g : Gathered} → Gathering size first g → (bytes : List ℕ) → Gathering size first (gather_all size g bytes)
 unfolding gather_all
 gathering_all at [] = at
-gathering_all at (x ∷ bytes) = gathering_all (gathering_one at x) bytes
+gathering_all {size = size} {g = g} at (x ∷ bytes) = gathering_all {g = gather_one size g x} (gathering_one at x) bytes
 
 stream_all : {size : ℕ} {first : List ℕ} {g : Gathered} → Gathering size first g → (bytes : List ℕ) → stream_of (gather_all size g bytes) ≡ stream_of g ++ bytes
 unfolding gather_all
 stream_all {g} at [] = sym (append-nil (stream_of g))
 stream_all {size} {first} {g} at (x ∷ bytes) =
-    stream_all (gathering_one at x) bytes ∙ ap (λ (s : List ℕ). s ++ bytes) (stream_one at x) ∙ append_assoc (stream_of g) (x ∷ []) bytes
+    stream_all {g = gather_one size g x} (gathering_one at x) bytes ∙ ap (λ (s : List ℕ). s ++ bytes) (stream_one at x) ∙ append_assoc (stream_of g) (x ∷ []) bytes
 
 -- from a buffer of one payload that is filled so far
 module _ (size : ℕ) (buffer : List ℕ) (filled : ℕ) (room : filled < size) (long : length buffer ≡ size) (bytes : List ℕ) where

@@ -1,4 +1,4 @@
--- Means: the rows of tests of a request that reads bytes; `code-iff` (promises) ties them to the propositions of the paper.
+-- Means: the rows of tests of a request that reads bytes; `code_iff` (promises) ties them to the propositions of the paper.
 use Rattle.std.specs.Prelude.{ℕ, ◌*◌, Bool, List, [], ◌∷◌, ◌++◌, eqb, ltb}
 use Rattle.answers.specs.Refusals.{Row, row}
 use Rattle.pack.specs.declared.Key.{Key}

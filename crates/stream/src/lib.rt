@@ -1,4 +1,6 @@
 // The payloads of a linked file as one stream of bytes: where a position stands, and bytes gathered into blocks that are added at the end.
+#![tactic(auto)]
+
 mod reading;
 mod writing;
 
@@ -8,7 +10,7 @@ pub use writing::{ask_write, full_blocks, lay, lay_all, lay_bytes, lay_within};
 
 // A place in the payloads: a block and how many blocks there are from this one on; and, where there are any, the place of a byte in the image,
 // and of the end of the block. Going on by a byte is then an addition.
-#[derive(Drop)]
+#[derive(Clone, Copy)]
 pub struct Spot {
     pub block: BlockNo,
     pub left: usize,
@@ -17,7 +19,7 @@ pub struct Spot {
 }
 
 // Bytes on their way into a file: how many the gather buffer holds, and a block from which on none is free.
-#[derive(Drop)]
+#[derive(Clone, Copy)]
 pub struct Filling {
     pub filled: usize,
     pub from: BlockNo,

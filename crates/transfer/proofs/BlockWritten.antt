@@ -15,7 +15,7 @@ use Rattle.pack.specs.declared.Key.{Key}
 use Rattle.pack.specs.Geometry.{geometry_of, block_bytes, slots}
 use Rattle.pack.specs.File.{count, blocks_of}
 use Rattle.pack.specs.Entry.{entry_word, entry_of, blocks_at, Used}
-use Rattle.pack.specs.Consistent.{held, Consistent}
+use Rattle.pack.specs.Consistent.{Consistent}
 use Rattle.pack.specs.Key.{key_in, SameKey}
 use Rattle.pack.specs.Untouched.{Untouched}
 use Rattle.pack.specs.Owner.{place_from, owner_of}

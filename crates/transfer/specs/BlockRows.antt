@@ -1,5 +1,5 @@
--- Means: the rows of tests of BLOCK; `code-iff` (promises) ties them to the propositions of the paper.
-use Rattle.std.specs.Prelude.{ℕ, ◌+◌, Bool, not, ◌||◌, List, [], ◌∷◌, ◌++◌, eqb, leb, ltb}
+-- Means: the rows of tests of BLOCK; `code_iff` (promises) ties them to the propositions of the paper.
+use Rattle.std.specs.Prelude.{ℕ, Bool, not, ◌||◌, List, [], ◌∷◌, ◌++◌, eqb, leb, ltb}
 use Rattle.answers.specs.Refusals.{Row, row}
 use Rattle.pack.specs.declared.Entry.{Entry}
 use Rattle.pack.specs.declared.Key.{Key}

@@ -1,4 +1,6 @@
 // Words of a lent slice of bytes, 16 bits, low byte first; and a part of a slice filled or cleared.
+#![tactic(auto)]
+
 ghost use Rattle.std.specs.Prelude.{◌≡◌, ◌+◌, ◌*◌, ◌<◌, length, replicate};
 ghost use Rattle.words.specs.Word.{word_at, set_word};
 

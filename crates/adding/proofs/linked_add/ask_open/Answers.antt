@@ -1,0 +1,17 @@
+-- Rests on `AccessStage`: what `ask_file` refuses is refused, and of a file that is found the rows of access decide.
+use mathlib.Core.Path.{ap}
+use mathlib.Core.Bool.{not}
+use Rattle.asking.proofs.AccessStage.{access_refused, access_stopped, access_passed}
+use Rattle.adding.specs.LinkedAddRows.{open_for_adding}
+use Rattle.adding.proofs.linked_add.ask_open.Goals as goal
+
+pub returns-in_default : goal.returns-in_default
+returns-in_default c = access_refused _ _ _ _ _ _ (λ x. not (open_for_adding x)) _ c.ask_file-asked.ensures _ c.in_default.is
+
+pub returns-in-Refused : goal.returns-in-Refused
+returns-in-Refused c = access_stopped _ _ _ _ _ _ (λ x. not (open_for_adding x)) _ c.ask_file-asked.ensures _ _ _ c.in-File.is _ (ap not c.is_open_for_adding-shut.ensures) _
+    c.judge_access.ensures _ c.in-Refused.is
+
+pub returns : goal.returns
+returns c = access_passed _ _ _ _ _ _ (λ x. not (open_for_adding x)) _ c.ask_file-asked.ensures _ _ _ c.in-File.is _ (ap not c.is_open_for_adding-shut.ensures) _
+    c.judge_access.ensures c.in_default-judge_access.is

@@ -1,0 +1,13 @@
+-- Rests on `MadeFront`: no period, or the word of the characters behind it.
+use mathlib.Core.Path.{sym, ◌∙◌}
+use Rattle.command_parts.proofs.MadeFront.{extension_none, extension_wordable, extension_made}
+use Rattle.command_parts.proofs.front.read_extension.Goals as goal
+
+pub word_of-requires : goal.word_of-requires
+word_of-requires c = record { first_le_end = (extension_wordable _ c.args.c.at _ (sym c.one-p.ensures ∙ c.in-Read.is) _ c.named-next.ensures).0; end_bound = (extension_wordable _ c.args.c.at _ (sym c.one-p.ensures ∙ c.in-Read.is) _ c.named-next.ensures).1.0; all = (extension_wordable _ c.args.c.at _ (sym c.one-p.ensures ∙ c.in-Read.is) _ c.named-next.ensures).1.1 }
+
+pub returns-in-Refused : goal.returns-in-Refused
+returns-in-Refused c = extension_none _ _ (sym c.one-p.ensures ∙ c.in-Refused.is)
+
+pub returns-in-Read : goal.returns-in-Read
+returns-in-Read c = extension_made _ _ _ (sym c.one-p.ensures ∙ c.in-Read.is) _ c.named-next.ensures c.word_of.ensures.value

@@ -1,0 +1,12 @@
+-- Rests on `MadeFront`: without a character of a name there is no file; else its words, and what `read_extension` reads.
+use Rattle.command_parts.proofs.MadeFront.{file_none, name_wordable, file_made}
+use Rattle.command_parts.proofs.front.read_file.Goals as goal
+
+pub returns-then-end-start : goal.returns-then-end-start
+returns-then-end-start c = file_none _ _ _ c.named-name.ensures c.if-end-start.true
+
+pub name_words-words-requires : goal.name_words-words-requires
+name_words-words-requires c = record { first_le_end = (name_wordable _ _ _ c.named-name.ensures c.if-end-start.false).0; end_bound = (name_wordable _ _ _ c.named-name.ensures c.if-end-start.false).1.0; all = (name_wordable _ _ _ c.named-name.ensures c.if-end-start.false).1.1 }
+
+pub returns : goal.returns
+returns c = file_made _ _ _ c.named-name.ensures c.if-end-start.false c.name_words-words.ensures.first_value _ c.read_extension-extension.ensures

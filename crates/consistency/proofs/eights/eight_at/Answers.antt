@@ -1,0 +1,21 @@
+-- Rests on `EightBytes`: bytes laid above each other are the number that they make.
+use mathlib.Core.Path.{◌∙◌}
+use Rattle.consistency.specs.EightBytes.{eight_at}
+use Rattle.consistency.proofs.EightBytes.{bytes_joined}
+use Rattle.consistency.proofs.eights.eight_at.Goals as goal
+
+pub returns : goal.returns
+unfolding eight_at
+returns c = bytes_joined c.byte_at.ensures.upper_bound c.byte_at-2.ensures.upper_bound
+    c.byte_at-3.ensures.upper_bound c.byte_at-4.ensures.upper_bound
+    c.byte_at-5.ensures.upper_bound c.byte_at-6.ensures.upper_bound c.byte_at-7.ensures.upper_bound c.byte_at-8.ensures.upper_bound
+    ∙ rw (
+      c.byte_at.ensures.value,
+      c.byte_at-2.ensures.value,
+      c.byte_at-3.ensures.value,
+      c.byte_at-4.ensures.value,
+      c.byte_at-5.ensures.value,
+      c.byte_at-6.ensures.value,
+      c.byte_at-7.ensures.value,
+      c.byte_at-8.ensures.value,
+    )

@@ -1,0 +1,13 @@
+-- Rests on `MappedLent`: a map of zeros, large enough for an image of that length, can be lent.
+use mathlib.Core.Path.{refl}
+use Rattle.consistency.proofs.MappedLent.{lent_few, lent_many, lent_most}
+use Rattle.lines.proofs.line_write.line_write.Goals as goal
+
+pub line_write_lent-requires : goal.line_write_lent-requires
+line_write_lent-requires c = lent_few c.if-img-le-FEW_BYTES.true refl
+
+pub line_write_lent-requires-then-img-le-MANY_BYTES : goal.line_write_lent-requires-then-img-le-MANY_BYTES
+line_write_lent-requires-then-img-le-MANY_BYTES c = lent_many c.if-img-le-MANY_BYTES.true refl
+
+pub line_write_lent-requires-2 : goal.line_write_lent-requires-2
+line_write_lent-requires-2 c = lent_most refl

@@ -1,0 +1,11 @@
+-- Rests on `RecordBeside`: the two words of an answer are words, and its bytes stand at the place of the record.
+use borrow.Author.Rules.{rules}
+use Rattle.listed.proofs.RecordBeside.{answer_small, part_long, put_beside}
+use Rattle.listed.proofs.beside.Goals as goal
+
+pub put_answer-requires : goal.put_answer-requires
+put_answer-requires c = let small = answer_small c.single-answer.ensures.served in
+    (part_long _ _ c.requires.1, small.0, small.1)
+
+pub returns : goal.returns
+returns c = put_beside _ _ c.requires.1 _ c.single-answer.ensures.served c.single-answer.ensures.fits c.put_answer.ensures

@@ -1,0 +1,7 @@
+-- Rests on `RecordBeside`: a cleared part with two words set is an answer.
+use borrow.Author.Rules.{rules}
+use Rattle.listed.proofs.RecordBeside.{answer_laid}
+use Rattle.listed.proofs.put_answer.Goals as goal
+
+pub returns : goal.returns
+returns c = answer_laid _ _ c.requires.0 c.clear.ensures c.set_word.ensures c.set_word-2.ensures

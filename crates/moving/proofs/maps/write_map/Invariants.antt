@@ -1,0 +1,10 @@
+use Prim.Native.Nat.{◌-◌, ◌≤◌}
+use Rattle.consistency.specs.MapTest.{mark_on}
+use Rattle.moving.specs.MovedParts.{MapWritten}
+use Rattle.moving.proofs.maps.write_map.Given as goal
+
+abbrev pub invariant-loop-w : goal.invariant-loop-w
+invariant-loop-w l = MapWritten l.initial.target l.target l.h (mark_on l.marks) l.w × (l.w ≤ l.words)
+
+abbrev pub decreases-loop-w : goal.decreases-loop-w
+decreases-loop-w l = l.words - l.w

@@ -1,0 +1,11 @@
+use mathlib.Core.Path.{◌≡◌}
+use Prim.Native.Nat.{◌-◌, ◌≤◌}
+use lib.ListN.{drop}
+use Rattle.radix.specs.Unpacking.{weights, through}
+use Rattle.radix.proofs.unpacking.take_weights.Given as goal
+
+abbrev pub invariant-loop-i : goal.invariant-loop-i
+invariant-loop-i l = (l.bit ≤ 2048) × (through weights 2048 l.initial.held ≡ through (drop l.i weights) l.bit l.held)
+
+abbrev pub decreases-loop-i : goal.decreases-loop-i
+decreases-loop-i l = 12 - l.i

@@ -1,0 +1,2 @@
+-- What is known of bytes read into a part of a buffer.
+pub mod Parts

@@ -1,0 +1,12 @@
+use Prim.Native.Nat.{ℕ, ◌-◌, ◌≤◌, ◌<◌}
+use mathlib.Core.Path.{◌≡◌}
+use Rattle.room.specs.RoomMap.{HeldFrom, free_from, run_on}
+use Rattle.room.proofs.highest_run.Given as goal
+
+abbrev pub invariant-loop-b : goal.invariant-loop-b
+invariant-loop-b l = (l.b ≤ l.initial.b)
+    × (l.free < l.count.0)
+    × ((end : ℕ) → HeldFrom l.map l.initial.b end → (l.free ≡ free_from l.map l.b (end - l.b)) × (run_on l.map l.low end l.count.0 end ≡ run_on l.map l.low end l.count.0 l.b))
+
+abbrev pub decreases-loop-b : goal.decreases-loop-b
+decreases-loop-b l = l.b
