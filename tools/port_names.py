@@ -21,6 +21,24 @@ LAWS = {"free_on": "free_on_law", "same_key": "same_key_law"}
 FIELDS = {"block-at": "block_at_is", "entry-at": "entry_at_is"}
 LOCAL = {"block_words": "block_words_is", "block_start": "block_start_is", "blocks_at": "blocks_at_is"}
 LAST = {"pair_at"}
+# What the rules above leave ugly or in two spellings, file by file.
+TOUCHES = [
+    ("crates/*/*/*.antt", "toCome", "to_come"),
+    ("crates/*/proofs/*/*/*.antt", "toCome", "to_come"),
+    ("crates/*/proofs/*/*.antt", "toCome", "to_come"),
+    ("crates/lines/[sp]*/*.antt", "at_end_law", "at_end"),
+    ("crates/binary/[sp]*/*.antt", "at_end_law", "at_end"),
+    ("crates/promises/[sp]*/*.antt", "at_end_law", "at_end"),
+    ("crates/promises/*/*.antt", "pack_aB", "pack_ab"),
+    ("crates/promises/specs/Measures.antt", "most_blocks_law", "most_blocks"),
+    ("crates/promises/specs/Measures.antt", "most_contents_law", "most_contents"),
+    ("crates/promises/specs/Measures.antt", "entries-each", "entries_each"),
+    ("crates/promises/specs/Measures.antt", "blocks-for", "blocks_for"),
+    ("crates/promises/specs/Measures.antt", "pub block_bytes", "pub block_bytes_is"),
+    ("crates/promises/specs/Measures.antt", "pub payload_bytes", "pub payload_bytes_is"),
+    ("crates/promises/specs/Measures.antt", "pub payload_start", "pub payload_start_is"),
+    ("crates/promises/specs/Measures.antt", "block_at_law", "block_at_is"),
+]
 
 
 def library_files():
@@ -177,6 +195,13 @@ for p, t in every.items():
         with open(p, "w", encoding="utf-8") as f:
             f.write(to)
         n += 1
+for where, word, to in TOUCHES:
+    for p in sorted(glob.glob(where)):
+        t = open(p, encoding="utf-8").read()
+        made = re.sub(r"(?<![\w'-])" + re.escape(word) + r"(?![\w'-])", to, t)
+        if made != t:
+            with open(p, "w", encoding="utf-8") as f:
+                f.write(made)
 for (p, word, to), k in sorted(clash.items()):
     print("both stand in", p + ":", word, to)
 with open(os.environ.get("PORT_NAMES", "/tmp/port_names.json"), "w") as f:

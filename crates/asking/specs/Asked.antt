@@ -7,7 +7,7 @@ use Rattle.pack.specs.Geometry.{geometry_of}
 use Rattle.pack.specs.Entry.{entry_of}
 use Rattle.asking.specs.KeysTest.{found}
 
--- the number of the entry that has the key, and the entry (`file-of-name`, proofs/Keys.antt); said only where there is one, for else code 2 comes first
+-- the number of the entry that has the key, and the entry (`file_of_name`, proofs/Keys.antt); said only where there is one, for else code 2 comes first
 unfoldable pub entry_no : List ℕ → Key → ℕ
 entry_no img key = or_else 0 (found img key)
 

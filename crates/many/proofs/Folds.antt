@@ -1,8 +1,9 @@
--- How far the records of a list are made: what is left does the rest. The walk's invariant, with no word of the logic in it.
+-- How far the records of a list are made: what is left does the rest. The invariant of the loop over them.
 use Prim.Native.Nat.{ℕ, suc, ◌+◌, ◌*◌, ◌<◌, ◌≤◌}
 use mathlib.Core.Path.{◌≡◌, refl, sym, ap, ◌∙◌}
 use mathlib.Core.List.{List, [], ◌∷◌, ◌++◌}
 use native.Mathlib.Omega.{arith}
+use native.Mathlib.Numerals.{add-one}
 use native.Mathlib.Nat.{add-zero, add-suc, suc-add}
 use lib.ListN.{length, drop, get_or, set}
 use lib.Seq.{sets, drop-cons, drop-length}
@@ -40,13 +41,13 @@ none_made img map ans opened records fits =
 
 module _ {img₀ map₀ ans₀ : List ℕ} {opened : Opened} {records : List Record} {i : ℕ} {img map ans : List ℕ} (m : Made img₀ map₀ ans₀ opened records i img map ans) where
   pub one_more_made : (none : Record) (img' map' ans' : List ℕ) → i < length records → Stepped img ans opened i (get_or records i none) img' map' ans'
-      → length img' ≡ length img → length map' ≡ length map → length ans' ≡ length ans → Made img₀ map₀ ans₀ opened records (suc i) img' map' ans'
+      → length img' ≡ length img → length map' ≡ length map → length ans' ≡ length ans → Made img₀ map₀ ans₀ opened records (i + 1) img' map' ans'
   one_more_made none img' map' ans' more step as_long as_wide as_many =
       let due = listed_outcome (request_in (get_or records i none)) img in
       let behind = answers_after due.image (requests_in (drop (suc i) records)) in
       let next : 32 * suc i ≡ 32 * i + length (answer_bytes due) = omega (arith, answer_long due) in
       let here = sym (drop-cons records i none more) in
-      record {
+      rw add-one (record {
         within = more;
         image = ap (λ (s : List ℕ). image_after s (requests_in (drop (suc i) records))) step.image
             ∙ ap (λ (rest : List Record). image_after img (requests_in rest)) here
@@ -59,14 +60,14 @@ module _ {img₀ map₀ ans₀ : List ℕ} {opened : Opened} {records : List Rec
         as_long = as_long ∙ m.as_long;
         as_wide = as_wide ∙ m.as_wide;
         as_many = as_many ∙ m.as_many;
-      }
+      })
 
-pub all_made : {img₀ map₀ ans₀ : List ℕ} {opened : Opened} {records : List Record} {img map ans : List ℕ}
-    → Made img₀ map₀ ans₀ opened records (length records) img map ans → Folded img₀ ans₀ opened records img map ans
-all_made {records = records} {img} {map} {ans} m =
-    let none_left = sym (drop-length records) in
+pub all_made : {img₀ map₀ ans₀ : List ℕ} {opened : Opened} {records : List Record} {i : ℕ} {img map ans : List ℕ}
+    → Made img₀ map₀ ans₀ opened records i img map ans → i ≡ length records → Folded img₀ ans₀ opened records img map ans
+all_made {records = records} {i} {img} {map} {ans} m whole =
+    let none_left : [] ≡ drop i records = sym (rw whole (drop-length records)) in
     record {
       image = ap (λ (rest : List Record). image_after img (requests_in rest)) none_left ∙ m.image;
-      beside = ap (λ (rest : List Record). sets ans (32 * length records) (answers_after img (requests_in rest))) none_left ∙ m.beside;
+      beside = ap (λ (rest : List Record). sets ans (32 * i) (answers_after img (requests_in rest))) none_left ∙ m.beside;
       fits = m.fits;
     }

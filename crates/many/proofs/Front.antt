@@ -9,13 +9,13 @@ use Prim.Native.Nat.{ℕ, ◌≤◌}
 use mathlib.Core.List.{List, [], ◌∷◌}
 use lib.ListN.{length, take}
 use seplogic.Ra.Ura.{Ura}
-use seplogic.Ra.TreeShare.{full_share}
+use base.Fraction.{full_share}
 use mir.Syntax.{Lifetime, Ty, ty_array, erased}
 use mir.Val.{Val}
 use base.Logic.{ent, sep, ex}
-use base.Fml.{Lft, GName, Fml, fsep, fat, flft, fdead, flent}
+use base.Fml.{Lft, GName, Fml, Incl-refl, fsep, fat, flft, fdead, flent}
 use types.Logic.{Logic, sem}
-use types.Kit.{‵, ◌⊛◌, some, later, ◌$◌, ◌∵◌, !, qed, move, use1, use2, split, pick, rewrite, keep, by, fsplit, fjoin, fpick, fpack, feq_l, feq_i, frame, await, updating}
+use types.Kit.{‵, ◌⊛◌, later, ◌$◌, ◌∵◌, !, qed, move, use1, use2, split, rewrite, keep, by, fsplit, fjoin, fpick, fpack, feq_l, feq_i, frame, await, updating}
 use types.Kit.{now as at_once, show, done}
 use types.Share.{arr_parts}
 use types.Tokens.{lent_back}
@@ -28,7 +28,7 @@ use denote.Ref.{Bor}
 use denote.Slice.{slice_val, ShrSlice, Room}
 use denote.Steps.{owned}
 use lib.Seq.{length-take-le}
-use borrow.Table.Copies.{Cp, halved}
+use borrow.Table.Copies.{Cp}
 use borrow.Table.Owned as O
 use borrow.Rule.Slice.Prefix.{shs_prefix_same}
 
@@ -71,14 +71,16 @@ module _ (R : RattleType) (n : ℕ) (b o : ℕ) where
     lends_front ℓ ν xs v k p room few =
         qed 𝓛 (‵ (fat full_share τ b o v) ∷ ‵ (flft ν full_share) ∷ []) ∵ updating ! $ use1 𝓛 (‵ ((arr_parts (shares R) n).part full_share xs b o)) (apart xs v p) $
         rewrite ! 0 (λ (m : ℕ). ‵ ((arr_parts (shares R) m).part full_share xs b o)) (sym p.1.0.1) refl $
-        use1 𝓛 (later (some (λ (γ : GName). ‵ ((O.ShrSlice erased ν R).own (front γ xs)) ⊛ ‵ (LentFront ν xs)))) (O.lends_shr_slice 𝓛 R erased ν full_share xs b o room) $
-        await ! tt $ pick ! (λ γ. split ! $ move ! (0 ∷ 2 ∷ []) $
-        use2 𝓛 (later (some (λ (γ' : GName). ‵ ((O.ShrSlice erased ν R).own (front γ' (take k xs)))
-        ⊛ ‵ (flft ν full_share)))) (shs_prefix_same 𝓛 R ν full_share b (halved 𝓛 c) o γ xs k) $ await ! tt $ pick ! (λ γ'. split ! $
+        -- the token is ν's own: the elements are shared out with it, and it comes back
+        use2 𝓛 (later ((‵ ((O.ShrSlice erased ν R).own_val (front 0 xs)) ⊛ ‵ (LentFront ν xs)) ⊛ ‵ (flft ν full_share)))
+        (O.lends_shr_slice 𝓛 R erased ν full_share xs b o room ν ((c.copied 𝓛).shares full_share ν) ((ν, full_share) ∷ []) (Incl-refl ν) (Incl-refl ν)) $ await ! tt $ split ! $ split ! $ move ! (0 ∷ 2 ∷ []) $
+        use2 𝓛 (later (‵ ((O.ShrSlice erased ν R).own_val (front 0 (take k xs))) ⊛ ‵ (flft ν full_share)))
+        (shs_prefix_same 𝓛 R ν full_share b o xs k) $ await ! tt $ split ! $
+        -- no shared slice has a ghost name, so any will do
         at_once ! $ show ! (λ (δ : GName). sep 𝓤 (sem 𝓛 ((ShrSlice ℓ ν R).own_val (front δ (take k xs)) (slice_val (b, o) k ∷ [])))
-        (sep 𝓤 (A.lft ν full_share) (sem 𝓛 (LentFront ν xs)))) γ' $
+        (sep 𝓤 (A.lft ν full_share) (sem 𝓛 (LentFront ν xs)))) 0 $
         fsplit ! $ feq_i ! (List Val) (slice_val (b, o) k ∷ []) (slice_val (b, o) (length (take k xs)) ∷ []) (ap (λ (m : ℕ). slice_val (b, o) m ∷ []) (sym (length-take-le k xs few))) $
-        fjoin ! $ fjoin ! $ frame ! $ done !))
+        fjoin ! $ fjoin ! $ frame ! $ done !
 
     pub front_back : (ν : Lft) (xs : List R.Denot) → length xs ≡ n
         → ent 𝓤 (sep 𝓤 (A.dead ν) (sem 𝓛 (LentFront ν xs))) (H.⇛ (ex 𝓤 (λ (u : Val). H.at full_share τ b o u)))

@@ -29,7 +29,7 @@ use Rattle.promises.proofs.BinaryAgainCalls.{written_whole, binary_ended}
 use Rattle.promises.proofs.BinaryAgainRead.{read_stored}
 
 -- Every request has code 0, where nothing but room could speak against a linked add of the gather buffer, and the free blocks hold the lines: each call of
--- writing on the way (`binary-accepted`; it can be finished from wherever it is, `binary-finish`), and then the ending call, CLOSE and OPENI
+-- writing on the way (`binary_accepted`; it can be finished from wherever it is, `binary_finish`), and then the ending call, CLOSE and OPENI
 module _ (img : List ℕ) (key : Key) (caller : ℕ) (gather : List ℕ)
     (open-cases : GivesCode (AddingCases img key caller (OtherPayload img gather)) 0)
     {filled : ℕ} (within : filled < payload_bytes (geometry_of img)) {contents : List (List ℕ)}

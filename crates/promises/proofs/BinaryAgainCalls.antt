@@ -123,13 +123,18 @@ module _ (img : List ℕ) (key : Key) (caller : ℕ) (gather : List ℕ)
       (part_clear img key caller gather open-cases filled within (binary_lines contents) room r.laid (binary_line content) (binary_lines left) parts) few
 
   -- so from wherever the writing is, it can be finished
+  finish : (left : List (List ℕ)) → LinesFit left → {img' gather' : List ℕ} {filled' : ℕ}
+      → BinaryWrittenBy key caller img gather filled contents img' gather' filled' left
+      → (img₁ : List ℕ) × (gather₁ : List ℕ) × (filled₁ : ℕ) × BinaryWrittenBy key caller img gather filled contents img₁ gather₁ filled₁ []
+  finish [] no_line {img'} {gather'} {filled'} written = (img', gather', filled', written)
+  finish (content ∷ left) (one_more few rest) {img'} {gather'} {filled'} written =
+      let is = write_outcome img' key caller content gather' filled' (binary_accepted written few) in
+      finish left rest (written_then written (call is nothing))
+
   pub binary_finish : {img' gather' : List ℕ} {filled' : ℕ} (left : List (List ℕ)) → LinesFit left
       → BinaryWrittenBy key caller img gather filled contents img' gather' filled' left
       → (img₁ : List ℕ) × (gather₁ : List ℕ) × (filled₁ : ℕ) × BinaryWrittenBy key caller img gather filled contents img₁ gather₁ filled₁ []
-  binary_finish {img'} {gather'} {filled'} [] no_line written = (img', gather', filled', written)
-  binary_finish {img'} {gather'} {filled'} (content ∷ left) (one_more few rest) written =
-      let is = write_outcome img' key caller content gather' filled' (binary_accepted written few) in
-      binary_finish left rest (written_then written (call is nothing))
+  binary_finish left fit written = finish left fit written
 
   -- the ending call is that of lines of text
   pub binary_ended : {img' gather' : List ℕ} {filled' : ℕ} → BinaryWrittenBy key caller img gather filled contents img' gather' filled' []

@@ -18,18 +18,18 @@ use Rattle.binary.specs.BinaryRoundTrip.{Stored, only_nuls, one_line}
 use Rattle.binary.proofs.BinaryRoundTrip.{written_read, written_left, nuls_read}
 use Rattle.binary.proofs.BinaryReadingStage.{BinaryAsked, binary_read_given}
 use Rattle.promises.specs.BytesAgain.{payloads_in}
-use Rattle.promises.specs.BinaryAgain.{PartsRead, InAnyParts, BinaryReadAgain, at_end_law, one_read}
+use Rattle.promises.specs.BinaryAgain.{PartsRead, InAnyParts, BinaryReadAgain, at_end, one_read}
 use Rattle.promises.proofs.BytesAgainHeld.{Held, held_payloads, held_length, held_reached}
 use Rattle.promises.proofs.BinaryParts.{right_reading, read_otherwise, binary_parts_one, binary_parts_end}
 
 -- the same calls, said otherwise
-same_parts : {img : List ℕ} {key : Key} {caller : ℕ} {buffers : ℕ → List ℕ} {position toCome sum : ℕ} {laid laid' : List ℕ} {status status' next next' : ℕ}
+same_parts : {img : List ℕ} {key : Key} {caller : ℕ} {buffers : ℕ → List ℕ} {position to_come sum : ℕ} {laid laid' : List ℕ} {status status' next next' : ℕ}
     → laid ≡ laid' → status ≡ status' → next ≡ next'
-    → PartsRead img key caller buffers position toCome sum laid status next → PartsRead img key caller buffers position toCome sum laid' status' next'
+    → PartsRead img key caller buffers position to_come sum laid status next → PartsRead img key caller buffers position to_come sum laid' status' next'
 same_parts {img} {key} {caller} {buffers} {position} {to_come} {sum} {laid} {laid'} {status} {status'} {next} {next'} a b c parts =
-    subst (λ (s : List ℕ). PartsRead img key caller buffers position toCome sum s status' next') a
-    (subst (λ (n : ℕ). PartsRead img key caller buffers position toCome sum laid n next') b
-    (subst (λ (n : ℕ). PartsRead img key caller buffers position toCome sum laid status n) c parts))
+    subst (λ (s : List ℕ). PartsRead img key caller buffers position to_come sum s status' next') a
+    (subst (λ (n : ℕ). PartsRead img key caller buffers position to_come sum laid n next') b
+    (subst (λ (n : ℕ). PartsRead img key caller buffers position to_come sum laid status n) c parts))
 
 -- a line that is read at once with a large buffer is read in any parts
 module _ (img : List ℕ) (key : Key) (caller position : ℕ) (content : List ℕ) (next : ℕ) (large : List ℕ) (many : 512 ≤ length large)
@@ -113,7 +113,7 @@ module _ {img : List ℕ} {key : Key} {g : Geometry} {e caller : ℕ} {payloads 
   read_stored (only_nuls nuls) position within is =
       let end : position + length (replicate {A = ℕ} nuls 0) ≡ length (payloads_in img key) =
       omega (arith, within, length-drop position payloads, ap length is, ap length (held_payloads held)) in
-      at_end_law (λ mode buffer small lent.
+      at_end (λ mode buffer small lent.
       read_held mode position buffer small lent within (replicate nuls 0) is
       ∙ ap (binary_outcome img position buffer) (nuls_read (mode_of mode) (length buffer) nuls)
       ∙ ap (λ (n : ℕ). record { code = 0; numbers = 0 ∷ (64 ∷ (n ∷ (0 ∷ (0 ∷ [])))); image = img; buffer = buffer }) end)

@@ -23,17 +23,17 @@ use Rattle.promises.proofs.CodesTests.{equal_numbers, above, denies, either, bot
 use Rattle.promises.proofs.CodesBlocks.{adding_code}
 use Rattle.promises.proofs.CodesLines.{reading_code, unreadable, other_gather, full_count, counted_few}
 
-other_given : (toCome sum : ℕ) → wrong_given toCome sum ≡ true ↔ OtherGiven toCome sum
-other_given toCome sum =
-    either (ltb 511 toCome) (ltb 255 sum || (eqb toCome 0 && not (eqb sum 0))) (above 511 toCome)
-    (either (ltb 255 sum) (eqb toCome 0 && not (eqb sum 0)) (above 255 sum)
-    (both (eqb toCome 0) (not (eqb sum 0)) (equal_numbers toCome 0) (denies (eqb sum 0) (equal_numbers sum 0))))
+other_given : (to_come sum : ℕ) → wrong_given to_come sum ≡ true ↔ OtherGiven to_come sum
+other_given to_come sum =
+    either (ltb 511 to_come) (ltb 255 sum || (eqb to_come 0 && not (eqb sum 0))) (above 511 to_come)
+    (either (ltb 255 sum) (eqb to_come 0 && not (eqb sum 0)) (above 255 sum)
+    (both (eqb to_come 0) (not (eqb sum 0)) (equal_numbers to_come 0) (denies (eqb sum 0) (equal_numbers sum 0))))
 
-pub binary_read_code : (img : List ℕ) (key : Key) (caller mode position toCome sum : ℕ) (buffer : List ℕ)
-    → GivesCode (cases_of (BINARY-READ key caller mode position toCome sum buffer) img) (binary_read img key caller mode position toCome sum buffer).code
+pub binary_read_code : (img : List ℕ) (key : Key) (caller mode position to_come sum : ℕ) (buffer : List ℕ)
+    → GivesCode (cases_of (BINARY-READ key caller mode position to_come sum buffer) img) (binary_read img key caller mode position to_come sum buffer).code
 unfolding binary_read binary_read_rows settled
-binary_read_code img key caller mode position toCome sum buffer =
-    reading_code img key caller _ _ (either (wrong_reading mode buffer) (wrong_given toCome sum) (unreadable mode buffer) (other_given toCome sum)) position
+binary_read_code img key caller mode position to_come sum buffer =
+    reading_code img key caller _ _ (either (wrong_reading mode buffer) (wrong_given to_come sum) (unreadable mode buffer) (other_given to_come sum)) position
 
 pub binary_write_code : (img : List ℕ) (key : Key) (caller : ℕ) (content gather : List ℕ) (filled : ℕ)
     → GivesCode (cases_of (BINARY-WRITE key caller content gather filled) img) (binary_write img key caller content gather filled).code

@@ -89,7 +89,7 @@ bin2o_right n small buffer same = characters_given 6 (digits_of 8 6) n buffer sa
 
 -- "packing as well as unpacking": each pair undoes itself, both ways
 pub radix_inverse : InverseDemands 3 radpk radup
-radix_inverse = record { number_again = radix.word-again; characters_again = radix.characters_again }
+radix_inverse = record { number_again = radix.word_again; characters_again = radix.characters_again }
 
 pub decimal_inverse : InverseDemands 5 d2bin bin2d
 decimal_inverse = record { number_again = decimal_number_again; characters_again = decimal_characters_again }

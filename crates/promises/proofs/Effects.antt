@@ -1,8 +1,8 @@
--- 2.1: what each request changes on success, said of entries, blocks and bytes; of all else `nothing-else` (Main.antt) says that it stays. In the order of the paper.
+-- 2.1: what each request changes on success, said of entries, blocks and bytes; of all else `nothing_else` (Main.antt) says that it stays. In the order of the paper.
 -- Format: an empty pack
 pub use Rattle.creation.proofs.FormatRows.{format_done}
 -- document 02 §7, the map: right to its last bit after Format; ALLOC makes the bits of its run 1, linked add that of its block, DELET those of the file's blocks 0,
--- and each leaves every other bit (of lines and Finish `map-agrees`, Main.antt, says it of the image that they leave)
+-- and each leaves every other bit (of lines and Finish `map_agrees`, Main.antt, says it of the image that they leave)
 pub use Rattle.creation.proofs.FormatEffect.{format_map}
 pub use Rattle.creation.proofs.AllocEffect.{alloc_bits}
 pub use Rattle.adding.proofs.LinkedAddEffect.{linked_add_bits}
@@ -29,7 +29,7 @@ pub use Rattle.transfer.proofs.BlockAgain.{block_again}
 pub use Rattle.room.proofs.Taken.{taken_zero, taken_changes}
 -- linked add: the highest free block, joined at the end, its payload behind the others
 pub use Rattle.adding.proofs.LinkedAddEffect.{linked_add_highest, linked_add_blocks, linked_add_payloads}
--- Finish, document 02 §12 (`finish-listed`, `finish-deletes`, `finish-again`: Main.antt). Exactly the scratch files are gone, every other entry has its
+-- Finish, document 02 §12 (`finish_listed`, `finish_deletes`, `finish_again`: Main.antt). Exactly the scratch files are gone, every other entry has its
 -- words, and no entry has their names; their blocks are free and no other changes hands; every other file has its words and bytes: another's, kept,
 -- open, with bit 6 set, and these are all that is spared
 pub use Rattle.finishing.proofs.FinishEffect.{finish_gone, finish_words, finish_absent, finish_frees, finish_owner, finish_leaves, finish_spares}
@@ -52,16 +52,16 @@ pub use Rattle.lines.proofs.LineWritingEnding.{line_end_payloads, line_end_buffe
 -- lines that are put read back the same
 pub use Rattle.lines.proofs.LineRoundTrip.{lines_read_back}
 pub use Rattle.lines.proofs.LineRoundTripWritten.{line_taken, line_whole, line_status}
--- written by any calls, ended, closed, opened and read: any call goes on, and the writing can be finished (`lines-round-trip` is in Main.antt)
+-- written by any calls, ended, closed, opened and read: any call goes on, and the writing can be finished (`lines_round_trip` is in Main.antt)
 pub use Rattle.promises.proofs.LinesAgainAccepted.{lines_accepted, lines_go_on, lines_finish}
--- formatted binary lines, document 02 §10 (`binary-whole`, `binary-exclude`, `binary-answered`, `binary-statuses`, `binary-next-most`, `binary-next-grows`: Main.antt).
+-- formatted binary lines, document 02 §10 (`binary_whole`, `binary_exclude`, `binary_answered`, `binary_statuses`, `binary_next_most`, `binary_next_grows`: Main.antt).
 -- Reading: what is found in the bytes from the position on; the header said of its bytes, and in one way; bit 2 and bit 6; what is laid, counted and given back
 pub use Rattle.binary.proofs.BinaryReadingStage.{binary_read_done}
 pub use Rattle.binary.proofs.BinaryHeader.{header_case, header_only, wrong_stays, ended_there}
 pub use Rattle.binary.proofs.BinaryGiven.{special_given, special_given_none, normal_given_none}
 -- a normal read has the count, the position and, bit 0 aside, the status of a special read with a large buffer
 pub use Rattle.binary.proofs.NormalLast.{normal_alike}
--- what a read gives back is not refused, and the next call goes on in the bytes behind (`binary-parts-one`, `binary-parts-end`: Main.antt)
+-- what a read gives back is not refused, and the next call goes on in the bytes behind (`binary_parts_one`, `binary_parts_end`: Main.antt)
 pub use Rattle.binary.proofs.BinaryAgain.{given_again, binary_read_again}
 -- writing: the payloads and the gathered bytes go on with the stored line, no byte lost or added; all data bytes are counted, with status 0; the highest free blocks
 -- are taken; bytes not laid over stay

@@ -67,7 +67,7 @@ lines_again {key} {img = img} {gather = gather} {filled = filled} {filled' = fil
     (readable_lines (payloads_in img key ++ take filled gather) (cond (eqb filled' 0) 0 (payload_bytes (geometry_of img) - filled')) (ended_readable start (reached written ended) ended) all)
 
 -- Every request of the round trip has code 0, where nothing but room could speak against a linked add of the gather buffer, and the free blocks hold the text as
--- it is put: each call of writing on the way (`lines-accepted`; it can be finished from wherever it is, `lines-finish`), and then
+-- it is put: each call of writing on the way (`lines_accepted`; it can be finished from wherever it is, `lines_finish`), and then
 module _ (img : List ℕ) (key : Key) (caller : ℕ) (gather : List ℕ)
     (open-cases : GivesCode (AddingCases img key caller (OtherPayload img gather)) 0)
     {filled : ℕ} (within : filled < payload_bytes (geometry_of img)) {lines : List (List ℕ)} (all : TextLines lines)

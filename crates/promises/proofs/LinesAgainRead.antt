@@ -16,12 +16,12 @@ use Rattle.lines.specs.declared.LineMode.TheVariants.{Normal}
 use Rattle.lines.specs.LineRead.{LineFound, kept_line, is_terminated, status_bit, line_found}
 use Rattle.lines.specs.LineReadingRows.{wrong_reading}
 use Rattle.lines.specs.LineReading.{mode_of, found_outcome, line_read}
-use Rattle.lines.specs.LineRoundTrip.{TextLine, terminated, TextLines, no_line, one_more, ReadBack, at_end_law as found_end, one_read as found-line}
+use Rattle.lines.specs.LineRoundTrip.{TextLine, terminated, TextLines, no_line, one_more, ReadBack, at_end as found_end, one_read as found-line}
 use Rattle.lines.proofs.LineReadCases.{ReadCase, whole, surplus, stop, found_case}
 use Rattle.lines.proofs.LineReadProgress.{passed_most}
 use Rattle.lines.proofs.LineReadingStage.{LineAsked, line_read_given}
 use Rattle.promises.specs.BytesAgain.{payloads_in}
-use Rattle.promises.specs.LinesAgain.{ReadAgain, at_end_law, one_read}
+use Rattle.promises.specs.LinesAgain.{ReadAgain, at_end, one_read}
 use Rattle.promises.proofs.BytesAgainHeld.{Held, held_payloads, held_length, held_reached}
 
 -- where bit 0 is not set, both modes find the same
@@ -74,7 +74,7 @@ module _ {img : List ℕ} {key : Key} {g : Geometry} {e caller : ℕ} {payloads 
   pub read_lines : {lines : List (List ℕ)} → TextLines lines → (position : ℕ) → position ≤ length payloads → ReadBack Normal (drop position payloads) lines
       → ReadAgain img key caller position lines
   read_lines no_line position within (found_end found) =
-      at_end_law (λ mode buffer small lent.
+      at_end (λ mode buffer small lent.
       let end : position + length (drop position payloads) ≡ length (payloads_in img key) = omega (arith, length-drop position payloads, ap length (held_payloads held)) in
       read_found mode position buffer small lent within _ (found (length buffer) lent) (inr refl)
       ∙ ap (λ (n : ℕ). record { code = 0; numbers = 0 ∷ (64 ∷ (n ∷ [])); image = img; buffer = buffer }) end)

@@ -68,37 +68,37 @@ module _ (records : List ℕ) (i : ℕ) where
     where
       by : Dec (word 0 ≡ 1) → Dec (word 0 ≡ 2) → Dec (word 0 ≡ 3) → Dec (word 0 ≡ 4) → Dec (word 0 ≡ 5)
           → Dec (word 0 ≡ 6) → Dec (word 0 ≡ 7) → Dec (word 0 ≡ 8) → Dec (word 0 ≡ 9) → Dec (word 0 ≡ 10) → NamedBy word request
-      by (yes is) d2 d3 d4 d5 d6 d7 d8 d9 d10 = subst (NamedBy word) (sym (names.names-alloc (record_at records i) (number is))) (alloc is)
-      by (no n1) (yes is) d3 d4 d5 d6 d7 d8 d9 d10 = subst (NamedBy word) (sym (names.names-delet (record_at records i) (number is))) (delet is)
-      by (no n1) (no n2) (yes is) d4 d5 d6 d7 d8 d9 d10 = subst (NamedBy word) (sym (names.names-renam (record_at records i) (number is))) (renam is)
-      by (no n1) (no n2) (no n3) (yes is) d5 d6 d7 d8 d9 d10 = subst (NamedBy word) (sym (names.names-appnd (record_at records i) (number is))) (appnd is)
-      by (no n1) (no n2) (no n3) (no n4) (yes is) d6 d7 d8 d9 d10 = subst (NamedBy word) (sym (names.names-keep (record_at records i) (number is))) (keep is)
-      by (no n1) (no n2) (no n3) (no n4) (no n5) (yes is) d7 d8 d9 d10 = subst (NamedBy word) (sym (names.names-openo (record_at records i) (number is))) (openo is)
-      by (no n1) (no n2) (no n3) (no n4) (no n5) (no n6) (yes is) d8 d9 d10 = subst (NamedBy word) (sym (names.names-openi (record_at records i) (number is))) (openi is)
-      by (no n1) (no n2) (no n3) (no n4) (no n5) (no n6) (no n7) (yes is) d9 d10 = subst (NamedBy word) (sym (names.names-openu (record_at records i) (number is))) (openu is)
-      by (no n1) (no n2) (no n3) (no n4) (no n5) (no n6) (no n7) (no n8) (yes is) d10 = subst (NamedBy word) (sym (names.names-opene (record_at records i) (number is))) (opene is)
-      by (no n1) (no n2) (no n3) (no n4) (no n5) (no n6) (no n7) (no n8) (no n9) (yes is) = subst (NamedBy word) (sym (names.names-close (record_at records i) (number is))) (close is)
+      by (yes is) d2 d3 d4 d5 d6 d7 d8 d9 d10 = subst (NamedBy word) (sym (names.names_alloc (record_at records i) (number is))) (alloc is)
+      by (no n1) (yes is) d3 d4 d5 d6 d7 d8 d9 d10 = subst (NamedBy word) (sym (names.names_delet (record_at records i) (number is))) (delet is)
+      by (no n1) (no n2) (yes is) d4 d5 d6 d7 d8 d9 d10 = subst (NamedBy word) (sym (names.names_renam (record_at records i) (number is))) (renam is)
+      by (no n1) (no n2) (no n3) (yes is) d5 d6 d7 d8 d9 d10 = subst (NamedBy word) (sym (names.names_appnd (record_at records i) (number is))) (appnd is)
+      by (no n1) (no n2) (no n3) (no n4) (yes is) d6 d7 d8 d9 d10 = subst (NamedBy word) (sym (names.names_keep (record_at records i) (number is))) (keep is)
+      by (no n1) (no n2) (no n3) (no n4) (no n5) (yes is) d7 d8 d9 d10 = subst (NamedBy word) (sym (names.names_openo (record_at records i) (number is))) (openo is)
+      by (no n1) (no n2) (no n3) (no n4) (no n5) (no n6) (yes is) d8 d9 d10 = subst (NamedBy word) (sym (names.names_openi (record_at records i) (number is))) (openi is)
+      by (no n1) (no n2) (no n3) (no n4) (no n5) (no n6) (no n7) (yes is) d9 d10 = subst (NamedBy word) (sym (names.names_openu (record_at records i) (number is))) (openu is)
+      by (no n1) (no n2) (no n3) (no n4) (no n5) (no n6) (no n7) (no n8) (yes is) d10 = subst (NamedBy word) (sym (names.names_opene (record_at records i) (number is))) (opene is)
+      by (no n1) (no n2) (no n3) (no n4) (no n5) (no n6) (no n7) (no n8) (no n9) (yes is) = subst (NamedBy word) (sym (names.names_close (record_at records i) (number is))) (close is)
       by (no n1) (no n2) (no n3) (no n4) (no n5) (no n6) (no n7) (no n8) (no n9) (no n10) =
           let outside = beyond (λ more. past 10 (past 9 (past 8 (past 7 (past 6 (past 5 (past 4 (past 3 (past 2 (past 1 more n1) n2) n3) n4) n5) n6) n7) n8) n9) n10) in
-          subst (NamedBy word) (sym (names.names-none (record_at records i) (subst (λ (n : ℕ). (n ≡ 0) ⊎ (10 < n)) first_word outside))) (nothing outside)
+          subst (NamedBy word) (sym (names.names_none (record_at records i) (subst (λ (n : ℕ). (n ≡ 0) ⊎ (10 < n)) first_word outside))) (nothing outside)
 
   pub names_iff : (o : Option Request) → NamedBy word o ↔ request ≡ o
   unfolding record_at
   names_iff o = (to o, λ is. subst (NamedBy word) is named)
     where
       to : (o : Option Request) → NamedBy word o → request ≡ o
-      to o (alloc is) = names.names-alloc (record_at records i) (number is)
-      to o (delet is) = names.names-delet (record_at records i) (number is)
-      to o (renam is) = names.names-renam (record_at records i) (number is)
-      to o (appnd is) = names.names-appnd (record_at records i) (number is)
-      to o (keep is) = names.names-keep (record_at records i) (number is)
-      to o (openo is) = names.names-openo (record_at records i) (number is)
-      to o (openi is) = names.names-openi (record_at records i) (number is)
-      to o (openu is) = names.names-openu (record_at records i) (number is)
-      to o (opene is) = names.names-opene (record_at records i) (number is)
-      to o (close is) = names.names-close (record_at records i) (number is)
-      to o (nothing (inl is)) = names.names-none (record_at records i) (inl (number is))
-      to o (nothing (inr more)) = names.names-none (record_at records i) (inr (omega (arith, first_word, more)))
+      to o (alloc is) = names.names_alloc (record_at records i) (number is)
+      to o (delet is) = names.names_delet (record_at records i) (number is)
+      to o (renam is) = names.names_renam (record_at records i) (number is)
+      to o (appnd is) = names.names_appnd (record_at records i) (number is)
+      to o (keep is) = names.names_keep (record_at records i) (number is)
+      to o (openo is) = names.names_openo (record_at records i) (number is)
+      to o (openi is) = names.names_openi (record_at records i) (number is)
+      to o (openu is) = names.names_openu (record_at records i) (number is)
+      to o (opene is) = names.names_opene (record_at records i) (number is)
+      to o (close is) = names.names_close (record_at records i) (number is)
+      to o (nothing (inl is)) = names.names_none (record_at records i) (inl (number is))
+      to o (nothing (inr more)) = names.names_none (record_at records i) (inr (omega (arith, first_word, more)))
 
 -- what each record comes to: the request that it names, made of the image that those before it left; or 41, whatever that image is, and nothing changes
 module _ (img records : List ℕ) where

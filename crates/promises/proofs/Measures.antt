@@ -75,13 +75,13 @@ module _ {img : List ℕ} (right : Consistent img) where
   blocks_by segments is =
       record {
         block_words_is = rw is;
-        block_bytes = rw is;
-        block_at_law = λ b. rw is (mul_comm b (64 * segments));
+        block_bytes_is = rw is;
+        block_at_is = λ b. rw is (mul_comm b (64 * segments));
         block_start_is = λ b. rw is (mul_comm b (128 * segments));
         entries = rw is (mul_comm (word_at img 2) (4 * segments));
         entry_at_is = λ e. rw is;
-        payload_bytes = rw is;
-        payload_start = λ b. rw is (ap (λ (at : ℕ). at + 2) (mul_comm b (128 * segments)));
+        payload_bytes_is = rw is;
+        payload_start_is = λ b. rw is (ap (λ (at : ℕ). at + 2) (mul_comm b (128 * segments)));
         rounding = λ n. blocks_rounded (geometry_of img) n right.header.measured.known ∙ rw is;
       }
 
@@ -90,13 +90,13 @@ module _ {img : List ℕ} (right : Consistent img) where
   unrounded b =
       record {
         block_words_is = b.block_words_is;
-        block_bytes = b.block_bytes;
-        block_at_law = b.block_at_is;
+        block_bytes_is = b.block_bytes_is;
+        block_at_is = b.block_at_is;
         block_start_is = b.block_start_is;
         entries = b.entries;
         entry_at_is = b.entry_at_is;
-        payload_bytes = b.payload_bytes;
-        payload_start = b.payload_start;
+        payload_bytes_is = b.payload_bytes_is;
+        payload_start_is = b.payload_start_is;
         rounding = λ n. b.rounding n ∙ omega arith;
       }
 

@@ -20,16 +20,16 @@ pub data BinaryWrittenBy (key : Key) (caller : ℕ)
 -- gave back: special calls as long as the buffer is short, each with status 1, then one more in either mode, without bit 0. Each call lends a buffer of its own;
 -- what it laid down are the first bytes of what it left there, as many as it counts. With all these bytes, joined, stand the status of the last call and its position.
 pub data PartsRead (img : List ℕ) (key : Key) (caller : ℕ)
-    : (buffers : ℕ → List ℕ) (position toCome sum : ℕ) (laid : List ℕ) (status next : ℕ) → Type 0 where
-  last_part : {buffers : ℕ → List ℕ} {position toCome sum count status next : ℕ} {after : List ℕ} (mode : ℕ)
-      → binary_read img key caller mode position toCome sum (buffers 0)
+    : (buffers : ℕ → List ℕ) (position to_come sum : ℕ) (laid : List ℕ) (status next : ℕ) → Type 0 where
+  last_part : {buffers : ℕ → List ℕ} {position to_come sum count status next : ℕ} {after : List ℕ} (mode : ℕ)
+      → binary_read img key caller mode position to_come sum (buffers 0)
       ≡ record { code = 0; numbers = count ∷ (status ∷ (next ∷ (0 ∷ (0 ∷ [])))); image = img; buffer = after }
-      → status % 2 ≡ 0 → PartsRead img key caller buffers position toCome sum (take count after) status next
-  one_part : {buffers : ℕ → List ℕ} {position toCome sum count on more so_far status next : ℕ} {after laid : List ℕ}
-      → binary_read img key caller 1 position toCome sum (buffers 0)
+      → status % 2 ≡ 0 → PartsRead img key caller buffers position to_come sum (take count after) status next
+  one_part : {buffers : ℕ → List ℕ} {position to_come sum count on more so_far status next : ℕ} {after laid : List ℕ}
+      → binary_read img key caller 1 position to_come sum (buffers 0)
       ≡ record { code = 0; numbers = count ∷ (1 ∷ (on ∷ (more ∷ (so_far ∷ [])))); image = img; buffer = after }
       → PartsRead img key caller (λ i. buffers (suc i)) on more so_far laid status next
-      → PartsRead img key caller buffers position toCome sum (take count after ++ laid) status next
+      → PartsRead img key caller buffers position to_come sum (take count after ++ laid) status next
 
 -- a new line in parts: with any buffers of at least one byte there are such calls, and whatever calls there are, they lay down this line, without a bit set at the last
 pub record InAnyParts (img : List ℕ) (key : Key) (caller position : ℕ) (content : List ℕ) (next : ℕ) : Type 0 where
@@ -40,7 +40,7 @@ pub record InAnyParts (img : List ℕ) (key : Key) (caller position : ℕ) (cont
 -- "What is written reads back": the lines are read one after another, each call in either mode and with any buffer that holds its line, or each in any parts;
 -- behind the last there is nothing before the end, and the position is there
 pub data BinaryReadAgain (img : List ℕ) (key : Key) (caller : ℕ) : (position : ℕ) → List (List ℕ) → Type 0 where
-  at_end_law : {position : ℕ}
+  at_end : {position : ℕ}
       → ((mode : ℕ) (buffer : List ℕ) → mode ≤ 1 → 0 < length buffer
       → binary_read img key caller mode position 0 0 buffer
       ≡ record { code = 0; numbers = 0 ∷ (64 ∷ (length (payloads_in img key) ∷ (0 ∷ (0 ∷ [])))); image = img; buffer = buffer })

@@ -128,7 +128,7 @@ full_blocks img filled mode text = (filled + length (put_all (taken_of (mode_of 
 
 -- §10: "a length to come over 511, a sum over 255, or one not 0 with nothing to come"
 abbrev pub OtherGiven : ℕ → ℕ → Type 0
-OtherGiven toCome sum = (511 < toCome) ⊎ ((255 < sum) ⊎ ((toCome ≡ 0) × (sum ≡ 0 → ⊥)))
+OtherGiven to_come sum = (511 < to_come) ⊎ ((255 < sum) ⊎ ((to_come ≡ 0) × (sum ≡ 0 → ⊥)))
 
 -- "At most 512 data bytes."
 abbrev pub LongerLine : List ℕ → Type 0
@@ -209,8 +209,8 @@ cases_of (LINE-WRITE key caller mode text gather filled) img =
 cases_of (LINE-END key caller gather filled) img =
     AddingCases img key caller (OtherGather img gather filled) ++ 0o42 when ((0 < filled) × ((b : ℕ) → FreeBlock img b → ⊥)) ∷ []
 -- 02 §10: "Refusals: as §1; 41 also for a longer line, a length to come over 511, a sum over 255, or one not 0 with nothing to come."
-cases_of (BINARY-READ key caller mode position toCome sum buffer) img =
-    ReadingCases img key caller (((length buffer ≡ 0) ⊎ NoLineMode mode) ⊎ OtherGiven toCome sum) position
+cases_of (BINARY-READ key caller mode position to_come sum buffer) img =
+    ReadingCases img key caller (((length buffer ≡ 0) ⊎ NoLineMode mode) ⊎ OtherGiven to_come sum) position
 cases_of (BINARY-WRITE key caller content gather filled) img =
     AddingCases img key caller (OtherGather img gather filled ⊎ LongerLine content) ++ 0o42 when (free_count img < full_binary img filled content) ∷ []
 -- 02 §12: "Refusals: 40 only."

@@ -19,7 +19,7 @@ pub data WrittenBy (key : Key) (caller : ℕ) : (img gather : List ℕ) (filled 
 -- "must read back the same when the count allows them": the lines are read one after another, each call in either mode and with any buffer that holds its line;
 -- behind the last there is nothing before the end, and the position is there
 pub data ReadAgain (img : List ℕ) (key : Key) (caller : ℕ) : (position : ℕ) → List (List ℕ) → Type 0 where
-  at_end_law : {position : ℕ}
+  at_end : {position : ℕ}
       → ((mode : ℕ) (buffer : List ℕ) → mode ≤ 1 → 0 < length buffer
       → line_read img key caller mode position buffer
       ≡ record { code = 0; numbers = 0 ∷ (64 ∷ (length (payloads_in img key) ∷ [])); image = img; buffer = buffer })

@@ -8,13 +8,13 @@ use Rattle.creation.specs.Rounding.{length_for}
 
 -- what block 0 and the image's length say, and what Format is told, in a form with blocks of so many bytes, so many of the system beside the contents, and
 -- at most so many blocks, blocks of contents and UICs: `long` bytes, n, c and u
-pub record HeaderNumbers (bytes system most_blocks_law most_contents_law most_uics long n c u : ℕ) : Type 0 where
+pub record HeaderNumbers (bytes system most_blocks most_contents most_uics long n c u : ℕ) : Type 0 where
   -- "word 1 is n, the blocks in all, 16 to 1024;", and "n to 4096"
   pub blocks_least : 16 ≤ n
-  pub blocks_most : n ≤ most_blocks_law
+  pub blocks_most : n ≤ most_blocks
   -- "word 2 is c, 1 to 8;", and "c to 32"
   pub contents_least : 1 ≤ c
-  pub contents_most : c ≤ most_contents_law
+  pub contents_most : c ≤ most_contents
   -- "with c + 2 below n", "with c + 1 below n": in form 1 by the bounds of n and c
   pub room : c + system < n
   -- "word 3 is u, 0 to 64;", and "at most 60 UICs"
@@ -31,21 +31,21 @@ pub data DocumentHeader (long : ℕ) : (form n c u : ℕ) → Type 0 where
   header_3 : {n c u : ℕ} → HeaderNumbers 128 1 1024 32 60 long n c u → DocumentHeader long 3 n c u
 
 -- the measures of an image whose blocks have so many words, bytes, entries and payload bytes, and which takes so many blocks for N segments
-pub record BlockNumbers (words bytes entries-each payload : ℕ) (blocks-for : ℕ → ℕ) (img : List ℕ) : Type 0 where
+pub record BlockNumbers (words bytes entries_each payload : ℕ) (blocks_for : ℕ → ℕ) (img : List ℕ) : Type 0 where
   -- "A block is 256 words."
   pub block_words_is : block_words (geometry_of img) ≡ words
-  pub block_bytes : block_bytes (geometry_of img) ≡ bytes
+  pub block_bytes_is : block_bytes (geometry_of img) ≡ bytes
   -- so block b begins at that many words, and bytes, times b
-  pub block_at_law : (b : ℕ) → block_at (geometry_of img) b ≡ words * b
+  pub block_at_is : (b : ℕ) → block_at (geometry_of img) b ≡ words * b
   pub block_start_is : (b : ℕ) → block_start (geometry_of img) b ≡ bytes * b
   -- "Blocks 1 to c: 16 entries each, of 16 words"
-  pub entries : slots (geometry_of img) ≡ entries-each * word_at img 2
+  pub entries : slots (geometry_of img) ≡ entries_each * word_at img 2
   pub entry_at_is : (e : ℕ) → entry_at (geometry_of img) e ≡ words + 16 * e
   -- "its payload is the 510 bytes that start at byte 2 of a block."
-  pub payload_bytes : payload_bytes (geometry_of img) ≡ payload
-  pub payload_start : (b : ℕ) → payload_start (geometry_of img) b ≡ bytes * b + 2
+  pub payload_bytes_is : payload_bytes (geometry_of img) ≡ payload
+  pub payload_start_is : (b : ℕ) → payload_start (geometry_of img) b ≡ bytes * b + 2
   -- "N segments (000: B = 4 per block) make N/4 blocks rounded up."
-  pub rounding : (segments : ℕ) → length_for img segments ≡ blocks-for segments
+  pub rounding : (segments : ℕ) → length_for img segments ≡ blocks_for segments
 
 pub data BlocksOf (img : List ℕ) : (form : ℕ) → Type 0 where
   -- 01: "A block is 256 words", "16 entries each", "the 510 bytes that start at byte 2", "N/4 blocks rounded up"

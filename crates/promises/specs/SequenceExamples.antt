@@ -34,15 +34,15 @@ making key = REQUEST (OPENO key owner 0) ∷ (REQUEST (CLOSE key 2) ∷ [])
 abbrev pub pack_a : List ℕ
 pack_a = image_after_all pack (making A)
 
-abbrev pub pack_aB : List ℕ
-pack_aB = image_after_all pack_a (making B)
+abbrev pub pack_ab : List ℕ
+pack_ab = image_after_all pack_a (making B)
 
 -- a record of 16 words that names DELET of A (docs/MANY.md), for the same caller: request 2, the caller, the file, "UIC 0 means the caller's"
 abbrev pub deleting : List ℕ
 deleting = bytes_of 2 ++ (bytes_of owner ++ (bytes_of 1600 ++ replicate 26 0))
 
 pub record NamedExamples : Type 0 where
-  -- the pack is consistent, and so are the images behind it (`sequence-consistent`)
+  -- the pack is consistent, and so are the images behind it (`sequence_consistent`)
   pub right : Consistent pack
   -- a file that is there, and named, is gone
   pub there : FileAt pack_a A 0
@@ -52,8 +52,8 @@ pub record NamedExamples : Type 0 where
   pub formatted : NoFile (image_after_all pack_a (formatting ∷ [])) A
   pub recorded : NoFile (image_after_all pack_a (MANY deleting (replicate 32 0) ∷ [])) A
   -- APPND, as its second file
-  pub second : FileAt pack_aB A 0
-  pub joined : NoFile (image_after_all pack_aB (REQUEST (APPND B A owner) ∷ [])) A
+  pub second : FileAt pack_ab A 0
+  pub joined : NoFile (image_after_all pack_ab (REQUEST (APPND B A owner) ∷ [])) A
   -- a file that is not there, and named, is there then: OPENO, and RENAM onto its name
   pub absent : NoFile pack A
   pub opened : FileAt (image_after_all pack (REQUEST (OPENO A owner 0) ∷ [])) A 0

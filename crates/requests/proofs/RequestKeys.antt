@@ -268,8 +268,8 @@ key_words (LINE-READ key caller mode position buffer) {img} right who apart succ
 key_words (LINE-WRITE key caller mode text gather filled) {img} right who apart success e inside there used keyed =
     line_write_words img e inside key caller mode text gather filled success
 key_words (LINE-END key caller gather filled) {img} right who apart success e inside there used keyed = line_end_words img e inside key caller gather filled success
-key_words (BINARY-READ key caller mode position toCome sum buffer) {img} right who apart success e inside there used keyed =
-    kept_words (geometry_of img) e (binary_read_image img key caller mode position toCome sum buffer)
+key_words (BINARY-READ key caller mode position to_come sum buffer) {img} right who apart success e inside there used keyed =
+    kept_words (geometry_of img) e (binary_read_image img key caller mode position to_come sum buffer)
 key_words (BINARY-WRITE key caller content gather filled) {img} right who apart success e inside there used keyed =
     binary_write_words img e inside key caller content gather filled success
 key_words (FINISH caller) {img} right who apart success e inside there used keyed =

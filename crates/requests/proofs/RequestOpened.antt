@@ -170,7 +170,7 @@ opened_stays (LINE-READ key caller mode position buffer) other img = ap opened_o
 opened_stays (LINE-WRITE key caller mode text gather filled) other img =
     opened_kept (LINE-WRITE key caller mode text gather filled) (elsewhere key.uic) (apart key) (line_write_right img key caller mode text gather filled)
 opened_stays (LINE-END key caller gather filled) other img = opened_kept (LINE-END key caller gather filled) (elsewhere key.uic) (apart key) (line_end_right img key caller gather filled)
-opened_stays (BINARY-READ key caller mode position toCome sum buffer) other img = ap opened_of (binary_read_image img key caller mode position toCome sum buffer)
+opened_stays (BINARY-READ key caller mode position to_come sum buffer) other img = ap opened_of (binary_read_image img key caller mode position to_come sum buffer)
 opened_stays (BINARY-WRITE key caller content gather filled) other img =
     opened_kept (BINARY-WRITE key caller content gather filled) (elsewhere key.uic) (apart key) (binary_write_right img key caller content gather filled)
 opened_stays (FINISH caller) other img = opened_kept (FINISH caller) (elsewhere caller) (λ is. omega (arith, is)) (finish_right img caller)

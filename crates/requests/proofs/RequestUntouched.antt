@@ -53,8 +53,8 @@ who_is_not_named (LINKED-ADD key caller payload) {img} right who apart = linked_
 who_is_not_named (LINE-READ key caller mode position buffer) {img} right who apart = kept_untouched who (line_read_image img key caller mode position buffer)
 who_is_not_named (LINE-WRITE key caller mode text gather filled) {img} right who apart = line_write_untouched img key caller mode text gather filled who apart
 who_is_not_named (LINE-END key caller gather filled) {img} right who apart = line_end_untouched img key caller gather filled who apart
-who_is_not_named (BINARY-READ key caller mode position toCome sum buffer) {img} right who apart =
-    kept_untouched who (binary_read_image img key caller mode position toCome sum buffer)
+who_is_not_named (BINARY-READ key caller mode position to_come sum buffer) {img} right who apart =
+    kept_untouched who (binary_read_image img key caller mode position to_come sum buffer)
 who_is_not_named (BINARY-WRITE key caller content gather filled) {img} right who apart = binary_write_untouched img key caller content gather filled who apart
 who_is_not_named (FINISH caller) {img} right who apart = finish_untouched right caller who (λ e scratch keyed. apart (sym keyed.uic ∙ scratch.own))
 who_is_not_named (OWNER block) {img} right who apart = kept_untouched who (owner_image img block)

@@ -107,7 +107,7 @@ MayChange (LINE-WRITE key caller mode text gather filled) img w =
     MayAdd img key caller (gathered_in img gather filled (put_all (taken_of (mode_of mode) text))).full w
 MayChange (LINE-END key caller gather filled) img w = MayAdd img key caller (gathered_in img gather filled (nuls_for img filled)).full w
 -- 02 §10: a formatted binary line is read, and nothing written; or it is gathered as a line of text is, and full blocks are added
-MayChange (BINARY-READ key caller mode position toCome sum buffer) img w = ⊥
+MayChange (BINARY-READ key caller mode position to_come sum buffer) img w = ⊥
 MayChange (BINARY-WRITE key caller content gather filled) img w = MayAdd img key caller (gathered_in img gather filled (binary_line content)).full w
 -- "Delete every file of the caller's UIC that has bit 7 clear, is not open, and that DELET would allow", which "clears the entry, bodies untouched";
 -- 02 §7: the bits of their blocks

@@ -44,7 +44,7 @@ pub data Request : Type 0 where
   LINE-READ : (key : Key) (caller mode position : ℕ) (buffer : List ℕ) → Request
   LINE-WRITE : (key : Key) (caller mode : ℕ) (text gather : List ℕ) (filled : ℕ) → Request
   LINE-END : (key : Key) (caller : ℕ) (gather : List ℕ) (filled : ℕ) → Request
-  BINARY-READ : (key : Key) (caller mode position toCome sum : ℕ) (buffer : List ℕ) → Request
+  BINARY-READ : (key : Key) (caller mode position to_come sum : ℕ) (buffer : List ℕ) → Request
   BINARY-WRITE : (key : Key) (caller : ℕ) (content gather : List ℕ) (filled : ℕ) → Request
   FINISH : (caller : ℕ) → Request
   OWNER : (block : ℕ) → Request
@@ -68,7 +68,7 @@ outcome (LINKED-ADD key caller payload) img = linked_add img key caller payload
 outcome (LINE-READ key caller mode position buffer) img = line_read img key caller mode position buffer
 outcome (LINE-WRITE key caller mode text gather filled) img = line_write img key caller mode text gather filled
 outcome (LINE-END key caller gather filled) img = line_end img key caller gather filled
-outcome (BINARY-READ key caller mode position toCome sum buffer) img = binary_read img key caller mode position toCome sum buffer
+outcome (BINARY-READ key caller mode position to_come sum buffer) img = binary_read img key caller mode position to_come sum buffer
 outcome (BINARY-WRITE key caller content gather filled) img = binary_write img key caller content gather filled
 outcome (FINISH caller) img = finish img caller
 outcome (OWNER block) img = owner img block
@@ -93,7 +93,7 @@ Names (LINKED-ADD key caller payload) who = who ≡ key
 Names (LINE-READ key caller mode position buffer) who = who ≡ key
 Names (LINE-WRITE key caller mode text gather filled) who = who ≡ key
 Names (LINE-END key caller gather filled) who = who ≡ key
-Names (BINARY-READ key caller mode position toCome sum buffer) who = who ≡ key
+Names (BINARY-READ key caller mode position to_come sum buffer) who = who ≡ key
 Names (BINARY-WRITE key caller content gather filled) who = who ≡ key
 Names (FINISH caller) who = who.uic ≡ caller
 Names (OWNER block) who = ⊥
@@ -117,7 +117,7 @@ buffer_lent (LINKED-ADD key caller payload) = payload
 buffer_lent (LINE-READ key caller mode position buffer) = buffer
 buffer_lent (LINE-WRITE key caller mode text gather filled) = gather
 buffer_lent (LINE-END key caller gather filled) = gather
-buffer_lent (BINARY-READ key caller mode position toCome sum buffer) = buffer
+buffer_lent (BINARY-READ key caller mode position to_come sum buffer) = buffer
 buffer_lent (BINARY-WRITE key caller content gather filled) = gather
 buffer_lent (FINISH caller) = []
 buffer_lent (OWNER block) = []

@@ -2,7 +2,7 @@
 #![tactic(auto)]
 
 pub mod binaries;
-pub mod bodies;
+pub mod blocks;
 pub mod commands;
 pub mod conversions;
 pub mod entries;

@@ -1,5 +1,4 @@
 -- Rests on `RecordBeside`: the two words of an answer are words, and its bytes stand at the place of the record.
-use borrow.Author.Rules.{rules}
 use Rattle.listed.proofs.RecordBeside.{answer_small, part_long, put_beside}
 use Rattle.listed.proofs.beside.Goals as goal
 

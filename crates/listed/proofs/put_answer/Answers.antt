@@ -1,5 +1,4 @@
 -- Rests on `RecordBeside`: a cleared part with two words set is an answer.
-use borrow.Author.Rules.{rules}
 use Rattle.listed.proofs.RecordBeside.{answer_laid}
 use Rattle.listed.proofs.put_answer.Goals as goal
 

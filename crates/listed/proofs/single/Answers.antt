@@ -1,5 +1,4 @@
 -- Rests on `RecordMade`: the request of each number, made on the file of the record, is the one that the record names, and what fitted fits.
-use borrow.Author.Rules.{rules}
 use Rattle.listed.proofs.RecordMade.{alloc_made, delet_made}
 use Rattle.listed.proofs.single.Goals as goal
 

@@ -1,5 +1,4 @@
 -- Rests on `RecordMade`: each of the eight, and none, is what the record names by its number (`RecordNames`).
-use borrow.Author.Rules.{rules}
 use Rattle.listed.proofs.RecordNames.{names_other}
 use Rattle.listed.proofs.RecordMade.{renam_made, appnd_made, keep_made, openo_made, openi_made, openu_made, opene_made, close_made, none_made}
 use Rattle.listed.proofs.single_unmapped.Goals as goal
