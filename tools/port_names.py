@@ -7,7 +7,7 @@ Run once, after the kit's port.py, at the top of the repository. A name that sta
 function) and has a hump or a dash is written with underscores: `takenBlocks`, `taken-cleared` become `taken_blocks`, `taken_cleared`. Types and
 modules keep their capitals. Names that files import from the library keep their spelling. Prints names that would fall together.
 """
-import collections, glob, json, os, re, sys
+import collections, glob, os, re, sys
 
 top = sys.argv[1] if len(sys.argv) > 1 else "."
 os.chdir(top)
@@ -204,6 +204,4 @@ for where, word, to in TOUCHES:
                 f.write(made)
 for (p, word, to), k in sorted(clash.items()):
     print("both stand in", p + ":", word, to)
-with open(os.environ.get("PORT_NAMES", "/tmp/port_names.json"), "w") as f:
-    json.dump({"names": change, "fields": change_fields}, f, indent=0, sort_keys=True)
 print(len(change), "names and", len(change_fields), "fields, in", n, "files")

@@ -103,7 +103,8 @@ found_keyed img g key e (suc k) i is = by (same_key (key_in (entry_of img g e)) 
         record { low = omega (arith, f.low); high = omega (arith, f.high); keyed = f.keyed }
 
 -- where nothing was found no entry has the key
-pub none_keyed : (img : List ℕ) (g : Geometry) (key : Key) (e k : ℕ) → find_from img g key e k ≡ none → (i : ℕ) → e ≤ i → i < e + k → SameKey (key_in (entry_of img g i)) key → ⊥
+pub none_keyed : (img : List ℕ) (g : Geometry) (key : Key) (e k : ℕ) → find_from img g key e k ≡ none → (i : ℕ) → e ≤ i → i < e + k → SameKey
+    (key_in (entry_of img g i)) key → ⊥
 unfolding find_from
 none_keyed img g key e zero is i low high m = absurd (omega arith)
 none_keyed img g key e (suc k) is i low high m = by (same_key (key_in (entry_of img g e)) key) refl (none_keyed img g key (e + 1) k) (ℕ_discrete e i)

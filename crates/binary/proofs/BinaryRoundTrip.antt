@@ -21,7 +21,8 @@ module _ (content : List ℕ) (few : length content ≤ 512) (nuls : ℕ) (rest 
   -- the stored line, its last byte apart
   line_is : binary_line content ++ rest ≡ header_bytes (length content) ++ (content ++ (sum_byte (header_and_data content) ∷ rest))
   unfolding binary_line
-  line_is = append_assoc (header_and_data content) (sum_byte (header_and_data content) ∷ []) rest ∙ append_assoc (header_bytes (length content)) content (sum_byte (header_and_data content) ∷ rest)
+  line_is = append_assoc (header_and_data content) (sum_byte (header_and_data content) ∷ []) rest ∙ append_assoc (header_bytes (length content)) content
+      (sum_byte (header_and_data content) ∷ rest)
 
   head_sum : sum_of (header_and_data content) ≡ sum_of (header_bytes (length content)) + sum_of content
   head_sum = sum_append (header_bytes (length content)) content

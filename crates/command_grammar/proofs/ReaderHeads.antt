@@ -195,7 +195,8 @@ differ e P a b = let z : ◌≡◌ {A = ℕ} 0 1 = cc in omega arith
 
 -- a letter or digit is not what stands behind a name, and neither is a colon
 out : (x : ℕ) → elem x behind_name ≡ true → is_letter_or_digit x ≡ true → ⊥
-out x e a = let b : is_letter_or_digit x ≡ false = not-true (is_letter_or_digit x) (holds (λ c. not (is_letter_or_digit c)) x behind_name e refl) in let z : ◌≡◌ {A = ℕ} 0 1 = cc in omega arith
+out x e a = let b : is_letter_or_digit x ≡ false = not-true (is_letter_or_digit x) (holds (λ c. not (is_letter_or_digit c)) x behind_name e refl) in let z : ◌≡◌ {A = ℕ}
+    0 1 = cc in omega arith
 
 out_colon : (x : ℕ) (s z : List ℕ) → elem x behind_name ≡ true → x ∷ s ≡ colon ∷ z → ⊥
 out_colon x s z e h = differ h (λ c. elem c behind_name) e refl

@@ -178,7 +178,12 @@ module _ (a b : ℕ) (t : ℕ → Bool) (w : ℕ) (yes-w : t w ≡ true) (ab : a
   run_counts = record {
     within = span_within t b;
     close = span_close t b;
-    good = λ s h. record { all = span_all_law t b s; least = rw (length-take-le (span t b s) s (span_within t b s)) h; most = rw (length-take-le (span t b s) s (span_within t b s)) (span_most t b s) };
+    good = λ s h. record {
+      all = span_all_law t b s;
+      least = rw (length-take-le (span t b s) s (span_within t b s)) h;
+      most = rw
+          (length-take-le (span t b s) s (span_within t b s)) (span_most t b s);
+    };
     fill = λ s h. (
       replicate (a - span t b s) w,
       record {

@@ -31,7 +31,8 @@ drop_one : (m c : ℕ) (t : List ℕ) → drop (1 + m) (c ∷ t) ≡ drop m t
 drop_one m c t = let e : 1 + m ≡ suc m = omega arith in ap (λ (k : ℕ). drop k (c ∷ t)) e
 
 more_from : (n : ℕ) (v : Specification) (t : List ℕ) (r : Res Specification)
-    → later n (◌∷◌ v) (and_then ◌∷◌ (many_by (length t) (is comma) next) (comma ∷ t) (later 1 (second comma) r)) ≡ later (suc n) (◌∷◌ v) (and_then ◌∷◌ (many (is comma) next) t r)
+    → later n (◌∷◌ v) (and_then ◌∷◌ (many_by (length t) (is comma) next) (comma ∷ t) (later 1 (second comma) r)) ≡ later (suc n) (◌∷◌ v)
+    (and_then ◌∷◌ (many (is comma) next) t r)
 more_from n v t (ok w m) = rw (drop_one m comma t, enough (length t) (drop m t) (simp length-drop (omega arith))) (later_later n m v w (many (is comma) next (drop m t)))
 more_from n v t (no m) = ap no (omega arith)
 

@@ -154,7 +154,8 @@ module _ {A : Type 0} {X : List ℕ → A → Type 0} {SX : List ℕ → Type 0}
 
   many_pick : (k : ℕ) → ((s : List ℕ) → Sound (ManyR X) s (many_by k u f s)) → (b : Bool) (x : ℕ) (s : List ℕ)
       → Sound (ManyR X) (x ∷ s) (cond b (seq ◌∷◌ f (many_by k u f) (x ∷ s)) (ok [] 0))
-  many_pick k G true x s = sound_as as_many (x ∷ s) (seq ◌∷◌ f (many_by k u f) (x ∷ s)) (seq_sound X (ManyR X) (many_by k u f) ◌∷◌ G [] [] finish (x ∷ s) (f (x ∷ s)) (F.sound (x ∷ s)))
+  many_pick k G true x s = sound_as as_many (x ∷ s) (seq ◌∷◌ f (many_by k u f) (x ∷ s)) (seq_sound X (ManyR X) (many_by k u f) ◌∷◌ G [] [] finish (x ∷ s)
+      (f (x ∷ s)) (F.sound (x ∷ s)))
   many_pick k G false x s = (omega arith, finish)
 
   many_sound : (k : ℕ) (s : List ℕ) → Sound (ManyR X) s (many_by k u f s)

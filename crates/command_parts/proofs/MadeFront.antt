@@ -33,7 +33,8 @@ use Rattle.command_parts.proofs.PassedHead.{head_with, moved_mapped}
 -- behind a name that ends at `i`: nothing, or a period and characters
 module _ (s : List ℕ) (i : ℕ) where
   pub extension_none : {p : ℕ} → part_at i (one_character (is period) (drop i s)) ≡ P.Refused p
-      → (x : Option (List ℕ)) (j : ℕ) → from extension s i ≡ ok x j → ◌≡◌ {A = ExtensionNumbers} (record { present = false; word = 0; next = record { at = i } }) (extension_found x j)
+      → (x : Option (List ℕ)) (j : ℕ) → from extension s i ≡ ok x j → ◌≡◌ {A = ExtensionNumbers} (record { present = false; word = 0; next = record { at = i } })
+      (extension_found x j)
   unfolding extension_found
   extension_none {p} h x j stands =
       let told = sym (from_opt_missed period extended s i p (missed period s i p h)) ∙ stands in
@@ -59,7 +60,8 @@ module _ (s : List ℕ) (i : ℕ) where
         (y.2 ∙ ap some (z.2 ∙ w.1 ∙ ap (λ (n : ℕ). take n (drop a.at s)) long), w.0 ∙ sym q)
 
     pub extension_made : {w : ℕ} → w ≡ filled_word (take (e - a.at) (drop a.at s))
-        → (x : Option (List ℕ)) (j : ℕ) → from extension s i ≡ ok x j → ◌≡◌ {A = ExtensionNumbers} (record { present = true; word = w; next = record { at = e } }) (extension_found x j)
+        → (x : Option (List ℕ)) (j : ℕ) → from extension s i ≡ ok x j → ◌≡◌ {A = ExtensionNumbers}
+        (record { present = true; word = w; next = record { at = e } }) (extension_found x j)
     unfolding extension_found
     extension_made is x j stands = let y = extension_parts stands in rw (y.0, y.1, is)
 

@@ -60,7 +60,8 @@ module _ (img : List ℕ) (g : Geometry) where
       (record { right = λ i low high. fine.right i (omega arith) (omega arith); once = λ b. omega (arith, fine.once b, counts b) }))
 
   -- the map that a scan leaves counts
-  pub scan_counts : (map : List ℕ) (e k : ℕ) → g.blocks ≤ length map → scan_test img g map e k ≡ true → (b : ℕ) → get_or (mark_all img g map e k) b 0 ≡ get_or map b 0 + held_by b e k
+  pub scan_counts : (map : List ℕ) (e k : ℕ) → g.blocks ≤ length map → scan_test img g map e k ≡ true → (b : ℕ) → get_or (mark_all img g map e k) b 0 ≡ get_or
+      map b 0 + held_by b e k
   unfolding scan_test mark_all total
   scan_counts map e zero long test b = omega arith
   scan_counts map e (suc k) long test b =

@@ -77,7 +77,8 @@ set_flag map x inside flags b =
     ]
 
 -- on a map of 0 and 1 no block is taken twice, nor one that was taken before
-pub takes_once : (low end : ℕ) (map bs : List ℕ) → end ≤ length map → ((b : ℕ) → get_or map b 0 ≤ 1) → takes low end map bs ≡ true → (b : ℕ) → get_or map b 0 + count b bs ≤ 1
+pub takes_once : (low end : ℕ) (map bs : List ℕ) → end ≤ length map → ((b : ℕ) → get_or map b 0 ≤ 1) → takes low end map bs ≡ true → (b : ℕ) → get_or map
+    b 0 + count b bs ≤ 1
 takes_once low end map [] long flags test b = omega (arith, count_nil b, flags b)
 takes_once low end map (x ∷ xs) long flags test b =
     let f = takes_first low end map x xs test in

@@ -27,7 +27,8 @@ use Rattle.frame.proofs.FramedHeld.{once_one, once_two, map_one, map_two}
 
 -- where no other entry in use is like a named one, the rule of two entries holds whichever of them stands first
 differ_named : (Named : ℕ → Type 0) (img : List ℕ) (g : Geometry) → RightHeader img → ((e : ℕ) → e < slots g → Named e → RightEntry img g e)
-    → ((x : ℕ) → x < slots g → Named x → (e : ℕ) → e < slots g → (e ≡ x → ⊥) → (Empty img g e → ⊥) → SameKey (key_in (entry_of img g e)) (key_in (entry_of img g x)) → ⊥)
+    → ((x : ℕ) → x < slots g → Named x → (e : ℕ) → e < slots g → (e ≡ x → ⊥) → (Empty img g e → ⊥) → SameKey (key_in (entry_of img g e))
+    (key_in (entry_of img g x)) → ⊥)
     → (e f : ℕ) → e < f → f < slots g → Named e ⊎ Named f → (Empty img g e → ⊥) → SameKey (key_in (entry_of img g e)) (key_in (entry_of img g f)) → ⊥
 differ_named Named img g header right other-than e f less within (inl is) used alike =
     other-than e (omega arith) is f within (λ same. omega (arith, same))

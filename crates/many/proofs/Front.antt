@@ -73,7 +73,8 @@ module _ (R : RattleType) (n : ℕ) (b o : ℕ) where
         rewrite ! 0 (λ (m : ℕ). ‵ ((arr_parts (shares R) m).part full_share xs b o)) (sym p.1.0.1) refl $
         -- the token is ν's own: the elements are shared out with it, and it comes back
         use2 𝓛 (later ((‵ ((O.ShrSlice erased ν R).own_val (front 0 xs)) ⊛ ‵ (LentFront ν xs)) ⊛ ‵ (flft ν full_share)))
-        (O.lends_shr_slice 𝓛 R erased ν full_share xs b o room ν ((c.copied 𝓛).shares full_share ν) ((ν, full_share) ∷ []) (Incl-refl ν) (Incl-refl ν)) $ await ! tt $ split ! $ split ! $ move ! (0 ∷ 2 ∷ []) $
+        (O.lends_shr_slice 𝓛 R erased ν full_share xs b o room ν ((c.copied 𝓛).shares full_share ν) ((ν, full_share) ∷ []) (Incl-refl ν) (Incl-refl ν)) $ await ! tt
+        $ split ! $ split ! $ move ! (0 ∷ 2 ∷ []) $
         use2 𝓛 (later (‵ ((O.ShrSlice erased ν R).own_val (front 0 (take k xs))) ⊛ ‵ (flft ν full_share)))
         (shs_prefix_same 𝓛 R ν full_share b o xs k) $ await ! tt $ split ! $
         -- no shared slice has a ghost name, so any will do

@@ -32,7 +32,8 @@ module _ {src : List ℕ} {g : Geometry} {way : Way} (source : Source way src g)
     unfolding entry_of
     chain_other is other partly = partly_same (λ b. walked_other src g b e (λ two. other (is ∙ two))) partly
 
-    pub chain_linked : {kind first size : ℕ} → kind ≡ entry_word src g e 5 → kind ≡ 2 → first ≡ entry_word src g e 6 → size ≡ entry_word src g e 7 → LinkedEntry way src g e first size
+    pub chain_linked : {kind first size : ℕ} → kind ≡ entry_word src g e 5 → kind ≡ 2 → first ≡ entry_word src g e 6 → size ≡ entry_word src g e 7 →
+        LinkedEntry way src g e first size
     unfolding entry_of
     chain_linked is two first size =
         record { source = source; within = within; kind = sym is ∙ two; first = sym first; count = sym size }

@@ -293,7 +293,8 @@ module _ {way : Way} {src : List ℕ} {g : Geometry} (stated : g ≡ geometry_of
 
   -- both words of an entry, one after the other
   pub partly_words : {now : List ℕ} {named : ℕ} {Done : ℕ → Type 0} → Partly way src now g named Done → named < slots g
-      → Partly way src (set_word (set_word now (entry_at g named + 6) (renumbered way (entry_word src g named 6))) (entry_at g named + 8) (renumbered way (entry_word src g named 8))) g (named + 1) Done
+      → Partly way src (set_word (set_word now (entry_at g named + 6) (renumbered way (entry_word src g named 6))) (entry_at g named + 8)
+      (renumbered way (entry_word src g named 8))) g (named + 1) Done
   partly_words {now} {named} p within =
       let first = partly_number p 6 (renumbered way (entry_word src g named 6)) within (inl refl) in
       let last = partly_number first 8 (renumbered way (entry_word src g named 8)) within (inr refl) in

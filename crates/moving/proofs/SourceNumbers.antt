@@ -74,7 +74,8 @@ module _ {way : Way} {src : List ℕ} {g : Geometry} (stated : g ≡ geometry_of
         ]
 
     last_of_law : (kind : ℕ) → (entry_of src g e).kind ≡ kind → 0 < (entry_of src g e).length
-        → last_of (next_of src g kind) 0 (entry_of src g e).length (entry_of src g e).first.0 ≡ (entry_of src g e).last.0 → (1 < (entry_of src g e).last.0) × ((entry_of src g e).last.0 < g.blocks)
+        → last_of (next_of src g kind) 0 (entry_of src g e).length (entry_of src g e).first.0 ≡ (entry_of src g e).last.0 → (1 < (entry_of src g e).last.0) ×
+        ((entry_of src g e).last.0 < g.blocks)
     unfolding blocks_of
     last_of_law kind is some last =
         body (entry_of src g e).last.0

@@ -45,7 +45,8 @@ module _ {img : List ℕ} {g : Geometry} {kind end first b p at : ℕ} (left : L
   pub left_block : p < end → at < g.blocks
   unfolding chain
   left_block before =
-      let here : 0 < count at (chain (next_of img g kind) (end - p) at) = rw (more before) (omega (arith, count_same at at (chain (next_of img g kind) (end - (p + 1)) (next_of img g kind at)) refl)) in
+      let here : 0 < count at (chain (next_of img g kind) (end - p) at) = rw (more before)
+      (omega (arith, count_same at at (chain (next_of img g kind) (end - (p + 1)) (next_of img g kind at)) refl)) in
       left.inside at here
 
   pub left_here : p < end → b ≡ at → some p ≡ place_from b 0 (chain (next_of img g kind) end first)

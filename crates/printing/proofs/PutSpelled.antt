@@ -20,7 +20,8 @@ spelled_given : (w : ℕ) (s characters : List ℕ) → length s ≡ 3 → chara
 unfolding radup
 spelled_given w s characters sized is = characters_given 3 characters_of w s sized is
 
-module _ (s v : List ℕ) (at w code : ℕ) (fits : at + 3 ≤ length s) (answered : code ≡ (radup w (mid_of at (at + 3 - at) s)).code) (left : v ≡ (radup w (mid_of at (at + 3 - at) s)).buffer) where
+module _ (s v : List ℕ) (at w code : ℕ) (fits : at + 3 ≤ length s) (answered : code ≡ (radup w (mid_of at (at + 3 - at) s)).code)
+    (left : v ≡ (radup w (mid_of at (at + 3 - at) s)).buffer) where
   sized : length (mid_of at (at + 3 - at) s) ≡ 3
   sized = mid_len at (at + 3) s fits ∙ omega arith
 

@@ -65,7 +65,8 @@ filled (x ∷ xs) test = at (is_letter_or_digit x) refl (filled xs)
 then_blanks_filled : (name : List ℕ) (k : ℕ) → every is_letter_or_digit name ≡ true → then_blanks (name ++ replicate k blank) ≡ true
 then_blanks_filled [] zero made = refl
 then_blanks_filled [] (suc k) made = replicate_blank k
-then_blanks_filled (x ∷ xs) k made = rw (parts (is_letter_or_digit x) (every is_letter_or_digit xs) made).0 (then_blanks_filled xs k (parts (is_letter_or_digit x) (every is_letter_or_digit xs) made).1)
+then_blanks_filled (x ∷ xs) k made = rw (parts (is_letter_or_digit x) (every is_letter_or_digit xs) made).0
+    (then_blanks_filled xs k (parts (is_letter_or_digit x) (every is_letter_or_digit xs) made).1)
 
 filled_length : (size : ℕ) (name : List ℕ) → length name ≤ size → length (blank_filled size name) ≡ size
 filled_length size name fits = simp (length-append, length-replicate) (omega arith)

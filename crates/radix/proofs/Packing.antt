@@ -211,7 +211,8 @@ pub packing_refused : (s : List ℕ) → length s ≡ 3
     → word_of s ≡ none ↔ (Outside (get_or s 0 0) ⊎ (Outside (get_or s 1 0) ⊎ Outside (get_or s 2 0)))
 packing_refused s same = (λ is. lacking (packed_none _ _ _ (sym (word_of_three s same) ∙ is)), refused)
   where
-    lacking : (code_of (get_or s 0 0) ≡ none) ⊎ ((code_of (get_or s 1 0) ≡ none) ⊎ (code_of (get_or s 2 0) ≡ none)) → Outside (get_or s 0 0) ⊎ (Outside (get_or s 1 0) ⊎ Outside (get_or s 2 0))
+    lacking : (code_of (get_or s 0 0) ≡ none) ⊎ ((code_of (get_or s 1 0) ≡ none) ⊎ (code_of (get_or s 2 0) ≡ none)) → Outside (get_or s 0 0) ⊎
+        (Outside (get_or s 1 0) ⊎ Outside (get_or s 2 0))
     lacking (inl is) = inl ((code_none_iff (get_or s 0 0)).0 is)
     lacking (inr (inl is)) = inr (inl ((code_none_iff (get_or s 1 0)).0 is))
     lacking (inr (inr is)) = inr (inr ((code_none_iff (get_or s 2 0)).0 is))

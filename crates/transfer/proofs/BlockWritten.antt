@@ -184,4 +184,5 @@ module _ (img : List ℕ) (key : Key) (caller place : ℕ) (buffer : List ℕ) w
   -- no other byte changes
   pub block_out_outside : (k : ℕ) → Outside (block_start (geometry_of img) (block_at_place (file_of img key) place)) (block_bytes (geometry_of img)) k
       → get_or (block_out img key caller place buffer).image k 0 ≡ get_or img k 0
-  block_out_outside k outside = by_code (λ (after : List ℕ). get_or after k 0 ≡ get_or img k 0) refl (λ success. written_outside (block_out_asked success) buffer (block_out_fits success) k outside)
+  block_out_outside k outside = by_code (λ (after : List ℕ). get_or after k 0 ≡ get_or img k 0) refl (λ success. written_outside (block_out_asked success) buffer
+      (block_out_fits success) k outside)

@@ -1,3 +1,4 @@
+-- What the loop of `block_at` keeps from turn to turn, and what falls in each.
 use Prim.Native.Nat.{◌-◌}
 use Rattle.bodies.specs.BlockWalk.{BlockWalk}
 use Rattle.bodies.proofs.block_at.Given as goal

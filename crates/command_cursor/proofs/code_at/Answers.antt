@@ -17,8 +17,10 @@ pub overflow_cast-result-else-character-ge65 : goal.overflow_cast-result-else-ch
 overflow_cast-result-else-character-ge65 c = omega (arith, c.type_inv.line c.args.place)
 
 pub returns-then-character-ge65 : goal.returns-then-character-ge65
-returns-then-character-ge65 c = record { value = (code_here _ _ _ c.if-end-place.false (high_code _ c.if-character-ge65.true (c.requires.place_value c.if-end-place.false))).0; upper_bound = (code_here _ _ _ c.if-end-place.false (high_code _ c.if-character-ge65.true (c.requires.place_value c.if-end-place.false))).1 }
+returns-then-character-ge65 c = let both = code_here _ _ _ c.if-end-place.false (high_code _ c.if-character-ge65.true (c.requires.place_value c.if-end-place.false)) in
+    record { value = both.0; upper_bound = both.1 }
 
 pub returns-else-character-ge65 : goal.returns-else-character-ge65
 returns-else-character-ge65 c = let known = low_code _ c.if-character-ge65.false (c.requires.place_value c.if-end-place.false) in
-    record { value = (code_here _ _ _ c.if-end-place.false (known.0, known.1)).0; upper_bound = (code_here _ _ _ c.if-end-place.false (known.0, known.1)).1 }
+    let both = code_here _ _ _ c.if-end-place.false (known.0, known.1) in
+    record { value = both.0; upper_bound = both.1 }

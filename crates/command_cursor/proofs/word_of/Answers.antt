@@ -4,13 +4,25 @@ use Rattle.command_cursor.proofs.FilledWord.{named_at, word_given}
 use Rattle.command_cursor.proofs.word_of.Goals as goal
 
 pub code_at-a-requires : goal.code_at-a-requires
-code_at-a-requires c = record { end_in_bounds = c.requires.first_le_end.1; place_value = λ below. named_at _ _ _ c.requires.first_le_end.0 c.requires.first_le_end.1 c.requires.all _ (omega arith) below }
+code_at-a-requires c = record {
+  end_in_bounds = c.requires.first_le_end.1;
+  place_value = λ below. named_at _ _ _ c.requires.first_le_end.0 c.requires.first_le_end.1
+      c.requires.all _ (omega arith) below;
+}
 
 pub code_at-b-requires : goal.code_at-b-requires
-code_at-b-requires c = record { end_in_bounds = c.requires.first_le_end.1; place_value = λ below. named_at _ _ _ c.requires.first_le_end.0 c.requires.first_le_end.1 c.requires.all _ (omega arith) below }
+code_at-b-requires c = record {
+  end_in_bounds = c.requires.first_le_end.1;
+  place_value = λ below. named_at _ _ _ c.requires.first_le_end.0 c.requires.first_le_end.1
+      c.requires.all _ (omega arith) below;
+}
 
 pub code_at-c-requires : goal.code_at-c-requires
-code_at-c-requires c = record { end_in_bounds = c.requires.first_le_end.1; place_value = λ below. named_at _ _ _ c.requires.first_le_end.0 c.requires.first_le_end.1 c.requires.all _ (omega arith) below }
+code_at-c-requires c = record {
+  end_in_bounds = c.requires.first_le_end.1;
+  place_value = λ below. named_at _ _ _ c.requires.first_le_end.0 c.requires.first_le_end.1
+      c.requires.all _ (omega arith) below;
+}
 
 pub returns : goal.returns
 returns c =

@@ -1,3 +1,4 @@
+-- What falls in each call within `read_more_read_side`.
 use Prim.Native.Nat.{◌+◌, ◌-◌, ◌*◌}
 use lib.ListN.{length}
 use Rattle.command_sides.proofs.+read_more_read_side.Given as goal

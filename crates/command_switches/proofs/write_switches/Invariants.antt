@@ -1,3 +1,4 @@
+-- What the loop of `write_switches` keeps from turn to turn, and what falls in each.
 use Prim.Native.Nat.{◌-◌}
 use lib.ListN.{length}
 use Rattle.command_switches.proofs.SwitchesWrittenLoops.{SwitchesLead}

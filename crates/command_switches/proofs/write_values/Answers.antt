@@ -29,4 +29,5 @@ loop-start-smaller c = let on = value_on c.loop-start.invariant _ (sym c.one-col
     omega (arith, on.0, on.1)
 
 pub loop-start-preserved : goal.loop-start-preserved
-loop-start-preserved c = value_more c.loop-start.invariant _ (sym c.one-colon.ensures ∙ c.in-Read.is) c.write_name-here.result c.write_name-here.ensures.at_value c.write_name-here.auto.buffer c.write_name-here.ensures.buffer_after
+loop-start-preserved c = value_more c.loop-start.invariant _ (sym c.one-colon.ensures ∙ c.in-Read.is) c.write_name-here.result c.write_name-here.ensures.at_value
+    c.write_name-here.auto.buffer c.write_name-here.ensures.buffer_after

@@ -11,7 +11,12 @@ pub loop-e-init : goal.loop-e-init
 loop-e-init c = (refl, c.requires.blocks_in_bounds.1, bodies_start _ _ _ _, marks_start _ _ _ _)
 
 pub is_placed_right-requires : goal.is_placed_right-requires
-is_placed_right-requires c = record { sized = c.requires.sized; e_bound = omega (arith, c.loop-e-test.true, c.requires.used_end.most); blocks_in_bounds = (omega (arith, c.requires.blocks_in_bounds.0, c.loop-e.invariant.0), c.loop-e.invariant.1) }
+is_placed_right-requires c = record {
+  sized = c.requires.sized;
+  e_bound = omega (arith, c.loop-e-test.true, c.requires.used_end.most);
+  blocks_in_bounds =
+      (omega (arith, c.requires.blocks_in_bounds.0, c.loop-e.invariant.0), c.loop-e.invariant.1);
+}
 
 pub returns-then-not-is_placed_right : goal.returns-then-not-is_placed_right
 returns-then-not-is_placed_right c = record {
@@ -31,4 +36,8 @@ loop-e-preserved c = let right = c.if-not-is_placed_right.false in
     )
 
 pub returns : goal.returns
-returns c = record { value = sym (c.loop-e.invariant.2 ∙ bodies_end _ _ _ _ _ c.requires.used_end c.loop-e-test.false); map_after = λ _. sym (c.loop-e.invariant.3 ∙ marks_end _ _ _ _ _ c.requires.used_end c.loop-e-test.false) }
+returns c = record {
+  value = sym (c.loop-e.invariant.2 ∙ bodies_end _ _ _ _ _ c.requires.used_end c.loop-e-test.false);
+  map_after = λ _. sym
+      (c.loop-e.invariant.3 ∙ marks_end _ _ _ _ _ c.requires.used_end c.loop-e-test.false);
+}

@@ -14,7 +14,21 @@ pub loop-e-init : goal.loop-e-init
 loop-e-init c = (c.requires.right_header.2, names_start _ _ _, refl, refl)
 
 pub is_named_right-requires : goal.is_named_right-requires
-is_named_right-requires c = record { sized = c.requires.sized; right_header = (c.requires.right_header.0, omega (arith, c.loop-e-test.true, c.requires.right_header.1.most), c.loop-e.invariant.0); e_in_bounds = (omega (arith, c.loop-e-test.true, c.requires.end_in_bounds.0, c.loop-e.invariant.2), omega (arith, c.requires.end_in_bounds.1, c.loop-e.invariant.2), c.requires.end_in_bounds.2, c.word_at-uics.ensures.value) }
+is_named_right-requires c = record {
+  sized = c.requires.sized;
+  right_header = (
+    c.requires.right_header.0,
+    omega (arith, c.loop-e-test.true, c.requires.right_header.1.most),
+    c.loop-e.invariant.0,
+  );
+  e_in_bounds = (
+    omega (arith, c.loop-e-test.true, c.requires.end_in_bounds.0, c.loop-e.invariant.2),
+    omega
+        (arith, c.requires.end_in_bounds.1, c.loop-e.invariant.2),
+    c.requires.end_in_bounds.2,
+    c.word_at-uics.ensures.value,
+  );
+}
 
 pub returns-then-not-is_named_right : goal.returns-then-not-is_named_right
 returns-then-not-is_named_right c = let below : c.loop-e.e < slots c.args.g = omega (arith, c.loop-e-test.true, c.requires.right_header.1.most) in

@@ -13,7 +13,15 @@ pub set_hints-requires : goal.set_hints-requires
 set_hints-requires c = record { right_header = c.requires.right_header.0; hints_len = refl }
 
 pub are_keys_right-requires : goal.are_keys_right-requires
-are_keys_right-requires c = record { sized = c.requires.sized; right_header = (c.requires.right_header.0, c.requires.right_header.1, listing_fresh _ _ 256 128 few); end_in_bounds = (omega (arith, c.if-end-le-FEW_FILES.true), omega arith, c.set_hints.auto.hints) }
+are_keys_right-requires c = record {
+  sized = c.requires.sized;
+  right_header = (c.requires.right_header.0, c.requires.right_header.1, listing_fresh _ _ 256 128 few);
+  end_in_bounds = (omega (arith, c.if-end-le-FEW_FILES.true), omega arith, c.set_hints.auto.hints);
+}
 
 pub are_keys_right-requires-2 : goal.are_keys_right-requires-2
-are_keys_right-requires-2 c = record { sized = c.requires.sized; right_header = (c.requires.right_header.0, c.requires.right_header.1, listing_fresh _ _ 1024 512 many); end_in_bounds = (omega (arith, c.requires.right_header.2, c.requires.right_header.1.most), omega arith, c.set_hints.auto.hints) }
+are_keys_right-requires-2 c = record {
+  sized = c.requires.sized;
+  right_header = (c.requires.right_header.0, c.requires.right_header.1, listing_fresh _ _ 1024 512 many);
+  end_in_bounds = (omega (arith, c.requires.right_header.2, c.requires.right_header.1.most), omega arith, c.set_hints.auto.hints);
+}

@@ -18,7 +18,11 @@ returns-then-not-is_legal_extension c = let words = number_words _ _ _ c.key_num
     words.2 (sym c.is_legal_extension.ensures ∙ c.if-not-is_legal_extension.true)
 
 pub is_listed-requires : goal.is_listed-requires
-is_listed-requires c = record { right_header = c.requires.right_header.0; hints_len = (c.requires.hints_len.0, c.requires.hints_len.1, omega (arith, (number_words _ _ _ c.key_number-key.ensures.value c.key_number-key.ensures.small_key).3, c.key_number-key.ensures.small_key.uic)) }
+is_listed-requires c = record {
+  right_header = c.requires.right_header.0;
+  hints_len =
+      (c.requires.hints_len.0, c.requires.hints_len.1, omega (arith, (number_words _ _ _ c.key_number-key.ensures.value c.key_number-key.ensures.small_key).3, c.key_number-key.ensures.small_key.uic));
+}
 
 pub returns : goal.returns
 returns c = let words = number_words _ _ _ c.key_number-key.ensures.value c.key_number-key.ensures.small_key in

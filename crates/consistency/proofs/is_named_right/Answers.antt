@@ -16,11 +16,27 @@ pub is_key_right-requires : goal.is_key_right-requires
 is_key_right-requires c = record { sized = c.requires.sized; right_header = (c.requires.right_header.0, c.requires.right_header.1); hints_len = (c.requires.e_in_bounds.2, c.requires.e_in_bounds.3) }
 
 pub returns-then-not-is_key_right : goal.returns-then-not-is_key_right
-returns-then-not-is_key_right c = record { value = named_wrong _ _ _ (number_used _ _ _ c.key_number.ensures.value c.key_number.ensures.small_key c.if-key_number-eq0.false) (sym c.is_key_right.ensures ∙ c.if-not-is_key_right.true); listing = λ right. true_not_false (sym right) }
+returns-then-not-is_key_right c = record {
+  value = named_wrong _ _ _ (number_used _ _ _ c.key_number.ensures.value c.key_number.ensures.small_key c.if-key_number-eq0.false)
+      (sym c.is_key_right.ensures ∙ c.if-not-is_key_right.true);
+  listing = λ right. true_not_false (sym right);
+}
 
 pub does_differ-requires : goal.does_differ-requires
-does_differ-requires c = record { sized = c.requires.sized; e_bound = (c.requires.right_header.1, number_used _ _ _ c.key_number.ensures.value c.key_number.ensures.small_key c.if-key_number-eq0.false, c.requires.right_header.2); e_in_bounds = (c.requires.e_in_bounds.0, c.requires.e_in_bounds.1) }
+does_differ-requires c = record {
+  sized = c.requires.sized;
+  e_bound = (
+    c.requires.right_header.1,
+    number_used _ _ _ c.key_number.ensures.value c.key_number.ensures.small_key
+        c.if-key_number-eq0.false,
+    c.requires.right_header.2,
+  );
+  e_in_bounds = (c.requires.e_in_bounds.0, c.requires.e_in_bounds.1);
+}
 
 pub returns : goal.returns
 returns c = let right = sym c.is_key_right.ensures ∙ c.if-not-is_key_right.false in
-    record { value = named_new _ _ _ (number_used _ _ _ c.key_number.ensures.value c.key_number.ensures.small_key c.if-key_number-eq0.false) right _ c.does_differ.ensures.value; listing = c.does_differ.ensures.listing }
+    record {
+      value = named_new _ _ _ (number_used _ _ _ c.key_number.ensures.value c.key_number.ensures.small_key c.if-key_number-eq0.false) right _ c.does_differ.ensures.value;
+      listing = c.does_differ.ensures.listing;
+    }

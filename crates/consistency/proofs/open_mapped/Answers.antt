@@ -12,10 +12,24 @@ pub set_system-requires : goal.set_system-requires
 set_system-requires c = open_room _ _ c.read_header.ensures _ c.in-Right.is c.requires
 
 pub are_files_right-requires : goal.are_files_right-requires
-are_files_right-requires c = record { sized = open_sized _ _ c.read_header.ensures _ c.in-Right.is; right_header = (open_header _ _ c.read_header.ensures _ c.in-Right.is, open_few _ _ c.read_header.ensures _ c.in-Right.is); map_value = (open_map _ _ c.read_header.ensures _ c.in-Right.is _ _ c.requires c.set_system.ensures, open_long _ _ c.read_header.ensures _ c.in-Right.is _ _ c.requires c.set_system.ensures, open_whole _ _ c.read_header.ensures _ c.in-Right.is _ _ c.requires c.set_system.ensures) }
+are_files_right-requires c = record {
+  sized = open_sized _ _ c.read_header.ensures _ c.in-Right.is;
+  right_header = (
+    open_header _ _ c.read_header.ensures _ c.in-Right.is,
+    open_few
+        _ _ c.read_header.ensures _ c.in-Right.is,
+  );
+  map_value = (
+    open_map _ _ c.read_header.ensures _ c.in-Right.is _ _ c.requires c.set_system.ensures,
+    open_long _ _
+        c.read_header.ensures _ c.in-Right.is _ _ c.requires c.set_system.ensures,
+    open_whole _ _ c.read_header.ensures _ c.in-Right.is _ _ c.requires c.set_system.ensures,
+  );
+}
 
 pub returns-then-not-are_files_right : goal.returns-then-not-are_files_right
-returns-then-not-are_files_right c = let done = open_files _ _ c.read_header.ensures _ c.in-Right.is _ _ c.requires c.set_system.ensures {A = (Mapped c.are_files_right.new.map c.args.img.now)} (sym c.are_files_right.ensures.value ∙ c.if-not-are_files_right.true) in record { value = done.0; mapped_if = done.1 }
+returns-then-not-are_files_right c = let done = open_files _ _ c.read_header.ensures _ c.in-Right.is _ _ c.requires c.set_system.ensures
+    {A = (Mapped c.are_files_right.new.map c.args.img.now)} (sym c.are_files_right.ensures.value ∙ c.if-not-are_files_right.true) in record { value = done.0; mapped_if = done.1 }
 
 pub set_system-requires-2 : goal.set_system-requires-2
 set_system-requires-2 c = let sized = open_sized _ _ c.read_header.ensures _ c.in-Right.is in
@@ -23,4 +37,6 @@ set_system-requires-2 c = let sized = open_sized _ _ c.read_header.ensures _ c.i
 
 pub returns : goal.returns
 returns c = let good = c.if-not-are_files_right.false in
-    record { value = (open_good _ _ c.read_header.ensures _ c.in-Right.is _ _ c.requires c.set_system.ensures _ _ (sym c.are_files_right.ensures.value ∙ good) (c.are_files_right.ensures.map_after good) c.set_system-2.ensures).0; mapped_if = (open_good _ _ c.read_header.ensures _ c.in-Right.is _ _ c.requires c.set_system.ensures _ _ (sym c.are_files_right.ensures.value ∙ good) (c.are_files_right.ensures.map_after good) c.set_system-2.ensures).1 }
+    let both = open_good _ _ c.read_header.ensures _ c.in-Right.is _ _ c.requires c.set_system.ensures _ _ (sym c.are_files_right.ensures.value ∙ good)
+    (c.are_files_right.ensures.map_after good) c.set_system-2.ensures in
+    record { value = both.0; mapped_if = both.1 }

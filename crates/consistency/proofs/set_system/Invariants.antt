@@ -1,3 +1,4 @@
+-- What the loop of `set_system` keeps from turn to turn, and what falls in each.
 use Prim.Native.Nat.{◌-◌, ◌≤◌}
 use mathlib.Core.Path.{◌≡◌}
 use Rattle.consistency.specs.Walk.{system_set}

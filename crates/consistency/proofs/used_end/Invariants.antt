@@ -1,3 +1,4 @@
+-- What the loop of `used_end` keeps from turn to turn, and what falls in each.
 use Prim.Native.Nat.{◌-◌, ◌≤◌}
 use Rattle.consistency.proofs.used_end.Given as goal
 

@@ -1,3 +1,4 @@
+-- What the loop of `many` keeps from turn to turn, and what falls in each.
 use Rattle.std.proofs.Common.{◌-◌, length}
 use Rattle.many.proofs.Folds.{Made}
 use Rattle.many.proofs.many.Given as goal

@@ -3,4 +3,5 @@ use Rattle.many.proofs.Whole.{folded_served}
 use Rattle.many.proofs.serve_lent.Goals as goal
 
 pub returns : goal.returns
-returns c = record { img_after = (folded_served _ c.decode-list.ensures c.lend.ensures).0; answers_after = (folded_served _ c.decode-list.ensures c.lend.ensures).1 }
+returns c = let both = folded_served _ c.decode-list.ensures c.lend.ensures in
+    record { img_after = both.0; answers_after = both.1 }

@@ -25,13 +25,16 @@ pub write_target-requires : goal.write_target-requires
 write_target-requires c = let fine = c.if-not-is_measured.false in
     record {
       source = (
-        source_moves _ _ c.args.target.now c.open_behind.ensures.value c.in-Good.is c.word_at.ensures.value c.form_from.ensures c.if-word_at-form_from.false c.move_measures-h.ensures c.form_to.ensures c.is_measured.ensures fine,
+        source_moves _ _ c.args.target.now c.open_behind.ensures.value c.in-Good.is c.word_at.ensures.value c.form_from.ensures c.if-word_at-form_from.false
+            c.move_measures-h.ensures c.form_to.ensures c.is_measured.ensures fine,
         c.move_measures-h.ensures,
-        target_long _ _ c.args.target.now c.open_behind.ensures.value c.in-Good.is c.word_at.ensures.value c.form_from.ensures c.if-word_at-form_from.false c.move_measures-h.ensures c.form_to.ensures c.is_measured.ensures fine,
+        target_long _ _ c.args.target.now c.open_behind.ensures.value c.in-Good.is c.word_at.ensures.value c.form_from.ensures c.if-word_at-form_from.false
+            c.move_measures-h.ensures c.form_to.ensures c.is_measured.ensures fine,
       );
       marked_behind = c.open_behind.ensures.marked_behind (good_test _ c.open_behind.ensures.value c.in-Good.is);
     }
 
 pub returns : goal.returns
 returns c = let fine = c.if-not-is_measured.false in
-    target_moved _ _ _ c.open_behind.ensures.value c.in-Good.is c.word_at.ensures.value c.form_from.ensures c.if-word_at-form_from.false c.move_measures-h.ensures c.form_to.ensures c.is_measured.ensures fine c.write_target.ensures
+    target_moved _ _ _ c.open_behind.ensures.value c.in-Good.is c.word_at.ensures.value c.form_from.ensures c.if-word_at-form_from.false c.move_measures-h.ensures
+    c.form_to.ensures c.is_measured.ensures fine c.write_target.ensures

@@ -9,7 +9,11 @@ pub move_entries-requires : goal.move_entries-requires
 move_entries-requires c = record { source = c.requires.source.0; partly = c.copy_pack.ensures }
 
 pub make_map-requires : goal.make_map-requires
-make_map-requires c = record { sized = partly_sized c.requires.source.0 c.requires.source.1 c.move_entries.ensures; bodies_in_bounds = places_enough c.requires.source.0 c.requires.source.1 c.requires.marked_behind }
+make_map-requires c = record {
+  sized = partly_sized c.requires.source.0 c.requires.source.1 c.move_entries.ensures;
+  bodies_in_bounds = places_enough c.requires.source.0
+      c.requires.source.1 c.requires.marked_behind;
+}
 
 pub returns : goal.returns
 returns c = moved_whole c.requires.source.0 c.requires.source.1 c.requires.marked_behind c.move_entries.ensures (c.make_map.ensures.map_written, c.make_map.ensures.target_unchanged)

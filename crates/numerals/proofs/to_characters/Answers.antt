@@ -4,10 +4,13 @@ use Rattle.numerals.proofs.DigitsLimits.{digits_large, digits_written}
 use Rattle.numerals.proofs.to_characters.Goals as goal
 
 pub returns-then-characters-size : goal.returns-then-characters-size
-returns-then-characters-size c = record { value = (in_parts (characters_41 _ _ _ _ c.if-characters-size.true)).0; characters_after = (in_parts (characters_41 _ _ _ _ c.if-characters-size.true)).1 }
+returns-then-characters-size c = let both = in_parts (characters_41 _ _ _ _ c.if-characters-size.true) in
+    record { value = both.0; characters_after = both.1 }
 
 pub returns-then-number-gt-LARGEST : goal.returns-then-number-gt-LARGEST
-returns-then-number-gt-LARGEST c = record { value = (in_parts (characters_60 _ _ _ _ c.if-characters-size.false (digits_large _ _ _ c.if-number-gt-LARGEST.true))).0; characters_after = (in_parts (characters_60 _ _ _ _ c.if-characters-size.false (digits_large _ _ _ c.if-number-gt-LARGEST.true))).1 }
+returns-then-number-gt-LARGEST c = let both = in_parts (characters_60 _ _ _ _ c.if-characters-size.false (digits_large _ _ _ c.if-number-gt-LARGEST.true)) in
+    record { value = both.0; characters_after = both.1 }
 
 pub returns : goal.returns
-returns c = record { value = (in_parts (characters_given _ _ _ _ c.if-characters-size.false (digits_written _ _ c.if-characters-size.false c.if-number-gt-LARGEST.false c.write_digits.ensures))).0; characters_after = (in_parts (characters_given _ _ _ _ c.if-characters-size.false (digits_written _ _ c.if-characters-size.false c.if-number-gt-LARGEST.false c.write_digits.ensures))).1 }
+returns c = let both = in_parts (characters_given _ _ _ _ c.if-characters-size.false (digits_written _ _ c.if-characters-size.false c.if-number-gt-LARGEST.false c.write_digits.ensures)) in
+    record { value = both.0; characters_after = both.1 }

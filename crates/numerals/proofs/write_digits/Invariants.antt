@@ -1,3 +1,4 @@
+-- What the loop of `write_digits` keeps from turn to turn, and what falls in each.
 use mathlib.Core.Path.{◌≡◌}
 use Prim.Native.Nat.{◌≤◌}
 use lib.ListN.{length}

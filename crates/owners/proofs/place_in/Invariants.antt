@@ -1,3 +1,4 @@
+-- What the loop of `place_in` keeps from turn to turn, and what falls in each.
 use Prim.Native.Nat.{◌-◌}
 use Rattle.owners.proofs.OwnerSearch.{Left}
 use Rattle.owners.proofs.place_in.Given as goal

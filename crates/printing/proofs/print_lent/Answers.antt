@@ -7,7 +7,11 @@ use Rattle.printing.proofs.Listing.{not_consistent, few_entries, map_enough, lis
 use Rattle.printing.proofs.print_lent.Goals as goal
 
 pub returns-in_default : goal.returns-in_default
-returns-in_default c = record { put = put_text (not_consistent _ (sym c.open_mapped.ensures.value ∙ c.in_default.is)) c.put_refusal.ensures; upper_bound = omega (arith, c.put_refusal.ensures.behind) }
+returns-in_default c = record {
+  put = put_text (not_consistent _ (sym c.open_mapped.ensures.value ∙ c.in_default.is)) c.put_refusal.ensures;
+  upper_bound = omega
+      (arith, c.put_refusal.ensures.behind);
+}
 
 pub free_count-requires : goal.free_count-requires
 free_count-requires c = let opened = sym c.open_mapped.ensures.value ∙ c.in-Good.is in
@@ -19,4 +23,8 @@ put_lines-requires c = let opened = sym c.open_mapped.ensures.value ∙ c.in-Goo
 
 pub returns : goal.returns
 returns c = let opened = sym c.open_mapped.ensures.value ∙ c.in-Good.is in
-    record { put = put_text (listed _ opened c.requires.lent.1 _ c.open_mapped.ensures.mapped_if c.free_count.ensures) (put_then c.put_head-at.ensures.put c.put_lines.ensures.put); upper_bound = omega (arith, few_entries _ opened, c.put_head-at.ensures.upper_bound, c.put_lines.ensures.upper_bound) }
+    record {
+      put = put_text (listed _ opened c.requires.lent.1 _ c.open_mapped.ensures.mapped_if c.free_count.ensures)
+          (put_then c.put_head-at.ensures.put c.put_lines.ensures.put);
+      upper_bound = omega (arith, few_entries _ opened, c.put_head-at.ensures.upper_bound, c.put_lines.ensures.upper_bound);
+    }

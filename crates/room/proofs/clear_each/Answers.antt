@@ -11,7 +11,11 @@ pub set_bit-requires : goal.set_bit-requires
 set_bit-requires c = record { sized = c.loop-rest.invariant.sized; b_lt_blocks = ((freeing_block c.loop-rest.invariant (omega (arith, c.loop-rest-test.true))).1, omega arith) }
 
 pub next_block-b-requires : goal.next_block-b-requires
-next_block-b-requires c = record { sized = freeing_sized c.loop-rest.invariant (omega (arith, c.loop-rest-test.true)) c.set_bit.ensures; b_lt_blocks = (freeing_block c.loop-rest.invariant (omega (arith, c.loop-rest-test.true))).1 }
+next_block-b-requires c = record {
+  sized = freeing_sized c.loop-rest.invariant (omega (arith, c.loop-rest-test.true)) c.set_bit.ensures;
+  b_lt_blocks =
+      (freeing_block c.loop-rest.invariant (omega (arith, c.loop-rest-test.true))).1;
+}
 
 pub overflow_sub-rest : goal.overflow_sub-rest
 overflow_sub-rest c = omega (arith, c.loop-rest-test.true)

@@ -1,3 +1,4 @@
+-- What the loop of `clear_each` keeps from turn to turn, and what falls in each.
 use Rattle.pack.specs.File.{next_of, chain}
 use Rattle.pack.specs.Map.{bits_set}
 use Rattle.room.proofs.MapMarking.{Freeing}

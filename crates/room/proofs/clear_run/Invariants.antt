@@ -1,3 +1,4 @@
+-- What the loop of `clear_run` keeps from turn to turn, and what falls in each.
 use Prim.Native.Nat.{ℕ, ◌+◌, ◌≤◌}
 use mathlib.Core.Path.{◌≡◌}
 use lib.ListN.{length}

@@ -15,7 +15,11 @@ pub next_block-b-requires : goal.next_block-b-requires
 next_block-b-requires c = record { sized = c.requires.sized; b_lt_blocks = giving_block c.loop-more.invariant.1 (omega (arith, c.loop-more-test.true)) }
 
 pub loop-more-preserved : goal.loop-more-preserved
-loop-more-preserved c = (c.give_up_block.auto.map ∙ c.loop-more.invariant.0, giving_next c.loop-more.invariant.1 (omega (arith, c.loop-more-test.true)) _ c.give_up_block.ensures _ c.next_block-b.ensures.result_value)
+loop-more-preserved c = (
+  c.give_up_block.auto.map ∙ c.loop-more.invariant.0,
+  giving_next c.loop-more.invariant.1 (omega (arith, c.loop-more-test.true)) _ c.give_up_block.ensures
+      _ c.next_block-b.ensures.result_value,
+)
 
 pub returns : goal.returns
 unfolding blocks_of

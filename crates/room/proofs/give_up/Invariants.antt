@@ -1,3 +1,4 @@
+-- What the loop of `give_up` keeps from turn to turn, and what falls in each.
 use mathlib.Core.Path.{◌≡◌}
 use lib.ListN.{length}
 use Rattle.pack.specs.File.{next_of, chain}

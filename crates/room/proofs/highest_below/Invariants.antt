@@ -1,3 +1,4 @@
+-- What the loop of `highest_below` keeps from turn to turn, and what falls in each.
 use Prim.Native.Nat.{◌+◌}
 use Rattle.room.specs.RoomMap.{HeldFrom}
 use Rattle.room.proofs.highest_below.Given as goal

@@ -1,3 +1,4 @@
+-- What the loop of `mark_run` keeps from turn to turn, and what falls in each.
 use Prim.Native.Nat.{◌-◌}
 use Rattle.room.proofs.MapMarking.{Marking}
 use Rattle.room.proofs.mark_run.Given as goal

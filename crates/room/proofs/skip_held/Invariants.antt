@@ -1,3 +1,4 @@
+-- What the loop of `skip_held` keeps from turn to turn, and what falls in each.
 use Rattle.room.specs.RoomMap.{HeldFrom}
 use Rattle.room.proofs.skip_held.Given as goal
 

@@ -18,4 +18,8 @@ overflow_add-result c = omega (arith, c.type_inv.bytes (2 * c.args.i), c.type_in
 
 pub returns : goal.returns
 unfolding word_at
-returns c = record { value = omega (arith, c.type_inv.bytes (2 * c.args.i), c.type_inv.bytes (2 * c.args.i + 1)); upper_bound = omega (arith, c.type_inv.bytes (2 * c.args.i), c.type_inv.bytes (2 * c.args.i + 1)) }
+returns c = record {
+  value = omega (arith, c.type_inv.bytes (2 * c.args.i), c.type_inv.bytes (2 * c.args.i + 1));
+  upper_bound = omega
+      (arith, c.type_inv.bytes (2 * c.args.i), c.type_inv.bytes (2 * c.args.i + 1));
+}

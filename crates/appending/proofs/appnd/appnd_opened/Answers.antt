@@ -6,10 +6,13 @@ pub join-requires : goal.join-requires
 join-requires c = answer_joinable _ _ _ _ _ c.decide_appnd.ensures _ _ _ _ _ c.in-Join.is
 
 pub clear_entry-requires : goal.clear_entry-requires
-clear_entry-requires c = record { sized = (answer_clear _ _ _ _ _ c.decide_appnd.ensures _ _ _ _ _ c.in-Join.is _ c.join.auto.img).0; e_bound = (answer_clear _ _ _ _ _ c.decide_appnd.ensures _ _ _ _ _ c.in-Join.is _ c.join.auto.img).1 }
+clear_entry-requires c = let both = answer_clear _ _ _ _ _ c.decide_appnd.ensures _ _ _ _ _ c.in-Join.is _ c.join.auto.img in
+    record { sized = both.0; e_bound = both.1 }
 
 pub returns-in-Refused : goal.returns-in-Refused
-returns-in-Refused c = record { value = (answer_refused _ _ _ _ _ c.decide_appnd.ensures _ c.in-Refused.is).0; img_after = (answer_refused _ _ _ _ _ c.decide_appnd.ensures _ c.in-Refused.is).1 }
+returns-in-Refused c = let both = answer_refused _ _ _ _ _ c.decide_appnd.ensures _ c.in-Refused.is in
+    record { value = both.0; img_after = both.1 }
 
 pub returns-in-Join : goal.returns-in-Join
-returns-in-Join c = record { value = (answer_joined _ _ _ _ _ c.decide_appnd.ensures _ _ _ _ _ c.in-Join.is _ _ c.join.ensures c.clear_entry.ensures).0; img_after = (answer_joined _ _ _ _ _ c.decide_appnd.ensures _ _ _ _ _ c.in-Join.is _ _ c.join.ensures c.clear_entry.ensures).1 }
+returns-in-Join c = let both = answer_joined _ _ _ _ _ c.decide_appnd.ensures _ _ _ _ _ c.in-Join.is _ _ c.join.ensures c.clear_entry.ensures in
+    record { value = both.0; img_after = both.1 }

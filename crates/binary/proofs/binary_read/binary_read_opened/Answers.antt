@@ -14,14 +14,9 @@ use Rattle.binary.proofs.BinaryReadingAnswers.{
 use Rattle.binary.proofs.binary_read.binary_read_opened.Goals as goal
 
 pub returns-in-Refused : goal.returns-in-Refused
-returns-in-Refused c = record {
-  code_value = (binary_unasked c.args.img.now c.args.key c.args.caller c.args.mode c.args.position c.args.coming c.args.sum c.args.buffer.now c.is_given_wrong.ensures _
-      c.ask_linked_read.ensures c.in-Refused.is c.refused.ensures.code_value c.refused.ensures.sum_value).0;
-  sum_value = (binary_unasked c.args.img.now c.args.key c.args.caller c.args.mode c.args.position c.args.coming c.args.sum c.args.buffer.now c.is_given_wrong.ensures _
-      c.ask_linked_read.ensures c.in-Refused.is c.refused.ensures.code_value c.refused.ensures.sum_value).1.0;
-  buffer_after = (binary_unasked c.args.img.now c.args.key c.args.caller c.args.mode c.args.position c.args.coming c.args.sum c.args.buffer.now c.is_given_wrong.ensures _
-      c.ask_linked_read.ensures c.in-Refused.is c.refused.ensures.code_value c.refused.ensures.sum_value).1.1;
-}
+returns-in-Refused c = let all = binary_unasked c.args.img.now c.args.key c.args.caller c.args.mode c.args.position c.args.coming c.args.sum c.args.buffer.now
+    c.is_given_wrong.ensures _ c.ask_linked_read.ensures c.in-Refused.is c.refused.ensures.code_value c.refused.ensures.sum_value in
+    record { code_value = all.0; sum_value = all.1.0; buffer_after = all.1.1 }
 
 pub bytes_in-requires : goal.bytes_in-requires
 bytes_in-requires c = let file =
@@ -33,20 +28,26 @@ pub returns-then-bytes_in-position : goal.returns-then-bytes_in-position
 returns-then-bytes_in-position c = let file =
     binary_asked c.args.img.now c.args.key c.args.caller c.args.mode c.args.position c.args.coming c.args.sum c.args.buffer.now c.is_given_wrong.ensures _
     c.ask_linked_read.ensures _ _ _ c.in-File.is in
-    record { code_value = (binary_beyond file _ c.bytes_in.ensures c.if-bytes_in-position.true c.refused-then-bytes_in-position.ensures.code_value c.refused-then-bytes_in-position.ensures.sum_value).0; sum_value = (binary_beyond file _ c.bytes_in.ensures c.if-bytes_in-position.true c.refused-then-bytes_in-position.ensures.code_value c.refused-then-bytes_in-position.ensures.sum_value).1.0; buffer_after = (binary_beyond file _ c.bytes_in.ensures c.if-bytes_in-position.true c.refused-then-bytes_in-position.ensures.code_value c.refused-then-bytes_in-position.ensures.sum_value).1.1 }
+    let all = binary_beyond file _ c.bytes_in.ensures c.if-bytes_in-position.true c.refused-then-bytes_in-position.ensures.code_value c.refused-then-bytes_in-position.ensures.sum_value in
+    record { code_value = all.0; sum_value = all.1.0; buffer_after = all.1.1 }
 
 pub locate-spot-requires : goal.locate-spot-requires
 locate-spot-requires c = let file =
     binary_asked c.args.img.now c.args.key c.args.caller c.args.mode c.args.position c.args.coming c.args.sum c.args.buffer.now c.is_given_wrong.ensures _
     c.ask_linked_read.ensures _ _ _ c.in-File.is in
-    record { sized = (binary_located file _ c.bytes_in.ensures c.if-bytes_in-position.false).0; by_index = (binary_located file _ c.bytes_in.ensures c.if-bytes_in-position.false).1.0; kind_value = (binary_located file _ c.bytes_in.ensures c.if-bytes_in-position.false).1.1 }
+    let all = binary_located file _ c.bytes_in.ensures c.if-bytes_in-position.false in
+    record { sized = all.0; by_index = all.1.0; kind_value = all.1.1 }
 
 pub read_part-part-requires : goal.read_part-part-requires
 read_part-part-requires c = let file =
     binary_asked c.args.img.now c.args.key c.args.caller c.args.mode c.args.position c.args.coming c.args.sum c.args.buffer.now
     c.is_given_wrong.ensures _
     c.ask_linked_read.ensures _ _ _ c.in-File.is in
-    record { standing = c.locate-spot.ensures.standing; buffer_nonzero = binary_ready file _ c.bytes_in.ensures c.if-bytes_in-position.false _ c.locate-spot.ensures.result_value; coming_bound = binary_passed_in file _ c.bytes_in.ensures c.if-bytes_in-position.false _ c.locate-spot.ensures.result_value }
+    record {
+      standing = c.locate-spot.ensures.standing;
+      buffer_nonzero = binary_ready file _ c.bytes_in.ensures c.if-bytes_in-position.false _ c.locate-spot.ensures.result_value;
+      coming_bound = binary_passed_in file _ c.bytes_in.ensures c.if-bytes_in-position.false _ c.locate-spot.ensures.result_value;
+    }
 
 pub overflow_add-result : goal.overflow_add-result
 overflow_add-result c = let file =
@@ -62,11 +63,5 @@ pub returns-in-File : goal.returns-in-File
 returns-in-File c = let file =
     binary_asked c.args.img.now c.args.key c.args.caller c.args.mode c.args.position c.args.coming c.args.sum c.args.buffer.now c.is_given_wrong.ensures _
     c.ask_linked_read.ensures _ _ _ c.in-File.is in
-    record {
-      code_value = (binary_done file _ c.bytes_in.ensures c.if-bytes_in-position.false _ c.locate-spot.ensures.result_value
-          c.read_part-part.ensures).0;
-      sum_value = (binary_done file _ c.bytes_in.ensures c.if-bytes_in-position.false _ c.locate-spot.ensures.result_value
-          c.read_part-part.ensures).1.0;
-      buffer_after = (binary_done file _ c.bytes_in.ensures c.if-bytes_in-position.false _ c.locate-spot.ensures.result_value
-          c.read_part-part.ensures).1.1;
-    }
+    let all = binary_done file _ c.bytes_in.ensures c.if-bytes_in-position.false _ c.locate-spot.ensures.result_value c.read_part-part.ensures in
+    record { code_value = all.0; sum_value = all.1.0; buffer_after = all.1.1 }

@@ -11,7 +11,8 @@ pub returns-then-special-count : goal.returns-then-special-count
 returns-then-special-count c = λ s counted summed stands. judged_full c.args.special c.args.most c.args.coming c.args.sum s counted summed c.if-special-count.true
 
 pub returns-then-behind-eq0 : goal.returns-then-behind-eq0
-returns-then-behind-eq0 c = λ s counted summed stands. judged_ended c.args.special c.args.most c.args.coming c.args.sum s counted summed _ _ _ stands c.if-special-count.false c.bit_0-short.ensures.value
+returns-then-behind-eq0 c = λ s counted summed stands. judged_ended c.args.special c.args.most c.args.coming c.args.sum s counted summed _ _ _ stands c.if-special-count.false
+    c.bit_0-short.ensures.value
     c.if-behind-eq0.true
 
 pub byte_at-last-requires : goal.byte_at-last-requires

@@ -3,7 +3,12 @@ use Rattle.binary.proofs.BinaryWritingAnswers.{binary_denied, binary_few, binary
 use Rattle.binary.proofs.binary_write.binary_write_opened.Goals as goal
 
 pub lay_line-at-requires : goal.lay_line-at-requires
-lay_line-at-requires c = record { writable = binary_begun c.args.img.now c.args.key c.args.caller c.args.content.now c.args.gather.now c.args.filled c.full_blocks-needed.ensures.result_value c.ask_write.ensures c.in-File.is _ c.requires.mapped_if; content_len_bound = binary_few c.args.img.now c.args.key c.args.caller c.args.content.now c.args.gather.now c.args.filled c.full_blocks-needed.ensures.result_value c.ask_write.ensures c.in-File.is }
+lay_line-at-requires c = record {
+  writable = binary_begun c.args.img.now c.args.key c.args.caller c.args.content.now c.args.gather.now c.args.filled
+      c.full_blocks-needed.ensures.result_value c.ask_write.ensures c.in-File.is _ c.requires.mapped_if;
+  content_len_bound = binary_few c.args.img.now c.args.key c.args.caller
+      c.args.content.now c.args.gather.now c.args.filled c.full_blocks-needed.ensures.result_value c.ask_write.ensures c.in-File.is;
+}
 
 pub returns-in-Refused : goal.returns-in-Refused
 returns-in-Refused c = let d = binary_denied c.args.img.now c.args.key c.args.caller c.args.content.now c.args.gather.now c.args.filled c.full_blocks-needed.ensures.result_value
@@ -11,20 +16,6 @@ returns-in-Refused c = let d = binary_denied c.args.img.now c.args.key c.args.ca
     record { code_value = d.0; filled_value = d.1.0; img_after = d.1.1.0; gather_after = d.1.1.1; mapped_if_2 = c.requires.mapped_if }
 
 pub returns-in-File : goal.returns-in-File
-returns-in-File c = record {
-  code_value = (binary_done c.args.img.now c.args.key c.args.caller c.args.content.now c.args.gather.now c.args.filled c.full_blocks-needed.ensures.result_value
-      c.ask_write.ensures
-      c.in-File.is _ c.requires.mapped_if c.lay_line-at.ensures).0;
-  filled_value = (binary_done c.args.img.now c.args.key c.args.caller c.args.content.now c.args.gather.now c.args.filled c.full_blocks-needed.ensures.result_value
-      c.ask_write.ensures
-      c.in-File.is _ c.requires.mapped_if c.lay_line-at.ensures).1.0;
-  img_after = (binary_done c.args.img.now c.args.key c.args.caller c.args.content.now c.args.gather.now c.args.filled c.full_blocks-needed.ensures.result_value
-      c.ask_write.ensures
-      c.in-File.is _ c.requires.mapped_if c.lay_line-at.ensures).1.1.0;
-  gather_after = (binary_done c.args.img.now c.args.key c.args.caller c.args.content.now c.args.gather.now c.args.filled c.full_blocks-needed.ensures.result_value
-      c.ask_write.ensures
-      c.in-File.is _ c.requires.mapped_if c.lay_line-at.ensures).1.1.1.0;
-  mapped_if_2 = (binary_done c.args.img.now c.args.key c.args.caller c.args.content.now c.args.gather.now c.args.filled c.full_blocks-needed.ensures.result_value
-      c.ask_write.ensures
-      c.in-File.is _ c.requires.mapped_if c.lay_line-at.ensures).1.1.1.1;
-}
+returns-in-File c = let all = binary_done c.args.img.now c.args.key c.args.caller c.args.content.now c.args.gather.now c.args.filled c.full_blocks-needed.ensures.result_value
+    c.ask_write.ensures c.in-File.is _ c.requires.mapped_if c.lay_line-at.ensures in
+    record { code_value = all.0; filled_value = all.1.0; img_after = all.1.1.0; gather_after = all.1.1.1.0; mapped_if_2 = all.1.1.1.1 }

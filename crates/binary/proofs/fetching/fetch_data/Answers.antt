@@ -91,7 +91,8 @@ loop-count-smaller c = omega (
 
 pub loop-count-preserved : goal.loop-count-preserved
 loop-count-preserved c = let room = part_room c.loop-count.invariant (omega (arith, c.if-spot-eq0.false)) c.lesser-here.ensures in
-    fetch_next c.loop-count.invariant (omega (arith, c.if-spot-eq0.false)) _ room.1 (omega (arith, room.2)) room.3 _ c.lay_part.auto.buffer c.lay_part.ensures c.sum_of-sum.ensures.value c.sum_of-sum.ensures.upper_bound c.go_on-spot.ensures.result_value c.go_on-spot.ensures.standing_2
+    fetch_next c.loop-count.invariant (omega (arith, c.if-spot-eq0.false)) _ room.1 (omega (arith, room.2)) room.3 _ c.lay_part.auto.buffer c.lay_part.ensures
+    c.sum_of-sum.ensures.value c.sum_of-sum.ensures.upper_bound c.go_on-spot.ensures.result_value c.go_on-spot.ensures.standing_2
 
 pub shape_of-buffer : goal.shape_of-buffer
 shape_of-buffer c = c.loop-count.invariant.long

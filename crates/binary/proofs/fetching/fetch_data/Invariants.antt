@@ -1,3 +1,4 @@
+-- What the loop of `fetch_data` keeps from turn to turn, and what falls in each.
 use Prim.Native.Nat.{◌-◌}
 use Rattle.stream.specs.Spot.{bytes_from}
 use Rattle.binary.specs.Fetching.{Fetching}

@@ -1,3 +1,4 @@
+-- What the loop of `lay_over` keeps from turn to turn, and what falls in each.
 use lib.ListN.{length, take}
 use Prim.Native.Nat.{◌-◌, ◌≤◌}
 use mathlib.Core.Path.{◌≡◌}

@@ -1,3 +1,4 @@
+-- What the loop of `nuls_in` keeps from turn to turn, and what falls in each.
 use lib.ListN.{length, drop}
 use Prim.Native.Nat.{◌+◌, ◌-◌, ◌≤◌}
 use mathlib.Core.Path.{◌≡◌}

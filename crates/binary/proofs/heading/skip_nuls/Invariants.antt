@@ -1,3 +1,4 @@
+-- What the loop of `skip_nuls` keeps from turn to turn, and what falls in each.
 use lib.ListN.{length}
 use Rattle.stream.specs.Spot.{bytes_from}
 use Rattle.binary.specs.Heading.{Skipping}

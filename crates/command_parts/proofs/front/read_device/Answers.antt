@@ -7,7 +7,8 @@ pub returns-then-middle-start-lt2 : goal.returns-then-middle-start-lt2
 returns-then-middle-start-lt2 c = no_letters _ _ _ c.letters-letters.ensures c.if-middle-start-lt2.true
 
 pub word_of-requires : goal.word_of-requires
-word_of-requires c = record { first_le_end = (letters_wordable _ _ _ c.letters-letters.ensures c.if-middle-start-lt2.false).0; end_bound = (letters_wordable _ _ _ c.letters-letters.ensures c.if-middle-start-lt2.false).1.0; all = (letters_wordable _ _ _ c.letters-letters.ensures c.if-middle-start-lt2.false).1.1 }
+word_of-requires c = let given = letters_wordable _ _ _ c.letters-letters.ensures c.if-middle-start-lt2.false in
+    record { first_le_end = given.0; end_bound = given.1.0; all = given.1.1 }
 
 pub returns-in-Refused : goal.returns-in-Refused
 returns-in-Refused c = no_colon _ _ _ c.letters-letters.ensures c.if-middle-start-lt2.false c.number-unit.ensures (sym c.one-p.ensures ∙ c.in-Refused.is)

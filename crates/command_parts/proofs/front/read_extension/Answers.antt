@@ -4,7 +4,8 @@ use Rattle.command_parts.proofs.MadeFront.{extension_none, extension_wordable, e
 use Rattle.command_parts.proofs.front.read_extension.Goals as goal
 
 pub word_of-requires : goal.word_of-requires
-word_of-requires c = record { first_le_end = (extension_wordable _ c.args.c.at _ (sym c.one-p.ensures ∙ c.in-Read.is) _ c.named-next.ensures).0; end_bound = (extension_wordable _ c.args.c.at _ (sym c.one-p.ensures ∙ c.in-Read.is) _ c.named-next.ensures).1.0; all = (extension_wordable _ c.args.c.at _ (sym c.one-p.ensures ∙ c.in-Read.is) _ c.named-next.ensures).1.1 }
+word_of-requires c = let given = extension_wordable _ c.args.c.at _ (sym c.one-p.ensures ∙ c.in-Read.is) _ c.named-next.ensures in
+    record { first_le_end = given.0; end_bound = given.1.0; all = given.1.1 }
 
 pub returns-in-Refused : goal.returns-in-Refused
 returns-in-Refused c = extension_none _ _ (sym c.one-p.ensures ∙ c.in-Refused.is)

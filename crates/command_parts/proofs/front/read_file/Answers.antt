@@ -6,7 +6,8 @@ pub returns-then-end-start : goal.returns-then-end-start
 returns-then-end-start c = file_none _ _ _ c.named-name.ensures c.if-end-start.true
 
 pub name_words-words-requires : goal.name_words-words-requires
-name_words-words-requires c = record { first_le_end = (name_wordable _ _ _ c.named-name.ensures c.if-end-start.false).0; end_bound = (name_wordable _ _ _ c.named-name.ensures c.if-end-start.false).1.0; all = (name_wordable _ _ _ c.named-name.ensures c.if-end-start.false).1.1 }
+name_words-words-requires c = let given = name_wordable _ _ _ c.named-name.ensures c.if-end-start.false in
+    record { first_le_end = given.0; end_bound = given.1.0; all = given.1.1 }
 
 pub returns : goal.returns
 returns c = file_made _ _ _ c.named-name.ensures c.if-end-start.false c.name_words-words.ensures.first_value _ c.read_extension-extension.ensures

@@ -52,4 +52,9 @@ pub bounds-heads-slot-2 : goal.bounds-heads-slot-2
 bounds-heads-slot-2 c = omega (arith, c.slot_of-slot.ensures.upper_bound)
 
 pub returns : goal.returns
-returns c = record { value = compared_new _ _ _ _ _ c.requires.e_bound.2 c.key_number-key.ensures.value c.slot_of-slot.ensures.value refl c.is_apart.ensures c.if-not-is_apart.false c.requires.e_bound.1; listing = λ _. listing_more _ _ _ _ _ c.requires.e_bound.2 c.key_number-key.ensures.value c.slot_of-slot.ensures.value c.requires.e_in_bounds.0 refl refl }
+returns c = record {
+  value = compared_new _ _ _ _ _ c.requires.e_bound.2 c.key_number-key.ensures.value c.slot_of-slot.ensures.value refl c.is_apart.ensures
+      c.if-not-is_apart.false c.requires.e_bound.1;
+  listing = λ _. listing_more _ _ _ _ _ c.requires.e_bound.2 c.key_number-key.ensures.value c.slot_of-slot.ensures.value
+      c.requires.e_in_bounds.0 refl refl;
+}

@@ -1,3 +1,4 @@
+-- What the loop of `is_apart` keeps from turn to turn, and what falls in each.
 use Prim.Native.Nat.{ℕ, ◌≤◌}
 use mathlib.Core.Path.{◌≡◌}
 use Rattle.consistency.specs.DifferTest.{key_number, InList}

@@ -8,7 +8,9 @@ pub overflow_mul-mixed : goal.overflow_mul-mixed
 overflow_mul-mixed c = omega (arith, c.ranges.key)
 
 pub returns-then-long-eq-FEW_LISTS : goal.returns-then-long-eq-FEW_LISTS
-returns-then-long-eq-FEW_LISTS c = record { value = (slot_few _ _ c.requires refl c.if-long-eq-FEW_LISTS.true).0; upper_bound = (slot_few _ _ c.requires refl c.if-long-eq-FEW_LISTS.true).1 }
+returns-then-long-eq-FEW_LISTS c = let both = slot_few _ _ c.requires refl c.if-long-eq-FEW_LISTS.true in
+    record { value = both.0; upper_bound = both.1 }
 
 pub returns : goal.returns
-returns c = record { value = (slot_many _ _ c.requires refl c.if-long-eq-FEW_LISTS.false).0; upper_bound = (slot_many _ _ c.requires refl c.if-long-eq-FEW_LISTS.false).1 }
+returns c = let both = slot_many _ _ c.requires refl c.if-long-eq-FEW_LISTS.false in
+    record { value = both.0; upper_bound = both.1 }

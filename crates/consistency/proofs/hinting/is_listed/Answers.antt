@@ -21,7 +21,8 @@ pub word_at-requires : goal.word_at-requires
 word_at-requires c = omega (arith, c.if-place-uics.true, c.requires.hints_len.1, uics_room _ c.requires.right_header)
 
 pub returns-then-word_at-uic : goal.returns-then-word_at-uic
-returns-then-word_at-uic c = sym ((listed_iff _ _).1 (record { at = _; within = omega (arith, c.if-place-uics.true, c.requires.hints_len.1); is = sym c.word_at.ensures.value ∙ c.if-word_at-uic.true }))
+returns-then-word_at-uic c = sym
+    ((listed_iff _ _).1 (record { at = _; within = omega (arith, c.if-place-uics.true, c.requires.hints_len.1); is = sym c.word_at.ensures.value ∙ c.if-word_at-uic.true }))
 
 pub is_listed-requires : goal.is_listed-requires
 is_listed-requires c = c.requires.right_header

@@ -26,7 +26,8 @@ pub word_of-requires : goal.word_of-requires
 word_of-requires c = (c.requires.has_map.1, omega (arith, c.loop-w-test.true, c.words-words.ensures, c.requires.sized.few))
 
 pub returns-then-word_at-word_of : goal.returns-then-word_at-word_of
-returns-then-word_at-word_of c = leads_wrong c.loop-w.invariant c.requires.has_map.1.few c.words-words.ensures c.loop-w-test.true c.word_at.ensures.value c.word_at.ensures.upper_bound c.word_of.ensures c.if-word_at-word_of.true
+returns-then-word_at-word_of c = leads_wrong c.loop-w.invariant c.requires.has_map.1.few c.words-words.ensures c.loop-w-test.true c.word_at.ensures.value
+    c.word_at.ensures.upper_bound c.word_of.ensures c.if-word_at-word_of.true
 
 pub overflow_add-w : goal.overflow_add-w
 overflow_add-w c = omega (arith, c.loop-w-test.true)
@@ -35,7 +36,8 @@ pub loop-w-smaller : goal.loop-w-smaller
 loop-w-smaller c = omega (arith, c.loop-w-test.true)
 
 pub loop-w-preserved : goal.loop-w-preserved
-loop-w-preserved c = leads_step c.loop-w.invariant c.requires.has_map.1.few c.words-words.ensures c.loop-w-test.true c.word_at.ensures.value c.word_at.ensures.upper_bound c.word_of.ensures c.if-word_at-word_of.false
+loop-w-preserved c = leads_step c.loop-w.invariant c.requires.has_map.1.few c.words-words.ensures c.loop-w-test.true c.word_at.ensures.value c.word_at.ensures.upper_bound
+    c.word_of.ensures c.if-word_at-word_of.false
 
 pub returns : goal.returns
 returns c = leads_end c.loop-w.invariant c.words-words.ensures (omega (arith, c.loop-w-test.false))

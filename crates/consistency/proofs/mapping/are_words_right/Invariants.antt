@@ -1,3 +1,4 @@
+-- What the loop of `are_words_right` keeps from turn to turn, and what falls in each.
 use Prim.Native.Nat.{◌-◌}
 use Rattle.consistency.specs.MapTest.{mark_on}
 use Rattle.consistency.proofs.MapTest.{Leads}

@@ -58,8 +58,10 @@ loop-left-preserved c = let right = c.if-not-take.false in
     let one = walking_on c.loop-left.invariant.0 (omega (arith, c.loop-left-test.true)) (c.take.ensures.map_after right) c.next_block-last.ensures.result_value {less = c.loop-left.left - 1} refl in (
       walking_on one (omega (arith, c.loop-left-test.true)) (c.take-in-loop-left.ensures.map_after right₂) c.next_block-b.ensures.result_value (omega arith),
       c.loop-left.invariant.1
-          ∙ chain_on _ _ _ _ _ _ _ (omega (arith, c.loop-left-test.true)) c.loop-left.invariant.0.system (sym c.take.ensures.value ∙ right) (c.take.ensures.map_after right) c.next_block-last.ensures.result_value {less = c.loop-left.left - 1} refl
-          ∙ chain_on _ _ _ _ _ _ _ (omega (arith, c.loop-left-test.true)) one.system (sym c.take-in-loop-left.ensures.value ∙ right₂) (c.take-in-loop-left.ensures.map_after right₂) c.next_block-b.ensures.result_value (omega arith),
+          ∙ chain_on _ _ _ _ _ _ _ (omega (arith, c.loop-left-test.true)) c.loop-left.invariant.0.system (sym c.take.ensures.value ∙ right) (c.take.ensures.map_after right)
+          c.next_block-last.ensures.result_value {less = c.loop-left.left - 1} refl
+          ∙ chain_on _ _ _ _ _ _ _ (omega (arith, c.loop-left-test.true)) one.system (sym c.take-in-loop-left.ensures.value ∙ right₂)
+          (c.take-in-loop-left.ensures.map_after right₂) c.next_block-b.ensures.result_value (omega arith),
     )
 
 pub is_end_right-requires : goal.is_end_right-requires
@@ -67,7 +69,11 @@ is_end_right-requires c = record { sized = c.requires.sized; blocks_in_bounds = 
 
 pub returns-then-left-ne0 : goal.returns-then-left-ne0
 returns-then-left-ne0 c = let one : c.loop-left.left ≡ 1 = omega (arith, c.loop-left-test.false, c.if-left-ne0.true) in
-    record { value = c.is_end_right.ensures.by_index c.loop-left.last.0 ∙ sym (c.loop-left.invariant.1 ∙ chain_last _ _ _ _ _ _ _ one); map_after = λ right. c.is_end_right.ensures.map_after right ∙ sym (walking_last c.loop-left.invariant.0 one) }
+    record {
+      value = c.is_end_right.ensures.by_index c.loop-left.last.0 ∙ sym (c.loop-left.invariant.1 ∙ chain_last _ _ _ _ _ _ _ one);
+      map_after = λ right.
+          c.is_end_right.ensures.map_after right ∙ sym (walking_last c.loop-left.invariant.0 one);
+    }
 
 pub returns : goal.returns
 returns c = record { value = sym (c.loop-left.invariant.1 ∙ chain_ends _ _ _ _ _ _ _ c.if-left-ne0.false); map_after = λ _. walking_ends c.loop-left.invariant.0 c.if-left-ne0.false }

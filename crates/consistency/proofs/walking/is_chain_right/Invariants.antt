@@ -1,3 +1,4 @@
+-- What the loop of `is_chain_right` keeps from turn to turn, and what falls in each.
 use mathlib.Core.Path.{◌≡◌}
 use Rattle.consistency.specs.EntryTest.{chain_test}
 use Rattle.consistency.proofs.WalkSteps.{Walking}

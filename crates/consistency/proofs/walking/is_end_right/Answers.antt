@@ -17,4 +17,9 @@ next_block-next-requires c = record { sized = c.requires.sized; b_lt_blocks = lt
 
 pub returns : goal.returns
 returns c = let right = c.if-not-take.false in
-    record { by_index = λ other. sym (chain_on _ _ _ other _ _ _ (omega arith) c.requires.blocks_in_bounds.1 (sym c.take.ensures.value ∙ right) (c.take.ensures.map_after right) c.next_block-next.ensures.result_value {less = 0} refl ∙ chain_ends _ _ _ _ _ _ _ refl); map_after = λ _. walking_ends (walking_on (walking_starts _ _ 2 _ 1 _ c.requires.blocks_in_bounds.1) (omega arith) (c.take.ensures.map_after right) c.next_block-next.ensures.result_value {less = 0} refl) refl }
+    record {
+      by_index = λ other. sym (chain_on _ _ _ other _ _ _ (omega arith) c.requires.blocks_in_bounds.1 (sym c.take.ensures.value ∙ right) (c.take.ensures.map_after right)
+          c.next_block-next.ensures.result_value {less = 0} refl ∙ chain_ends _ _ _ _ _ _ _ refl);
+      map_after = λ _. walking_ends (walking_on
+          (walking_starts _ _ 2 _ 1 _ c.requires.blocks_in_bounds.1) (omega arith) (c.take.ensures.map_after right) c.next_block-next.ensures.result_value {less = 0} refl) refl;
+    }

@@ -1,3 +1,4 @@
+-- What the loop of `take_run` keeps from turn to turn, and what falls in each.
 use Prim.Native.Nat.{◌-◌}
 use Rattle.consistency.proofs.WalkSteps.{Running}
 use Rattle.consistency.proofs.walking.take_run.Given as goal

@@ -6,10 +6,13 @@ pub kept_code-requires : goal.kept_code-requires
 kept_code-requires c = keeping_small _ _ _ _ c.decide_keep.ensures _ _ _ c.in-File.is
 
 pub set_entry_word-requires : goal.set_entry_word-requires
-set_entry_word-requires c = record { sized = (keeping_room _ _ _ _ c.decide_keep.ensures _ _ _ c.in-File.is _ c.kept_code.ensures).0; e_bound = (keeping_room _ _ _ _ c.decide_keep.ensures _ _ _ c.in-File.is _ c.kept_code.ensures).1 }
+set_entry_word-requires c = let both = keeping_room _ _ _ _ c.decide_keep.ensures _ _ _ c.in-File.is _ c.kept_code.ensures in
+    record { sized = both.0; e_bound = both.1 }
 
 pub returns-in-Refused : goal.returns-in-Refused
-returns-in-Refused c = record { value = (keeping_refused _ _ _ _ c.decide_keep.ensures _ c.in-Refused.is).0; img_after = (keeping_refused _ _ _ _ c.decide_keep.ensures _ c.in-Refused.is).1 }
+returns-in-Refused c = let both = keeping_refused _ _ _ _ c.decide_keep.ensures _ c.in-Refused.is in
+    record { value = both.0; img_after = both.1 }
 
 pub returns-in-File : goal.returns-in-File
-returns-in-File c = record { value = (keeping_done _ _ _ _ c.decide_keep.ensures _ _ _ c.in-File.is _ c.kept_code.ensures _ c.set_entry_word.ensures).0; img_after = (keeping_done _ _ _ _ c.decide_keep.ensures _ _ _ c.in-File.is _ c.kept_code.ensures _ c.set_entry_word.ensures).1 }
+returns-in-File c = let both = keeping_done _ _ _ _ c.decide_keep.ensures _ _ _ c.in-File.is _ c.kept_code.ensures _ c.set_entry_word.ensures in
+    record { value = both.0; img_after = both.1 }

@@ -3,10 +3,13 @@ use Rattle.directory.proofs.RenamStage.{renaming_refused, renaming_room, renamin
 use Rattle.directory.proofs.renam.renam_opened.Goals as goal
 
 pub write_name-requires : goal.write_name-requires
-write_name-requires c = record { sized = (renaming_room _ _ _ _ _ _ c.decide_renam.ensures _ _ _ c.in-File.is).0; e_bound = (renaming_room _ _ _ _ _ _ c.decide_renam.ensures _ _ _ c.in-File.is).1.0; name1_bound = (renaming_room _ _ _ _ _ _ c.decide_renam.ensures _ _ _ c.in-File.is).1.1 }
+write_name-requires c = let all = renaming_room _ _ _ _ _ _ c.decide_renam.ensures _ _ _ c.in-File.is in
+    record { sized = all.0; e_bound = all.1.0; name1_bound = all.1.1 }
 
 pub returns-in-Refused : goal.returns-in-Refused
-returns-in-Refused c = record { value = (renaming_refused _ _ _ _ _ _ c.decide_renam.ensures _ c.in-Refused.is).0; img_after = (renaming_refused _ _ _ _ _ _ c.decide_renam.ensures _ c.in-Refused.is).1 }
+returns-in-Refused c = let both = renaming_refused _ _ _ _ _ _ c.decide_renam.ensures _ c.in-Refused.is in
+    record { value = both.0; img_after = both.1 }
 
 pub returns-in-File : goal.returns-in-File
-returns-in-File c = record { value = (renaming_done _ _ _ _ _ _ c.decide_renam.ensures _ _ _ c.in-File.is _ c.write_name.ensures).0; img_after = (renaming_done _ _ _ _ _ _ c.decide_renam.ensures _ _ _ c.in-File.is _ c.write_name.ensures).1 }
+returns-in-File c = let both = renaming_done _ _ _ _ _ _ c.decide_renam.ensures _ _ _ c.in-File.is _ c.write_name.ensures in
+    record { value = both.0; img_after = both.1 }

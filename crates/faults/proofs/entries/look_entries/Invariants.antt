@@ -1,3 +1,4 @@
+-- What the loop of `look_entries` keeps from turn to turn, and what falls in each.
 use Prim.Native.Nat.{◌-◌}
 use mathlib.Core.Path.{◌≡◌}
 use Rattle.pack.specs.Geometry.{slots}

@@ -5,7 +5,8 @@ use Rattle.faults.proofs.LookedFields.{same_found, same_not}
 use Rattle.faults.proofs.fields.same_before.Goals as goal
 
 pub read_key-key-requires : goal.read_key-key-requires
-read_key-key-requires c = record { sized = (c.requires).0; e_bound = (c.requires).1 }
+read_key-key-requires c = let both = c.requires in
+    record { sized = both.0; e_bound = both.1 }
 
 pub loop-f-init : goal.loop-f-init
 loop-f-init c = (omega arith, sought_none)

@@ -1,3 +1,4 @@
+-- What the loop of `same_before` keeps from turn to turn, and what falls in each.
 use Prim.Native.Nat.{◌-◌, ◌≤◌}
 use Rattle.faults.specs.Looking.{FirstWrong, OtherKey}
 use Rattle.faults.proofs.fields.same_before.Given as goal

@@ -1,3 +1,4 @@
+-- What the loop of `wrong_zero` keeps from turn to turn, and what falls in each.
 use Prim.Native.Nat.{◌-◌, ◌≤◌}
 use Rattle.pack.specs.declared.Entry.{Entry}
 use Rattle.faults.specs.Looking.{FirstWrong, FieldRight}

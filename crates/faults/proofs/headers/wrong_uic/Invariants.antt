@@ -1,3 +1,4 @@
+-- What the loop of `wrong_uic` keeps from turn to turn, and what falls in each.
 use Prim.Native.Nat.{◌-◌, ◌≤◌}
 use Rattle.faults.specs.Rules.{RightWord}
 use Rattle.faults.specs.Looking.{FirstWrong}

@@ -35,7 +35,8 @@ pub loop-left-smaller : goal.loop-left-smaller
 loop-left-smaller c = omega (arith, c.loop-left-test.true)
 
 pub loop-left-preserved : goal.loop-left-preserved
-loop-left-preserved c = counting_next c.loop-left.invariant c.loop-left-test.true (omega (arith, counting_block c.loop-left.invariant c.loop-left-test.true, c.requires.sized.1, c.loop-left.invariant.long))
+loop-left-preserved c = counting_next c.loop-left.invariant c.loop-left-test.true
+    (omega (arith, counting_block c.loop-left.invariant c.loop-left-test.true, c.requires.sized.1, c.loop-left.invariant.long))
     c.one_more.ensures c.next_block-b.ensures.result_value
 
 pub returns : goal.returns

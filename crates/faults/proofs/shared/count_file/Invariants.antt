@@ -1,3 +1,4 @@
+-- What the loop of `count_file` keeps from turn to turn, and what falls in each.
 use Rattle.faults.proofs.LookedShared.{Counting}
 use Rattle.faults.proofs.shared.count_file.Given as goal
 

@@ -1,3 +1,4 @@
+-- What the loop of `reaches` keeps from turn to turn, and what falls in each.
 use Rattle.faults.proofs.LookedShared.{Seeking}
 use Rattle.faults.proofs.shared.reaches.Given as goal
 

@@ -1,3 +1,4 @@
+-- What the loop of `shared_block` keeps from turn to turn, and what falls in each.
 use Prim.Native.Nat.{◌-◌, ◌≤◌}
 use lib.ListN.{get_or}
 use Rattle.faults.specs.Looking.{FirstWrong}

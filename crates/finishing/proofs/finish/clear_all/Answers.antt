@@ -29,10 +29,15 @@ pub loop-e-smaller : goal.loop-e-smaller
 loop-e-smaller c = omega (arith, below_count c.loop-e.invariant.0 c.loop-e-test.true)
 
 pub loop-e-preserved : goal.loop-e-preserved
-loop-e-preserved c = (c.loop-e.invariant.0, remaining_step c.loop-e.invariant.1 (below_count c.loop-e.invariant.0 c.loop-e-test.true) c.clear_scratch-number.ensures.value c.clear_scratch-number.ensures.img_after)
+loop-e-preserved c = (
+  c.loop-e.invariant.0,
+  remaining_step c.loop-e.invariant.1 (below_count c.loop-e.invariant.0 c.loop-e-test.true) c.clear_scratch-number.ensures.value
+      c.clear_scratch-number.ensures.img_after,
+)
 
 pub shape_of-img : goal.shape_of-img
 shape_of-img c = c.loop-e.invariant.1.long
 
 pub returns : goal.returns
-returns c = record { value = (remaining_end c.loop-e.invariant.1 (past_count c.loop-e.invariant.0 c.loop-e-test.false) c.requires.img_value).0; img_after = (remaining_end c.loop-e.invariant.1 (past_count c.loop-e.invariant.0 c.loop-e-test.false) c.requires.img_value).1 }
+returns c = let both = remaining_end c.loop-e.invariant.1 (past_count c.loop-e.invariant.0 c.loop-e-test.false) c.requires.img_value in
+    record { value = both.0; img_after = both.1 }

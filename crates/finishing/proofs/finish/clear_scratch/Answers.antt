@@ -13,12 +13,9 @@ pub clear_entry-requires : goal.clear_entry-requires
 clear_entry-requires c = record { sized = sized_same c.requires.sized c.clear_bits.auto.img; e_bound = c.requires.e_bound.0 }
 
 pub returns-then-is_scratch : goal.returns-then-is_scratch
-returns-then-is_scratch c = record {
-  value = (entry_gone _ _ _ c.read_entry-x.ensures.value _ c.is_scratch.ensures c.if-is_scratch.true
-      c.clear_bits.ensures c.clear_entry.ensures).0;
-  img_after = (entry_gone _ _ _ c.read_entry-x.ensures.value _ c.is_scratch.ensures c.if-is_scratch.true
-      c.clear_bits.ensures c.clear_entry.ensures).1;
-}
+returns-then-is_scratch c = let both = entry_gone _ _ _ c.read_entry-x.ensures.value _ c.is_scratch.ensures c.if-is_scratch.true c.clear_bits.ensures c.clear_entry.ensures in
+    record { value = both.0; img_after = both.1 }
 
 pub returns : goal.returns
-returns c = record { value = (entry_left _ _ _ c.read_entry-x.ensures.value _ c.is_scratch.ensures c.if-is_scratch.false).0; img_after = (entry_left _ _ _ c.read_entry-x.ensures.value _ c.is_scratch.ensures c.if-is_scratch.false).1 }
+returns c = let both = entry_left _ _ _ c.read_entry-x.ensures.value _ c.is_scratch.ensures c.if-is_scratch.false in
+    record { value = both.0; img_after = both.1 }

@@ -1,3 +1,4 @@
+-- What the loop of `count_part` keeps from turn to turn, and what falls in each.
 use Prim.Native.Nat.{◌-◌}
 use lib.ListN.{length}
 use Rattle.lines.proofs.LineWriteCounted.{Counting}

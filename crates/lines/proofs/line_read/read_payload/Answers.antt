@@ -28,7 +28,11 @@ pub shape_of-buffer-in-Terminator : goal.shape_of-buffer-in-Terminator
 shape_of-buffer-in-Terminator c = simp length-set c.loop-i.invariant.long
 
 pub returns-in-Terminator : goal.returns-in-Terminator
-returns-in-Terminator c = record { result_after = part_terminator c.loop-i.invariant c.loop-i-test.true c.role_of-role.ensures c.place_in-place.ensures c.in-Terminator.is c.bit_0.ensures.value; count_le_passed = omega arith }
+returns-in-Terminator c = record {
+  result_after = part_terminator c.loop-i.invariant c.loop-i-test.true c.role_of-role.ensures c.place_in-place.ensures c.in-Terminator.is
+      c.bit_0.ensures.value;
+  count_le_passed = omega arith;
+}
 
 pub bounds-buffer-place-in-Plain : goal.bounds-buffer-place-in-Plain
 bounds-buffer-place-in-Plain c = omega arith
@@ -46,7 +50,11 @@ pub shape_of-buffer-then-is_special-most : goal.shape_of-buffer-then-is_special-
 shape_of-buffer-then-is_special-most c = simp length-set c.loop-i.invariant.long
 
 pub returns-then-is_special-most : goal.returns-then-is_special-most
-returns-then-is_special-most c = record { result_after = part_full c.loop-i.invariant c.loop-i-test.true c.role_of-role.ensures c.place_in-place-in-Plain.ensures c.in-Plain.is c.is_special.ensures c.if-is_special-most.true; count_le_passed = omega arith }
+returns-then-is_special-most c = record {
+  result_after = part_full c.loop-i.invariant c.loop-i-test.true c.role_of-role.ensures c.place_in-place-in-Plain.ensures c.in-Plain.is
+      c.is_special.ensures c.if-is_special-most.true;
+  count_le_passed = omega arith;
+}
 
 pub overflow_add-i : goal.overflow_add-i
 overflow_add-i c = omega arith
@@ -57,7 +65,8 @@ loop-i-smaller c = omega arith
 pub loop-i-preserved : goal.loop-i-preserved
 loop-i-preserved c = elim c.match-role.branch [
   | in-Discarded w ↦ part_discarded c.loop-i.invariant c.loop-i-test.true c.role_of-role.ensures w.in-Discarded.is w.buffer-is w.count-is
-  | in-Plain+else-is_special-most w ↦ part_plain c.loop-i.invariant c.loop-i-test.true c.role_of-role.ensures w.place_in-place-in-Plain.ensures w.in-Plain.is w.is_special.ensures w.if-is_special-most.false w.buffer-is w.count-is
+  | in-Plain+else-is_special-most w ↦ part_plain c.loop-i.invariant c.loop-i-test.true c.role_of-role.ensures w.place_in-place-in-Plain.ensures w.in-Plain.is
+      w.is_special.ensures w.if-is_special-most.false w.buffer-is w.count-is
 ]
 
 pub overflow_add-result-2 : goal.overflow_add-result-2

@@ -33,7 +33,8 @@ pub loop-spot-smaller : goal.loop-spot-smaller
 loop-spot-smaller c = follow_less c.loop-spot.invariant c.loop-spot-test.true _ c.next_payload-spot.ensures.result_value
 
 pub loop-spot-preserved : goal.loop-spot-preserved
-loop-spot-preserved c = follow_next c.loop-spot.invariant c.loop-spot-test.true c.read_payload-reader.ensures.result_after c.if-reader.false c.read_payload-reader.auto.buffer c.read_payload-reader.ensures.count_le_passed c.next_payload-spot.ensures.result_value c.next_payload-spot.ensures.standing_2
+loop-spot-preserved c = follow_next c.loop-spot.invariant c.loop-spot-test.true c.read_payload-reader.ensures.result_after c.if-reader.false c.read_payload-reader.auto.buffer
+    c.read_payload-reader.ensures.count_le_passed c.next_payload-spot.ensures.result_value c.next_payload-spot.ensures.standing_2
 
 pub overflow_add-result : goal.overflow_add-result
 overflow_add-result c = omega arith

@@ -13,13 +13,15 @@ pub lay-requires : goal.lay-requires
 lay-requires c = after_layable _ c.requires c.lay-next.ensures.gather_after c.lay-next.ensures.laid_byte _ (put_tab _ c.if-character-eq-TAB.true)
 
 pub returns-then-character-eq-TAB : goal.returns-then-character-eq-TAB
-returns-then-character-eq-TAB c = after_laid _ c.requires c.lay-next.ensures.gather_after c.lay-next.ensures.laid_byte _ (put_tab _ c.if-character-eq-TAB.true) c.lay.ensures.gather_after c.lay.ensures.laid_byte
+returns-then-character-eq-TAB c = after_laid _ c.requires c.lay-next.ensures.gather_after c.lay-next.ensures.laid_byte _ (put_tab _ c.if-character-eq-TAB.true)
+    c.lay.ensures.gather_after c.lay.ensures.laid_byte
 
 pub lay-requires-then-character-eq-FORM_FEED : goal.lay-requires-then-character-eq-FORM_FEED
 lay-requires-then-character-eq-FORM_FEED c = after_layable _ c.requires c.lay-next.ensures.gather_after c.lay-next.ensures.laid_byte _ (put_form _ c.if-character-eq-FORM_FEED.true)
 
 pub returns-then-character-eq-FORM_FEED : goal.returns-then-character-eq-FORM_FEED
-returns-then-character-eq-FORM_FEED c = after_laid _ c.requires c.lay-next.ensures.gather_after c.lay-next.ensures.laid_byte _ (put_form _ c.if-character-eq-FORM_FEED.true) c.lay-then-character-eq-FORM_FEED.ensures.gather_after c.lay-then-character-eq-FORM_FEED.ensures.laid_byte
+returns-then-character-eq-FORM_FEED c = after_laid _ c.requires c.lay-next.ensures.gather_after c.lay-next.ensures.laid_byte _ (put_form _ c.if-character-eq-FORM_FEED.true)
+    c.lay-then-character-eq-FORM_FEED.ensures.gather_after c.lay-then-character-eq-FORM_FEED.ensures.laid_byte
 
 pub returns : goal.returns
 returns c = character_alone _ c.requires c.lay-next.ensures.gather_after c.lay-next.ensures.laid_byte (put_alone _ c.if-character-eq-TAB.false c.if-character-eq-FORM_FEED.false)

@@ -6,22 +6,15 @@ pub slice_bounds-taken-end : goal.slice_bounds-taken-end
 slice_bounds-taken-end c = front_fits c.args.mode c.args.text.now c.count_taken-count.ensures
 
 pub lay_text-at-requires : goal.lay_text-at-requires
-lay_text-at-requires c = line_begun c.args.img.now c.args.key c.args.caller c.args.mode c.args.text.now c.args.gather.now c.args.filled c.count_taken-count.ensures c.text_blocks-needed.ensures.result_value c.ask_write.ensures c.in-File.is _ c.requires.mapped_if
+lay_text-at-requires c = line_begun c.args.img.now c.args.key c.args.caller c.args.mode c.args.text.now c.args.gather.now c.args.filled c.count_taken-count.ensures
+    c.text_blocks-needed.ensures.result_value c.ask_write.ensures c.in-File.is _ c.requires.mapped_if
 
 pub returns-in-Refused : goal.returns-in-Refused
-returns-in-Refused c = let denied = line_denied c.args.img.now c.args.key c.args.caller c.args.mode c.args.text.now c.args.gather.now c.args.filled c.count_taken-count.ensures c.text_blocks-needed.ensures.result_value c.ask_write.ensures c.in-Refused.is in
+returns-in-Refused c = let denied = line_denied c.args.img.now c.args.key c.args.caller c.args.mode c.args.text.now c.args.gather.now c.args.filled c.count_taken-count.ensures
+    c.text_blocks-needed.ensures.result_value c.ask_write.ensures c.in-Refused.is in
     record { code_value = denied.0; filled_value = denied.1.0; img_after = denied.1.1.0; gather_after = denied.1.1.1; mapped_if_2 = c.requires.mapped_if }
 
 pub returns-in-File : goal.returns-in-File
-returns-in-File c = record {
-  code_value = (line_done c.args.img.now c.args.key c.args.caller c.args.mode c.args.text.now c.args.gather.now c.args.filled c.count_taken-count.ensures c.text_blocks-needed.ensures.result_value c.ask_write.ensures c.in-File.is _ c.requires.mapped_if
-      c.lay_text-at.ensures c.status_of.ensures).0;
-  filled_value = (line_done c.args.img.now c.args.key c.args.caller c.args.mode c.args.text.now c.args.gather.now c.args.filled c.count_taken-count.ensures c.text_blocks-needed.ensures.result_value c.ask_write.ensures c.in-File.is _ c.requires.mapped_if
-      c.lay_text-at.ensures c.status_of.ensures).1.0;
-  img_after = (line_done c.args.img.now c.args.key c.args.caller c.args.mode c.args.text.now c.args.gather.now c.args.filled c.count_taken-count.ensures c.text_blocks-needed.ensures.result_value c.ask_write.ensures c.in-File.is _ c.requires.mapped_if
-      c.lay_text-at.ensures c.status_of.ensures).1.1.0;
-  gather_after = (line_done c.args.img.now c.args.key c.args.caller c.args.mode c.args.text.now c.args.gather.now c.args.filled c.count_taken-count.ensures c.text_blocks-needed.ensures.result_value c.ask_write.ensures c.in-File.is _ c.requires.mapped_if
-      c.lay_text-at.ensures c.status_of.ensures).1.1.1.0;
-  mapped_if_2 = (line_done c.args.img.now c.args.key c.args.caller c.args.mode c.args.text.now c.args.gather.now c.args.filled c.count_taken-count.ensures c.text_blocks-needed.ensures.result_value c.ask_write.ensures c.in-File.is _ c.requires.mapped_if
-      c.lay_text-at.ensures c.status_of.ensures).1.1.1.1;
-}
+returns-in-File c = let all = line_done c.args.img.now c.args.key c.args.caller c.args.mode c.args.text.now c.args.gather.now c.args.filled c.count_taken-count.ensures
+    c.text_blocks-needed.ensures.result_value c.ask_write.ensures c.in-File.is _ c.requires.mapped_if c.lay_text-at.ensures c.status_of.ensures in
+    record { code_value = all.0; filled_value = all.1.0; img_after = all.1.1.0; gather_after = all.1.1.1.0; mapped_if_2 = all.1.1.1.1 }

@@ -24,7 +24,8 @@ pub slice_bounds-copy_part-end : goal.slice_bounds-copy_part-end
 slice_bounds-copy_part-end c = omega (arith, c.requires.1, c.loop-done-test.true, c.least-size.ensures.0, c.loop-done.invariant.0.long)
 
 pub copy_part-requires : goal.copy_part-requires
-copy_part-requires c = part_lengths c.args.source.now c.loop-done.target (c.args.from + c.loop-done.done) (c.args.to + c.loop-done.done) c.least-size.result (omega (arith, c.requires.0, c.loop-done-test.true, c.least-size.ensures.0))
+copy_part-requires c = part_lengths c.args.source.now c.loop-done.target (c.args.from + c.loop-done.done) (c.args.to + c.loop-done.done) c.least-size.result
+    (omega (arith, c.requires.0, c.loop-done-test.true, c.least-size.ensures.0))
     (omega (arith, c.requires.1, c.loop-done-test.true, c.least-size.ensures.0, c.loop-done.invariant.0.long)) (omega (arith, c.least-size.ensures.1))
 
 pub overflow_add-done : goal.overflow_add-done
@@ -35,7 +36,8 @@ loop-done-smaller c = omega (arith, c.loop-done-test.true, c.least-size.ensures.
 
 pub loop-done-preserved : goal.loop-done-preserved
 loop-done-preserved c = (
-  run_part c.least-size.result c.loop-done.invariant.0 (omega (arith, c.requires.1, c.loop-done-test.true, c.least-size.ensures.0)) (omega (arith, c.requires.0, c.loop-done-test.true, c.least-size.ensures.0)) c.copy_part.ensures,
+  run_part c.least-size.result c.loop-done.invariant.0 (omega (arith, c.requires.1, c.loop-done-test.true, c.least-size.ensures.0))
+      (omega (arith, c.requires.0, c.loop-done-test.true, c.least-size.ensures.0)) c.copy_part.ensures,
   omega (arith, c.loop-done-test.true, c.least-size.ensures.0),
   c.copy_part.auto.between ∙ c.loop-done.invariant.2,
 )

@@ -11,7 +11,8 @@ use Rattle.moving.proofs.maps.make_map.Goals as goal
 
 pub returns-then-not-has_map : goal.returns-then-not-has_map
 returns-then-not-has_map c =
-    let none = made_none {img = c.args.target.now} {h = c.args.h} {bit = mark_on (system_set c.args.marks.now c.args.h.bodies.0 1)} {w = block_words c.args.h} (sym c.has_map.ensures ∙ c.if-not-has_map.true) in
+    let none = made_none {img = c.args.target.now} {h = c.args.h} {bit = mark_on (system_set c.args.marks.now c.args.h.bodies.0 1)} {w = block_words c.args.h}
+    (sym c.has_map.ensures ∙ c.if-not-has_map.true) in
     record { map_written = none.0; target_unchanged = none.1 }
 
 pub write_map-requires : goal.write_map-requires

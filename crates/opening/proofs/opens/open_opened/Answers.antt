@@ -6,10 +6,13 @@ pub open_value-requires : goal.open_value-requires
 open_value-requires c = opening_few _ _ _ _ _ c.decide_open.ensures _ _ _ c.in-File.is
 
 pub set_entry_word-requires : goal.set_entry_word-requires
-set_entry_word-requires c = record { sized = (opening_room _ _ _ _ _ c.decide_open.ensures _ _ _ c.in-File.is _ _ c.open_word.ensures c.open_value.ensures).0; e_bound = (opening_room _ _ _ _ _ c.decide_open.ensures _ _ _ c.in-File.is _ _ c.open_word.ensures c.open_value.ensures).1 }
+set_entry_word-requires c = let both = opening_room _ _ _ _ _ c.decide_open.ensures _ _ _ c.in-File.is _ _ c.open_word.ensures c.open_value.ensures in
+    record { sized = both.0; e_bound = both.1 }
 
 pub returns-in-Refused : goal.returns-in-Refused
-returns-in-Refused c = record { value = (opening_refused _ _ _ _ _ c.decide_open.ensures _ c.in-Refused.is).0; img_after = (opening_refused _ _ _ _ _ c.decide_open.ensures _ c.in-Refused.is).1 }
+returns-in-Refused c = let both = opening_refused _ _ _ _ _ c.decide_open.ensures _ c.in-Refused.is in
+    record { value = both.0; img_after = both.1 }
 
 pub returns-in-File : goal.returns-in-File
-returns-in-File c = record { value = (opening_done _ _ _ _ _ c.decide_open.ensures _ _ _ c.in-File.is _ _ c.open_word.ensures c.open_value.ensures _ c.set_entry_word.ensures).0; img_after = (opening_done _ _ _ _ _ c.decide_open.ensures _ _ _ c.in-File.is _ _ c.open_word.ensures c.open_value.ensures _ c.set_entry_word.ensures).1 }
+returns-in-File c = let both = opening_done _ _ _ _ _ c.decide_open.ensures _ _ _ c.in-File.is _ _ c.open_word.ensures c.open_value.ensures _ c.set_entry_word.ensures in
+    record { value = both.0; img_after = both.1 }

@@ -38,7 +38,8 @@ entry_word-requires-11 c = record { sized = c.requires.sized; e_bound = (c.requi
 
 pub returns : goal.returns
 returns c = record {
-  value = entry_is _ _ _ _ c.entry_word-3.ensures.value c.entry_word-4.ensures.value c.entry_word-5.ensures.value c.entry_word-6.ensures.value c.entry_word-7.ensures.value c.entry_word-8.ensures.value c.entry_word.ensures.value c.entry_word-9.ensures.value c.entry_word-2.ensures.value c.entry_word-10.ensures.value c.entry_word-11.ensures.value;
+  value = entry_is _ _ _ _ c.entry_word-3.ensures.value c.entry_word-4.ensures.value c.entry_word-5.ensures.value c.entry_word-6.ensures.value c.entry_word-7.ensures.value
+      c.entry_word-8.ensures.value c.entry_word.ensures.value c.entry_word-9.ensures.value c.entry_word-2.ensures.value c.entry_word-10.ensures.value c.entry_word-11.ensures.value;
   word_fields = record {
     name1 = c.entry_word-3.ensures.upper_bound;
     name2 = c.entry_word-4.ensures.upper_bound;

@@ -10,6 +10,13 @@ returns c = record {
   put = put_then c.put_bytes-at.ensures (put_then c.put_rule-at.ensures.put
       (put_then c.put_member-at.ensures.put (put_then c.put_member-at-2.ensures.put
       (put_then c.put_member-at-3.ensures.put c.put_bytes.ensures))));
-  upper_bound = omega
-      (arith, c.put_bytes-at.ensures.behind, c.put_rule-at.ensures.upper_bound, c.put_member-at.ensures.upper_bound, c.put_member-at-2.ensures.upper_bound, c.put_member-at-3.ensures.upper_bound, c.put_bytes.ensures.behind);
+  upper_bound = omega (
+    arith,
+    c.put_bytes-at.ensures.behind,
+    c.put_rule-at.ensures.upper_bound,
+    c.put_member-at.ensures.upper_bound,
+    c.put_member-at-2.ensures.upper_bound,
+    c.put_member-at-3.ensures.upper_bound,
+    c.put_bytes.ensures.behind,
+  );
 }

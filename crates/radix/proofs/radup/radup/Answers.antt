@@ -8,29 +8,25 @@ use Rattle.radix.proofs.RadupCases.{other_buffer, no_characters, characters_writ
 use Rattle.radix.proofs.radup.radup.Goals as goal
 
 pub returns-then-characters-ne3 : goal.returns-then-characters-ne3
-returns-then-characters-ne3 c = record { value = (other_buffer _ _ c.if-characters-ne3.true).0; characters_after = (other_buffer _ _ c.if-characters-ne3.true).1 }
+returns-then-characters-ne3 c = let both = other_buffer _ _ c.if-characters-ne3.true in
+    record { value = both.0; characters_after = both.1 }
 
 pub returns-then-word-ge-END : goal.returns-then-word-ge-END
-returns-then-word-ge-END c = record { value = (no_characters _ _ c.if-characters-ne3.false (characters_end _ c.if-word-ge-END.true)).0; characters_after = (no_characters _ _ c.if-characters-ne3.false (characters_end _ c.if-word-ge-END.true)).1 }
+returns-then-word-ge-END c = let both = no_characters _ _ c.if-characters-ne3.false (characters_end _ c.if-word-ge-END.true) in
+    record { value = both.0; characters_after = both.1 }
 
 pub spell-requires : goal.spell-requires
 spell-requires c = codes_below c.if-word-ge-END.false c.unpack-codes.ensures.first_value c.unpack-codes.ensures.second_value c.unpack-codes.ensures.third_value
 
 pub returns-in_default : goal.returns-in_default
-returns-in_default c = record {
-  value = (no_characters _ _ c.if-characters-ne3.false
-      (sym (characters_by _ c.unpack-codes.ensures.first_value c.unpack-codes.ensures.second_value c.unpack-codes.ensures.third_value) ∙ (sym c.spell.ensures ∙ ap characters_in c.in_default.is))).0;
-  characters_after = (no_characters _ _ c.if-characters-ne3.false
-      (sym (characters_by _ c.unpack-codes.ensures.first_value c.unpack-codes.ensures.second_value c.unpack-codes.ensures.third_value) ∙ (sym c.spell.ensures ∙ ap characters_in c.in_default.is))).1;
-}
+returns-in_default c = let both = no_characters _ _ c.if-characters-ne3.false
+    (sym (characters_by _ c.unpack-codes.ensures.first_value c.unpack-codes.ensures.second_value c.unpack-codes.ensures.third_value) ∙ (sym c.spell.ensures ∙ ap characters_in c.in_default.is)) in
+    record { value = both.0; characters_after = both.1 }
 
 pub bounds-characters-2 : goal.bounds-characters-2
 bounds-characters-2 c = simp length-set (omega arith)
 
 pub returns : goal.returns
-returns c = record {
-  value = (characters_written _ _ _ _ _ c.if-characters-ne3.false
-      (sym (characters_by _ c.unpack-codes.ensures.first_value c.unpack-codes.ensures.second_value c.unpack-codes.ensures.third_value) ∙ (sym c.spell.ensures ∙ ap characters_in c.in-Of.is))).0;
-  characters_after = (characters_written _ _ _ _ _ c.if-characters-ne3.false
-      (sym (characters_by _ c.unpack-codes.ensures.first_value c.unpack-codes.ensures.second_value c.unpack-codes.ensures.third_value) ∙ (sym c.spell.ensures ∙ ap characters_in c.in-Of.is))).1;
-}
+returns c = let both = characters_written _ _ _ _ _ c.if-characters-ne3.false
+    (sym (characters_by _ c.unpack-codes.ensures.first_value c.unpack-codes.ensures.second_value c.unpack-codes.ensures.third_value) ∙ (sym c.spell.ensures ∙ ap characters_in c.in-Of.is)) in
+    record { value = both.0; characters_after = both.1 }

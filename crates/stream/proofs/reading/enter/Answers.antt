@@ -4,7 +4,8 @@ use Rattle.stream.proofs.SpotSteps.{enter_none, enter_room, enter_some}
 use Rattle.stream.proofs.reading.enter.Goals as goal
 
 pub returns-then-left-eq0 : goal.returns-then-left-eq0
-returns-then-left-eq0 c = record { result_value = (enter_none c.requires.chained c.args.offset c.if-left-eq0.true).0; standing = (enter_none c.requires.chained c.args.offset c.if-left-eq0.true).1 }
+returns-then-left-eq0 c = let both = enter_none c.requires.chained c.args.offset c.if-left-eq0.true in
+    record { result_value = both.0; standing = both.1 }
 
 pub overflow_mul-start : goal.overflow_mul-start
 overflow_mul-start c = omega (arith, enter_room c.requires.chained c.args.offset c.if-left-eq0.false c.bytes-bytes.ensures)
@@ -19,4 +20,5 @@ pub overflow_add-result-3 : goal.overflow_add-result-3
 overflow_add-result-3 c = omega (arith, enter_room c.requires.chained c.args.offset c.if-left-eq0.false c.bytes-bytes.ensures)
 
 pub returns : goal.returns
-returns c = record { result_value = (enter_some c.requires.chained _ c.if-left-eq0.false c.bytes-bytes.ensures c.requires.offset_bound).0; standing = (enter_some c.requires.chained _ c.if-left-eq0.false c.bytes-bytes.ensures c.requires.offset_bound).1 }
+returns c = let both = enter_some c.requires.chained _ c.if-left-eq0.false c.bytes-bytes.ensures c.requires.offset_bound in
+    record { result_value = both.0; standing = both.1 }

@@ -1,3 +1,4 @@
+-- What the loop of `locate` keeps from turn to turn, and what falls in each.
 use lib.ListN.{drop}
 use Rattle.stream.specs.Spot.{payloads_from, Seeking}
 use Rattle.stream.proofs.reading.locate.Given as goal

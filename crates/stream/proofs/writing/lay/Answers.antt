@@ -7,7 +7,12 @@ pub returns-then-filled-gather : goal.returns-then-filled-gather
 returns-then-filled-gather c = record { gather_after = refl; laid_byte = laid_within c.requires c.if-filled-gather.true }
 
 pub add_below-b-requires : goal.add_below-b-requires
-add_below-b-requires c = record { ready = (laid_ready c.requires c.if-filled-gather.false).0; none_from = (laid_ready c.requires c.if-filled-gather.false).1 }
+add_below-b-requires c = let both = laid_ready c.requires c.if-filled-gather.false in
+    record { ready = both.0; none_from = both.1 }
 
 pub returns : goal.returns
-returns c = record { gather_after = refl; laid_byte = laid_full c.requires c.if-filled-gather.false c.add_below-b.ensures.result_value c.add_below-b.ensures.img_after c.add_below-b.auto.map c.add_below-b.ensures.says c.add_below-b.ensures.none_from_2 }
+returns c = record {
+  gather_after = refl;
+  laid_byte = laid_full c.requires c.if-filled-gather.false c.add_below-b.ensures.result_value c.add_below-b.ensures.img_after
+      c.add_below-b.auto.map c.add_below-b.ensures.says c.add_below-b.ensures.none_from_2;
+}

@@ -4,17 +4,21 @@ use Rattle.transfer.proofs.BlockOut.{block_out_denied, block_out_beyond, block_o
 use Rattle.transfer.proofs.block.block_out_opened.Goals as goal
 
 pub returns-in-Refused : goal.returns-in-Refused
-returns-in-Refused c = record { value = (block_out_denied _ _ _ _ _ _ c.block_bytes_of.ensures _ c.ask_block_out.ensures _ c.in-Refused.is).0; img_after = (block_out_denied _ _ _ _ _ _ c.block_bytes_of.ensures _ c.ask_block_out.ensures _ c.in-Refused.is).1 }
+returns-in-Refused c = let both = block_out_denied _ _ _ _ _ _ c.block_bytes_of.ensures _ c.ask_block_out.ensures _ c.in-Refused.is in
+    record { value = both.0; img_after = both.1 }
 
 pub returns-then-x-place : goal.returns-then-x-place
-returns-then-x-place c = record { value = (block_out_beyond _ _ _ _ _ _ c.block_bytes_of.ensures _ c.ask_block_out.ensures _ _ _ c.in-File.is c.if-x-place.true).0; img_after = (block_out_beyond _ _ _ _ _ _ c.block_bytes_of.ensures _ c.ask_block_out.ensures _ _ _ c.in-File.is c.if-x-place.true).1 }
+returns-then-x-place c = let both = block_out_beyond _ _ _ _ _ _ c.block_bytes_of.ensures _ c.ask_block_out.ensures _ _ _ c.in-File.is c.if-x-place.true in
+    record { value = both.0; img_after = both.1 }
 
 pub overflow_add-b : goal.overflow_add-b
 overflow_add-b c = let f = block_out_file _ _ _ _ c.args.buffer.now _ c.block_bytes_of.ensures _ c.ask_block_out.ensures _ _ _ c.in-File.is c.if-x-place.false in
     omega (arith, f.below, f.few)
 
 pub write_part-requires : goal.write_part-requires
-write_part-requires c = record { sized = (block_out_ready _ _ _ _ c.args.buffer.now _ c.block_bytes_of.ensures _ c.ask_block_out.ensures _ _ _ c.in-File.is c.if-x-place.false).0; b_lt_blocks = (block_out_ready _ _ _ _ c.args.buffer.now _ c.block_bytes_of.ensures _ c.ask_block_out.ensures _ _ _ c.in-File.is c.if-x-place.false).1 }
+write_part-requires c = let both = block_out_ready _ _ _ _ c.args.buffer.now _ c.block_bytes_of.ensures _ c.ask_block_out.ensures _ _ _ c.in-File.is c.if-x-place.false in
+    record { sized = both.0; b_lt_blocks = both.1 }
 
 pub returns-in-File : goal.returns-in-File
-returns-in-File c = record { value = (block_out_done _ _ _ _ _ _ c.block_bytes_of.ensures _ c.ask_block_out.ensures _ _ _ c.in-File.is c.if-x-place.false _ c.write_part.ensures).0; img_after = (block_out_done _ _ _ _ _ _ c.block_bytes_of.ensures _ c.ask_block_out.ensures _ _ _ c.in-File.is c.if-x-place.false _ c.write_part.ensures).1 }
+returns-in-File c = let both = block_out_done _ _ _ _ _ _ c.block_bytes_of.ensures _ c.ask_block_out.ensures _ _ _ c.in-File.is c.if-x-place.false _ c.write_part.ensures in
+    record { value = both.0; img_after = both.1 }
