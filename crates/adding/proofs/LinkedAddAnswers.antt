@@ -23,10 +23,8 @@ use Rattle.pack.proofs.ConsistentTotal.{total_has}
 use Rattle.consistency.specs.Mapped.{Mapped, MappedIf}
 use Rattle.consistency.proofs.ConsistentTestIff.{consistent_iff}
 use Rattle.owners.proofs.OwnerSum.{sum_of_blocks}
-use Rattle.asking.specs.declared.Asked.{Asked}
-use Rattle.asking.specs.declared.Asked.TheVariants.{File, Refused}
+use Rattle.asking.specs.AskedStage.{Asked, File, Refused, stage_of}
 use Rattle.asking.specs.Asked.{file_of}
-use Rattle.asking.specs.AskedStage.{stage_of}
 use Rattle.asking.proofs.Outcome.{done_answer, refused_answer}
 use Rattle.asking.proofs.AskedStage.{Given, stage_is_refused, stage_is_file}
 use Rattle.room.specs.RoomMap.{Says, FreeOn, SomeBelow, NoneFrom, run_on}
@@ -36,11 +34,9 @@ use Rattle.room.proofs.RoomMapTaken.{free_on_law}
 use Rattle.bodies.specs.BufferSizes.{wrong_payload}
 use Rattle.bodies.proofs.BufferSizes.{payload_fits}
 use Rattle.bodies.proofs.EntryChainLinked.{last_body}
-use Rattle.adding.specs.declared.linked_add.Adding.{Adding}
-use Rattle.adding.specs.declared.linked_add.Adding.TheVariants.{Block, Refused as Denied}
 use Rattle.adding.specs.LinkedAddRows.{linked_add_rows}
 use Rattle.adding.specs.LinkedAdd.{added_block, added, enlarged_by, linked_add}
-use Rattle.adding.specs.LinkedAddStage.{block_in, adding_of, Addable, Ready}
+use Rattle.adding.specs.LinkedAddStage.{Adding, Block, Denied, block_in, adding_of, Addable, Ready}
 use Rattle.adding.proofs.LinkedAddStage.{Admitted, admitted, free_block, block_free}
 use Rattle.adding.proofs.LinkedAddMap.{map_enlarged, none_enlarged}
 use Rattle.adding.proofs.LinkedAddTaken.{taken_entry, taken_addable}

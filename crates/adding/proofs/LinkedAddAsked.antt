@@ -9,11 +9,9 @@ use native.Mathlib.Decide.{dec_lt}
 use lib.Dec.{ltb}
 use lib.ListN.{length}
 use borrow.Author.Tests.{lt-ltb, le-ltb}
-use Rattle.answers.specs.declared.Verdict.{Verdict}
-use Rattle.answers.specs.declared.Verdict.TheVariants.{Clear, Refused as Stopped}
+use Rattle.answers.specs.Stage.{Verdict, Clear, Refused as Stopped, verdict_of}
 use Rattle.answers.specs.Refusals.{first_of, row}
 use Rattle.answers.specs.Missing.{or_else}
-use Rattle.answers.specs.Stage.{verdict_of}
 use Rattle.answers.proofs.Refusals.{refuse, pass, clear}
 use Rattle.answers.proofs.Stage.{told_clear, told_refused}
 use Rattle.pack.specs.declared.Geometry.{Geometry}
@@ -26,22 +24,17 @@ use Rattle.owners.proofs.OwnerSearch.{measured_sized}
 use Rattle.consistency.specs.Mapped.{Mapped, MappedIf}
 use Rattle.consistency.proofs.ConsistentTestIff.{consistent_iff}
 use Rattle.asking.specs.declared.Right.TheVariants.{Write}
-use Rattle.asking.specs.declared.Asked.{Asked}
-use Rattle.asking.specs.declared.Asked.TheVariants.{File, Refused}
-use Rattle.asking.specs.AskedStage.{stage_of}
+use Rattle.asking.specs.AskedStage.{Asked, File, Refused, stage_of}
 use Rattle.asking.specs.AccessStage.{accessed_of}
 use Rattle.asking.proofs.AskedStage.{number_found, stage_refuses, stage_gives}
 use Rattle.asking.proofs.AccessStage.{Reached, reached_file, unreached_rows}
-use Rattle.room.specs.declared.Run.{Run}
-use Rattle.room.specs.declared.Run.TheVariants.{Start, Nowhere}
-use Rattle.room.specs.RoomMap.{free_on, run_on, start_in}
+use Rattle.room.specs.RoomMap.{free_on, run_on}
 use Rattle.room.proofs.RoomMapCount.{free_at}
 use Rattle.room.proofs.RoomMapRun.{run_is}
 use Rattle.room.proofs.RoomNeeds.{needs_one}
-use Rattle.adding.specs.declared.linked_add.Adding.TheVariants.{Block, Refused as Denied}
 use Rattle.adding.specs.LinkedAddRows.{open_for_adding, linked_add_rows}
 use Rattle.adding.specs.LinkedAdd.{highest_free, added_block}
-use Rattle.adding.specs.LinkedAddStage.{block_in, adding_of}
+use Rattle.adding.specs.LinkedAddStage.{Block, Denied, block_in, adding_of}
 use Rattle.adding.proofs.LinkedAddStage.{linked_add_rows_last}
 
 -- `asked` is what was answered of the file and the access to it
@@ -104,24 +97,24 @@ module _ (img : List ℕ) (key : Key) (caller : ℕ) (wrong : Bool) (asked : Ask
       adding_given told-so = given_last needed (told_clear _ verdict judged_own told-so)
 
     -- the free block that was sought on the map
-    module _ (run : Run) (sought : start_in run ≡ run_on map g.bodies.0 g.blocks 1 g.blocks) where
-      sought_own : start_in run ≡ highest_free img
+    module _ {run : Option ℕ} (sought : run ≡ run_on map g.bodies.0 g.blocks 1 g.blocks) where
+      sought_own : run ≡ highest_free img
       sought_own = sought ∙ run_is img map held_on.says g reached.file.measures 1
 
-      pub block_nowhere : run ≡ Nowhere → Denied 0o42 ≡ adding_of img key caller wrong
+      pub block_nowhere : run ≡ none → Denied 0o42 ≡ adding_of img key caller wrong
       unfolding adding_of
       block_nowhere told-so =
-          let few : free_count img < 1 = (needs_one reached.file.right).1 (sym sought_own ∙ ap start_in told-so) in
+          let few : free_count img < 1 = (needs_one reached.file.right).1 (sym sought_own ∙ told-so) in
           ap (block_in (added_block img)) (stopped_last 1 (refuse [] (lt-ltb (free_count img) 1 few)) (λ zero. omega (arith, zero)))
 
-      pub block_found : (b : BlockNo) → run ≡ Start b → Block g e b ≡ adding_of img key caller wrong
+      pub block_found : (b : BlockNo) → run ≡ some b.0 → Block g e b ≡ adding_of img key caller wrong
       unfolding adding_of
       block_found b told-so =
           ap (λ (n : ℕ). Block g e (record { 0 = n })) (sym (ap (or_else 0) found))
           ∙ ap (block_in (added_block img)) (given_last 1 (pass 0o42 [] (le-ltb (free_count img) 1 (some_free (dec_lt (free_count img) 1))) ∙ clear))
         where
           found : highest_free img ≡ some b.0
-          found = sym sought_own ∙ ap start_in told-so
+          found = sym sought_own ∙ told-so
 
           some_free : Dec (free_count img < 1) → 1 ≤ free_count img
           some_free (yes few) =

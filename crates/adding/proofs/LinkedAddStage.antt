@@ -6,7 +6,7 @@ use mathlib.Core.List.{List, [], ◌∷◌}
 use mathlib.Core.Option.{Option, none, some}
 use native.Mathlib.Omega.{arith}
 use lib.Dec.{eqb, ltb}
-use borrow.Author.Tests.{eq-eqb, ne_eqb, le-ltb, ltb-false}
+use borrow.Author.Tests.{ne_eqb, le-ltb, ltb-false}
 use Rattle.answers.specs.Refusals.{first_of, row, table_order, in_order}
 use Rattle.answers.specs.Missing.{or_else}
 use Rattle.answers.proofs.Refusals.{pass, clear, none_given}
@@ -34,13 +34,6 @@ use Rattle.adding.specs.LinkedAdd.{highest_free, added_block}
 pub linked_add_ordered : (img : List ℕ) (key : Key) (caller : ℕ) (wrong : Bool) (needed : ℕ) → in_order table_order 0 (linked_add_rows img key caller wrong needed) ≡ true
 unfolding linked_add_rows file_rows access_rows
 linked_add_ordered img key caller wrong needed = refl
-
--- "writer 2 or 3"
-pub open_output : (x : Entry) → x.writer ≡ 2 → true ≡ open_for_adding x
-open_output x is = rw (eq-eqb x.writer 2 is)
-
-pub open_extension : (x : Entry) → (x.writer ≡ 2 → ⊥) → eqb x.writer 3 ≡ open_for_adding x
-open_extension x other = rw (ne_eqb x.writer 2 other)
 
 -- the highest free block of an image that has one
 pub free_block : {img : List ℕ} → Consistent img → 0 < free_count img → highest_free img ≡ some (added_block img)

@@ -1,21 +1,17 @@
 -- What the steps that write come to: the block with link 0 and its payload, and the file with a block more.
-use Prim.Native.Nat.{ℕ, ◌+◌, ◌≤◌, ◌<◌}
+use Prim.Native.Nat.{ℕ, ◌+◌}
 use mathlib.Core.Path.{◌≡◌, ap, ◌∙◌}
 use mathlib.Core.List.{List}
-use native.Mathlib.Omega.{arith}
 use lib.ListN.{length}
 use borrow.Author.Tests.{eq-eqb, ne_eqb}
 use Rattle.words.specs.Word.{set_word}
 use Rattle.pack.specs.declared.Geometry.{Geometry}
 use Rattle.pack.specs.declared.Entry.{Entry}
-use Rattle.pack.specs.Geometry.{block_at, slots}
-use Rattle.pack.specs.GeometrySized.{Sized}
+use Rattle.pack.specs.Geometry.{block_at}
 use Rattle.pack.specs.Entry.{entry_of}
-use Rattle.pack.proofs.GeometryRoom.{sized_same}
 use Rattle.bodies.specs.BlockBytes.{payload_start, with_part}
 use Rattle.bodies.specs.EntryChain.{resized}
 use Rattle.adding.specs.LinkedAdd.{block_with, added}
-use Rattle.adding.specs.LinkedAddStage.{Addable}
 
 pub block_with_by : (img : List ℕ) (g : Geometry) (b : ℕ) (payload one two : List ℕ) → one ≡ set_word img (block_at g b) 0
     → two ≡ with_part one (payload_start g b) payload → two ≡ block_with img g b payload
@@ -43,21 +39,3 @@ module _ (img : List ℕ) (g : Geometry) (e : ℕ) (x : Entry) (b : ℕ) (payloa
     continued_by some one two three a c d =
         d ∙ ap (λ (s : List ℕ). resized s g e x.first.0 (x.length + 1) b) (c ∙ ap (λ (s : List ℕ). set_word s (block_at g x.last.0) b) a)
         ∙ added_continued some ∙ ap (λ (y : Entry). added img g e y b payload) is
-
--- what the steps count on, at the entry that was read and the image that stands then
-module _ {img : List ℕ} {g : Geometry} {e b : ℕ} {payload : List ℕ} (ready : Addable img g e b payload) (x : Entry) (is : x ≡ entry_of img g e)
-    (img' : List ℕ) (long : length img' ≡ length img) where
-  pub last_ready : (x.length ≡ 0 → ⊥) → Sized img' g × ((g.bodies.0 ≤ x.last.0) × (x.last.0 < g.blocks) × (b < 65536))
-  last_ready some =
-      let blocks : 0 < (entry_of img g e).length = omega (arith, some, ap (λ (y : Entry). y.length) is) in
-      let body = ready.last blocks in
-      let same = ap (λ (y : Entry). y.last.0) is in (
-        sized_same ready.sized long,
-        (omega (arith, body.0, same), omega (arith, body.1, same), omega (arith, ready.below, ready.sized.most)),
-      )
-
-  pub entry_ready : x.first.0 < 65536 → Sized img' g × ((e < slots g) × (x.first.0 < 65536) × (x.length + 1 < 65536) × (b < 65536))
-  entry_ready first = (
-    sized_same ready.sized long,
-    (ready.entry, first, omega (arith, ready.fits, ap (λ (y : Entry). y.length) is), omega (arith, ready.below, ready.sized.most)),
-  )

@@ -1,54 +1,54 @@
 // Linked add: a block with its payload, joined at the end of a linked file.
 ghost use Rattle.std.specs.Prelude.{◌≡◌, not, [], ◌∷◌, ◌≤◌, ◌<◌, length};
+ghost use Rattle.answers.specs.Refusals.{code_in};
 ghost use Rattle.pack.specs.GeometrySized.{Sized};
 ghost use Rattle.pack.specs.Geometry.{payload_bytes};
 ghost use Rattle.pack.specs.Entry.{entry_of};
 ghost use Rattle.consistency.specs.ConsistentTest.{opened_of};
-ghost use Rattle.consistency.specs.Mapped.{Lent, MappedIf};
+ghost use Rattle.consistency.specs.Mapped.{MappedIf};
 ghost use Rattle.asking.specs.declared.Right.TheVariants.{Write};
-ghost use Rattle.asking.specs.AskedStage.{stage_of};
+ghost use Rattle.asking.specs.AskedStage.{asked_in, stage_of};
+ghost use Rattle.asking.specs.Outcome.{block_number};
 ghost use Rattle.asking.specs.AccessStage.{accessed_of};
 ghost use Rattle.room.specs.RoomMap.{Says, NoneFrom};
 ghost use Rattle.adding.specs.LinkedAddRows.{open_for_adding, linked_add_rows};
 ghost use Rattle.adding.specs.LinkedAdd.{block_with, added, enlarged_by, added_block, linked_add};
-ghost use Rattle.adding.specs.LinkedAddStage.{adding_of, Addable, Ready};
+ghost use Rattle.adding.specs.LinkedAddStage.{adding_in, adding_of, Addable, Ready};
 
-use answers::{Answer, Verdict};
-use asking::{Asked, Right, access};
+use answers::Refusal;
+use asking::{Found, Right, access};
 use consistency::Opened;
-use pack::{BlockNo, Entry, Geometry, Key};
-use room::{Blocks, Run};
+use pack::{BlockNo, Entry, Geometry, Key, View};
+use room::Blocks;
 
-// The pack's measures, the entry of the file, and the block that is added to it; or a refusal's code.
+// What linked add has to do: the file, and the block that is added to it.
 #[derive(Clone, Copy)]
-enum Adding {
-    Block(Geometry, usize, BlockNo),
-    Refused(usize),
+struct Adding {
+    file: Found,
+    block: BlockNo,
 }
 
 fn is_open_for_adding(x: Entry) -> bool
     ensures { result ≡ open_for_adding x }
 {
-    if x.writer == 2 {
-        return true;
-    }
-    x.writer == 3
+    x.writer == 2 || x.writer == 3
 }
 
-// The file, open for adding, or a refusal's code. `wrong` says that an argument of the request is wrong.
-fn ask_open(img: &[u8], opened: Opened, key: Key, caller: usize, wrong: bool) -> Asked
+// The file, open for adding, or why not. `wrong` says that an argument of the request is wrong.
+fn ask_open(
+    img: &[u8],
+    opened: Opened,
+    key: Key,
+    caller: usize,
+    wrong: bool,
+) -> Result<Found, Refusal>
     requires { opened ≡ opened_of img.now }
-    ensures { result ≡ accessed_of img.now key wrong caller Write 1 (λ x. not (open_for_adding x)) }
+    ensures { asked_in result ≡ accessed_of img.now key wrong caller Write 1 (λ x. not (open_for_adding x)) }
 {
-    let asked = asking::ask_file(img, opened, key, wrong);
-    let Asked::File(_, _, x) = asked else {
-        return asked;
-    };
-    let shut = !is_open_for_adding(x);
-    if let Verdict::Refused(code) = access::judge_access(x, caller, Right::Write, 1, shut) {
-        return Asked::Refused(code);
-    }
-    asked
+    let found = asking::ask_file(img, opened, key, wrong)?;
+    let x = found.entry;
+    access::judge_access(x, caller, Right::Write, 1, !is_open_for_adding(x))?;
+    Ok(found)
 }
 
 // All that can refuse a request that adds so many blocks, in the order of the table; nothing is written here.
@@ -60,36 +60,34 @@ pub fn ask_add(
     caller: usize,
     wrong: bool,
     needed: Blocks,
-) -> Asked
+) -> Result<Found, Refusal>
     requires opened_value { opened ≡ opened_of img.now }
     requires mapped_if { MappedIf map.now img.now }
-    ensures { result ≡ stage_of (linked_add_rows img.now key caller wrong needed.0) img.now key }
+    ensures { asked_in result ≡ stage_of (linked_add_rows img.now key caller wrong needed.0) img.now key }
 {
-    let asked = ask_open(img, opened, key, caller, wrong);
-    let Asked::File(g, _, _) = asked else {
-        return asked;
-    };
-    if let Verdict::Refused(code) = room::judge_room(map, g, needed) {
-        return Asked::Refused(code);
-    }
-    asked
+    let found = ask_open(img, opened, key, caller, wrong)?;
+    room::judge_room(map, found.geometry, needed)?;
+    Ok(found)
 }
 
 // The same where one block is added: it is the highest that is free.
-fn ask_block(img: &[u8], map: &[u8], opened: Opened, key: Key, caller: usize, wrong: bool) -> Adding
+fn ask_block(
+    img: &[u8],
+    map: &[u8],
+    opened: Opened,
+    key: Key,
+    caller: usize,
+    wrong: bool,
+) -> Result<Adding, Refusal>
     requires opened_value { opened ≡ opened_of img.now }
     requires mapped_if { MappedIf map.now img.now }
-    ensures { result ≡ adding_of img.now key caller wrong }
+    ensures { adding_in result ≡ adding_of img.now key caller wrong }
 {
-    match ask_open(img, opened, key, caller, wrong) {
-        Asked::Refused(code) => Adding::Refused(code),
-        Asked::File(g, e, _) => {
-            let Run::Start(b) = room::highest_run(map, g, Blocks(1)) else {
-                return Adding::Refused(0o42);
-            };
-            Adding::Block(g, e, b)
-        }
-    }
+    let file = ask_open(img, opened, key, caller, wrong)?;
+    let Some(block) = room::highest_run(map, file.geometry, Blocks(1)) else {
+        return Err(Refusal::NoRoom);
+    };
+    Ok(Adding { file, block })
 }
 
 // "With link 0": the block that is joined at the end.
@@ -108,7 +106,7 @@ fn add_block(img: &mut [u8], g: Geometry, e: usize, b: BlockNo, payload: &[u8])
     requires { Addable img.old g e b.0 payload.now }
     ensures { img.new ≡ added img.old g e (entry_of img.old g e) b.0 payload.now }
 {
-    let x = pack::read_entry(img, g, e);
+    let x = View { img, g }.read_entry(e);
     write_last_block(img, g, b, payload);
     if x.length == 0 {
         bodies::resize(img, g, e, b, x.length + 1, b);
@@ -150,38 +148,20 @@ pub fn add_below(
     b
 }
 
-pub fn linked_add(img: &mut [u8], key: Key, caller: usize, payload: &[u8]) -> Answer
-    ensures code_value { result.code ≡ (linked_add img.old key caller payload.now).code }
-    ensures number_value { (result.number ∷ []) ≡ (linked_add img.old key caller payload.now).numbers }
-    ensures img_after { img.new ≡ (linked_add img.old key caller payload.now).image }
-{
-    if img.len() <= consistency::FEW_BYTES {
-        let mut map = [0u8; consistency::FEW_BLOCKS];
-        return linked_add_lent(img, &mut map, key, caller, payload);
-    }
-    if img.len() <= consistency::MANY_BYTES {
-        let mut map = [0u8; consistency::MANY_BLOCKS];
-        return linked_add_lent(img, &mut map, key, caller, payload);
-    }
-    let mut map = [0u8; pack::MOST_BLOCKS];
-    linked_add_lent(img, &mut map, key, caller, payload)
-}
-
-// On a lent map.
-fn linked_add_lent(
+pub fn linked_add(
     img: &mut [u8],
-    map: &mut [u8],
     key: Key,
     caller: usize,
     payload: &[u8],
-) -> Answer
-    requires { Lent map.old img.old }
-    ensures code_value { result.code ≡ (linked_add img.old key caller payload.now).code }
-    ensures number_value { (result.number ∷ []) ≡ (linked_add img.old key caller payload.now).numbers }
+) -> Result<BlockNo, Refusal>
+    ensures code_value { code_in result ≡ (linked_add img.old key caller payload.now).code }
+    ensures number_value { (block_number result ∷ []) ≡ (linked_add img.old key caller payload.now).numbers }
     ensures img_after { img.new ≡ (linked_add img.old key caller payload.now).image }
 {
-    let opened = consistency::open_mapped(img, map);
-    linked_add_opened(img, map, opened, key, caller, payload)
+    consistency::lend_map_mut(img, |img, map| {
+        let opened = consistency::open_mapped(img, map);
+        linked_add_opened(img, map, opened, key, caller, payload)
+    })
 }
 
 // In a pack that was opened.
@@ -192,23 +172,16 @@ pub fn linked_add_opened(
     key: Key,
     caller: usize,
     payload: &[u8],
-) -> Answer
+) -> Result<BlockNo, Refusal>
     requires opened_value { opened ≡ opened_of img.old }
     requires mapped_if { MappedIf map.old img.old }
-    ensures code_value { result.code ≡ (linked_add img.old key caller payload.now).code }
-    ensures number_value { (result.number ∷ []) ≡ (linked_add img.old key caller payload.now).numbers }
+    ensures code_value { code_in result ≡ (linked_add img.old key caller payload.now).code }
+    ensures number_value { (block_number result ∷ []) ≡ (linked_add img.old key caller payload.now).numbers }
     ensures img_after { img.new ≡ (linked_add img.old key caller payload.now).image }
     ensures mapped_if_2 { MappedIf map.new img.new }
 {
     let wrong = payload.len() != bodies::payload_bytes_of(img);
-    match ask_block(img, map, opened, key, caller, wrong) {
-        Adding::Refused(code) => Answer { code, number: 0 },
-        Adding::Block(g, e, b) => {
-            take_and_add(img, map, g, e, b, payload);
-            Answer {
-                code: 0,
-                number: b.0,
-            }
-        }
-    }
+    let Adding { file, block } = ask_block(img, map, opened, key, caller, wrong)?;
+    take_and_add(img, map, file.geometry, file.number, block, payload);
+    Ok(block)
 }

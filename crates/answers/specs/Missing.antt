@@ -1,5 +1,6 @@
--- What may be missing: the test, and what stands in its place.
-use Rattle.std.specs.Prelude.{Bool, true, false}
+-- What may be missing: the test, what stands in its place, and the answer of the code that may find nothing.
+use Rattle.std.specs.Prelude.{Bool, true, false, Some, None}
+use Rattle.std.specs.declared.option.Option.{Option as Answered}
 use Rattle.std.proofs.Math.Option.{Option, none, some}
 
 -- is there nothing?
@@ -11,3 +12,8 @@ missing (some a) = false
 abbrev pub or_else : {A : Type 0} → A → Option A → A
 or_else other none = other
 or_else other (some a) = a
+
+-- what the code found, if anything
+abbrev pub value_in : {A : Type 0} → Answered A → Option A
+value_in (Some a) = some a
+value_in None = none

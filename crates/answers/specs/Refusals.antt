@@ -1,6 +1,9 @@
 -- Refusals: rows of conditions and codes, and what the first row that holds does to an answer and to what was lent.
-use Rattle.std.specs.Prelude.{ℕ, suc, Bool, true, cond, ◌&&◌, List, [], ◌∷◌, eqb, leb, ltb, length}
+use Rattle.std.specs.Prelude.{ℕ, suc, Bool, true, cond, ◌&&◌, List, [], ◌∷◌, eqb, leb, ltb, length, Result, Ok, Err}
 use Rattle.answers.specs.declared.Answer.{Answer}
+use Rattle.answers.specs.declared.Refusal.{Refusal}
+use Rattle.answers.specs.declared.Refusal.TheVariants.{Inconsistent, IllegalName, WrongArgument, UnlistedUic, ExistsOrAbsent, RightLacking, Contiguous, WrongKind, HasWriter}
+use Rattle.answers.specs.declared.Refusal.TheVariants.{FileOpen, NotOpen, NoSuchBlock, TooManyOpens, DirectoryFull, NoRoom, NotOfSet}
 
 -- a row of the table of codes: is it given, and its code
 pub record Row : Type 0 where
@@ -31,6 +34,25 @@ row given code = record { given = given; code = code }
 abbrev pub table_order : List ℕ
 table_order = 0o40 ∷ 0o15 ∷ 0o41 ∷ 0o13 ∷ 0o2 ∷ 0o6 ∷ 0o5 ∷ 0o43 ∷ 0o4 ∷ 0o14 ∷ 0o45 ∷ 0o44 ∷ 0o3 ∷ 0o12 ∷ 0o42 ∷ 0o60 ∷ []
 
+-- the code of each refusal
+unfoldable pub code_of : Refusal → ℕ
+code_of Inconsistent = 0o40
+code_of IllegalName = 0o15
+code_of WrongArgument = 0o41
+code_of UnlistedUic = 0o13
+code_of ExistsOrAbsent = 0o2
+code_of RightLacking = 0o6
+code_of Contiguous = 0o5
+code_of WrongKind = 0o43
+code_of HasWriter = 0o4
+code_of FileOpen = 0o14
+code_of NotOpen = 0o45
+code_of NoSuchBlock = 0o44
+code_of TooManyOpens = 0o3
+code_of DirectoryFull = 0o12
+code_of NoRoom = 0o42
+code_of NotOfSet = 0o60
+
 -- where a code stands in a list; of a code that is not there, how many stand there
 abbrev pub place_in : List ℕ → ℕ → ℕ
 place_in [] code = 0
@@ -58,3 +80,17 @@ answered rows number = record { code = first_of rows; number = on_success (first
 -- "and nothing in the image or a lent buffer changes": what was lent, before and after
 unfoldable pub lent : List Row → List ℕ → List ℕ → List ℕ
 lent rows before after = on_success (first_of rows) after before
+
+-- "Success returns 0 .. A refusal returns its code": of what a request answers
+unfoldable pub code_in : {A : Type 0} → Result A Refusal → ℕ
+code_in (Ok a) = 0
+code_in (Err refusal) = code_of refusal
+
+-- "any other number in the answer 0": its number
+unfoldable pub number_in : Result ℕ Refusal → ℕ
+number_in (Ok number) = number
+number_in (Err refusal) = 0
+
+-- code and number, as a host gets them
+unfoldable pub answer_in : Result ℕ Refusal → Answer
+answer_in outcome = record { code = code_in outcome; number = number_in outcome }

@@ -20,9 +20,7 @@ use Rattle.asking.proofs.Outcome.{settled_refused, settled_success}
 use Rattle.pack.proofs.GeometryRoom.{sized_same}
 use Rattle.appending.specs.AppndRows.{appnd_rows}
 use Rattle.appending.specs.Appnd.{chain_joined, appnd}
-use Rattle.appending.specs.AppndStage.{appending_of, Joinable}
-use Rattle.appending.specs.declared.appnd.Appending.{Appending}
-use Rattle.appending.specs.declared.appnd.Appending.TheVariants.{Join, Refused}
+use Rattle.appending.specs.AppndStage.{Appending, Join, Refused, appending_of, Joinable}
 use Rattle.appending.proofs.AppndAccepted.{Accepted, accepted, joinable}
 
 module _ (img : List ℕ) (first second : Key) (caller : ℕ) where

@@ -8,9 +8,7 @@ use mathlib.Core.Option.{Option, none, some}
 use native.Mathlib.Omega.{arith}
 use borrow.Author.Tests.{ne_eqb, not-false}
 use Rattle.answers.specs.Refusals.{Row, row, first_of, on_success}
-use Rattle.answers.specs.declared.Verdict.{Verdict}
-use Rattle.answers.specs.declared.Verdict.TheVariants.{Clear, Refused as Stopped}
-use Rattle.answers.specs.Stage.{verdict_of}
+use Rattle.answers.specs.Stage.{Verdict, Clear, Refused as Stopped, verdict_of}
 use Rattle.answers.specs.Missing.{missing}
 use Rattle.answers.proofs.Refusals.{pass, none_given, behind_refused}
 use Rattle.answers.proofs.Stage.{told_clear, told_refused}
@@ -19,8 +17,8 @@ use Rattle.pack.specs.declared.Entry.{Entry}
 use Rattle.pack.specs.declared.Key.{Key}
 use Rattle.pack.specs.Geometry.{geometry_of, slots}
 use Rattle.pack.specs.Entry.{entry_of}
-use Rattle.consistency.specs.declared.Opened.{Opened}
-use Rattle.consistency.specs.declared.Opened.TheVariants.{Good, Bad}
+use Rattle.consistency.specs.ConsistentTest.{Opened}
+use Rattle.std.specs.Prelude.{Some, None}
 use Rattle.consistency.specs.ConsistentTest.{consistent, opened_of}
 use Rattle.consistency.proofs.ConsistentTestIff.{opened_good, opened_bad}
 use Rattle.consistency.proofs.ConsistentTestOpened.{consistent_good}
@@ -29,10 +27,7 @@ use Rattle.asking.specs.Asked.{entry_no, file_of}
 use Rattle.asking.proofs.AskedStage.{found_at, number_found}
 use Rattle.pack.specs.KeyTest.{same_key}
 use Rattle.appending.specs.AppndRows.{name_rows, permit_rows, appnd_rows}
-use Rattle.appending.specs.AppndStage.{both_at, both_of, appending_of}
-use Rattle.appending.specs.declared.appnd.Both.{Both}
-use Rattle.appending.specs.declared.appnd.Both.TheVariants.{Files, Missing}
-use Rattle.appending.specs.declared.appnd.Appending.TheVariants.{Join, Refused}
+use Rattle.appending.specs.AppndStage.{Both, Files, Missing, Join, Refused, both_at, both_of, appending_of}
 
 -- what is known of two names that nothing is wrong with
 record Named (first second : Key) : Type 0 where
@@ -56,20 +51,6 @@ record Pair (img : List ℕ) (g : Geometry) (first second : Key) (e : ℕ) (x : 
   entry₂ : y ≡ entry_of img g f
 
 module _ (img : List ℕ) (g : Geometry) (first second : Key) where
-  pub both_first : find_from img g first 0 (slots g) ≡ none → Missing ≡ both_of img g first second
-  unfolding both_of both_at
-  both_first h = rw h
-
-  module _ (e : ℕ) (one : find_from img g first 0 (slots g) ≡ some e) where
-    pub both_second : find_from img g second 0 (slots g) ≡ none → Missing ≡ both_of img g first second
-    unfolding both_of both_at
-    both_second h = rw (one, h)
-
-    pub both_files : (x : Entry) (f : ℕ) (y : Entry) → find_from img g second 0 (slots g) ≡ some f → x ≡ entry_of img g e → y ≡ entry_of img g f
-        → Files e x f y ≡ both_of img g first second
-    unfolding both_of both_at
-    both_files x f y two is is₂ = rw (one, two, is, is₂)
-
   both_by : (o p : Option ℕ) → find_from img g first 0 (slots g) ≡ o → find_from img g second 0 (slots g) ≡ p → (e : ℕ) (x : Entry) (f : ℕ) (y : Entry)
       → both_at img g o p ≡ Files e x f y → Pair img g first second e x f y
   unfolding both_at
@@ -119,11 +100,11 @@ module _ (img : List ℕ) (first second : Key) (caller : ℕ) (opened : Opened) 
   behind : List Row
   behind = row (missing (found img first)) 0o2 ∷ (row (missing (found img second)) 0o2 ∷ permit_rows caller (file_of img first) (file_of img second))
 
-  pub decided_40 : opened ≡ Bad → Refused 0o40 ≡ appending_of img first second caller
+  pub decided_40 : opened ≡ None → Refused 0o40 ≡ appending_of img first second caller
   unfolding appnd_rows name_rows first_of
   decided_40 bad = code_decided (rw (opened_bad img (sym known ∙ bad))) (λ is. omega (arith, is))
 
-  module _ (g : Geometry) (good : opened ≡ Good g) (verdict : Verdict) (judged : verdict ≡ verdict_of (name_rows first second)) where
+  module _ (g : Geometry) (good : opened ≡ Some g) (verdict : Verdict) (judged : verdict ≡ verdict_of (name_rows first second)) where
     right : consistent img ≡ true
     right = sym (consistent_good img opened g known good)
 

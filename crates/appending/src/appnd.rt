@@ -1,103 +1,93 @@
 // APPND: the chain of one linked file joined to that of another.
-ghost use Rattle.std.specs.Prelude.{◌≡◌};
-ghost use Rattle.pack.specs.GeometrySized.{Sized};
-ghost use Rattle.answers.specs.Stage.{verdict_of};
+ghost use Rattle.std.specs.Prelude.{◌≡◌, IfSome};
+ghost use Rattle.answers.specs.Refusals.{code_in};
+ghost use Rattle.answers.specs.Stage.{verdict_in, verdict_of};
 ghost use Rattle.consistency.specs.ConsistentTest.{opened_of};
 ghost use Rattle.appending.specs.AppndRows.{name_rows, permit_rows};
 ghost use Rattle.appending.specs.Appnd.{chain_joined, appnd};
-ghost use Rattle.appending.specs.AppndStage.{both_of, appending_of, Joinable};
+ghost use Rattle.appending.specs.AppndStage.{both_in, both_of, appending_in, appending_of, Joinable};
 
-use answers::Verdict;
-use asking::{Found, Grant, Right};
+use answers::Refusal;
+use asking::{Found, Right};
 use consistency::Opened;
-use pack::{Entry, Geometry, Key};
+use pack::{Entry, Geometry, Key, View};
 
-// The entries of two files, or that one of them is missing.
+// What to join: two files of a pack.
 #[derive(Clone, Copy)]
-enum Both {
-    Files(usize, Entry, usize, Entry),
-    Missing,
+struct Joining {
+    first: Found,
+    second: Found,
 }
 
-// What to join: the measures, the first file's entry and its number, the second's; or a refusal's code.
-#[derive(Clone, Copy)]
-enum Appending {
-    Join(Geometry, usize, Entry, usize, Entry),
-    Refused(usize),
-}
-
-fn judge_names(first: Key, second: Key) -> Verdict
-    ensures { result ≡ verdict_of (name_rows first second) }
+#[tactic(auto, unfolding(crate::specs::AppndRows::name_rows, answers::specs::Stage::verdict_of, answers::specs::Refusals::first_of, answers::specs::Refusals::on_success, answers::specs::Refusals::code_of))]
+fn judge_names(first: Key, second: Key) -> Result<(), Refusal>
+    ensures { verdict_in result ≡ verdict_of (name_rows first second) }
 {
-    if !asking::is_legal(first) {
-        return Verdict::Refused(0o15);
-    }
-    if !asking::is_legal(second) {
-        return Verdict::Refused(0o15);
+    if !asking::is_legal(first) || !asking::is_legal(second) {
+        return Err(Refusal::IllegalName);
     }
     if pack::is_same_key(first, second) {
-        return Verdict::Refused(0o41);
+        return Err(Refusal::WrongArgument);
     }
-    Verdict::Clear
+    Ok(())
 }
 
-fn find_both(img: &[u8], g: Geometry, first: Key, second: Key) -> Both
-    requires { Sized img.now g }
-    ensures { result ≡ both_of img.now g first second }
+#[tactic(auto, unfolding(crate::specs::AppndStage::both_of, crate::specs::AppndStage::both_at))]
+fn find_both(view: View<'_>, first: Key, second: Key) -> Option<Joining>
+    ensures value { both_in result ≡ both_of view.entry.img.now view.entry.g first second }
+    ensures measures { IfSome result (λ both. both.first.geometry ≡ view.entry.g) }
 {
-    let Found::At(e) = asking::find(img, g, first) else {
-        return Both::Missing;
-    };
-    let Found::At(f) = asking::find(img, g, second) else {
-        return Both::Missing;
-    };
-    let x = pack::read_entry(img, g, e);
-    let y = pack::read_entry(img, g, f);
-    Both::Files(e, x, f, y)
+    let e = asking::find(view, first)?;
+    let f = asking::find(view, second)?;
+    Some(Joining {
+        first: Found {
+            geometry: view.g,
+            number: e,
+            entry: view.read_entry(e),
+        },
+        second: Found {
+            geometry: view.g,
+            number: f,
+            entry: view.read_entry(f),
+        },
+    })
 }
 
-fn judge_files(caller: usize, x: Entry, y: Entry) -> Verdict
-    ensures { result ≡ verdict_of (permit_rows caller x y) }
+#[tactic(auto, unfolding(crate::specs::AppndRows::permit_rows, answers::specs::Stage::verdict_of, answers::specs::Refusals::first_of, answers::specs::Refusals::on_success, answers::specs::Refusals::code_of))]
+fn judge_files(caller: usize, x: Entry, y: Entry) -> Result<(), Refusal>
+    ensures { verdict_in result ≡ verdict_of (permit_rows caller x y) }
 {
-    let Grant::Granted = asking::ask_right(Right::Write, caller, x) else {
-        return Verdict::Refused(0o6);
-    };
-    let Grant::Granted = asking::ask_right(Right::Delete, caller, y) else {
-        return Verdict::Refused(0o6);
-    };
-    if x.kind == 1 {
-        return Verdict::Refused(0o43);
+    asking::ask_right(Right::Write, caller, x)?;
+    asking::ask_right(Right::Delete, caller, y)?;
+    if x.kind == 1 || y.kind == 1 {
+        return Err(Refusal::WrongKind);
     }
-    if y.kind == 1 {
-        return Verdict::Refused(0o43);
+    if asking::is_open(x) || asking::is_open(y) {
+        return Err(Refusal::FileOpen);
     }
-    if asking::is_open(x) {
-        return Verdict::Refused(0o14);
-    }
-    if asking::is_open(y) {
-        return Verdict::Refused(0o14);
-    }
-    Verdict::Clear
+    Ok(())
 }
 
 // All that can refuse, in the order of the table; nothing is written here.
-fn decide_appnd(img: &[u8], opened: Opened, first: Key, second: Key, caller: usize) -> Appending
+fn decide_appnd(
+    img: &[u8],
+    opened: Opened,
+    first: Key,
+    second: Key,
+    caller: usize,
+) -> Result<Joining, Refusal>
     requires { opened ≡ opened_of img.now }
-    ensures { result ≡ appending_of img.now first second caller }
+    ensures { appending_in result ≡ appending_of img.now first second caller }
 {
-    let Opened::Good(g) = opened else {
-        return Appending::Refused(0o40);
+    let Some(g) = opened else {
+        return Err(Refusal::Inconsistent);
     };
-    if let Verdict::Refused(code) = judge_names(first, second) {
-        return Appending::Refused(code);
-    }
-    let Both::Files(e, x, f, y) = find_both(img, g, first, second) else {
-        return Appending::Refused(0o2);
+    judge_names(first, second)?;
+    let Some(both) = find_both(View { img, g }, first, second) else {
+        return Err(Refusal::ExistsOrAbsent);
     };
-    if let Verdict::Refused(code) = judge_files(caller, x, y) {
-        return Appending::Refused(code);
-    }
-    Appending::Join(g, e, x, f, y)
+    judge_files(caller, both.first.entry, both.second.entry)?;
+    Ok(both)
 }
 
 fn join(img: &mut [u8], g: Geometry, e: usize, x: Entry, y: Entry)
@@ -115,8 +105,8 @@ fn join(img: &mut [u8], g: Geometry, e: usize, x: Entry, y: Entry)
     bodies::resize(img, g, e, x.first, x.length + y.length, y.last);
 }
 
-pub fn appnd(img: &mut [u8], first: Key, second: Key, caller: usize) -> usize
-    ensures value { result ≡ (appnd img.old first second caller).code }
+pub fn appnd(img: &mut [u8], first: Key, second: Key, caller: usize) -> Result<(), Refusal>
+    ensures value { code_in result ≡ (appnd img.old first second caller).code }
     ensures img_after { img.new ≡ (appnd img.old first second caller).image }
 {
     let opened = consistency::open_pack(img);
@@ -124,17 +114,20 @@ pub fn appnd(img: &mut [u8], first: Key, second: Key, caller: usize) -> usize
 }
 
 // In a pack that was opened.
-pub fn appnd_opened(img: &mut [u8], opened: Opened, first: Key, second: Key, caller: usize) -> usize
+pub fn appnd_opened(
+    img: &mut [u8],
+    opened: Opened,
+    first: Key,
+    second: Key,
+    caller: usize,
+) -> Result<(), Refusal>
     requires { opened ≡ opened_of img.old }
-    ensures value { result ≡ (appnd img.old first second caller).code }
+    ensures value { code_in result ≡ (appnd img.old first second caller).code }
     ensures img_after { img.new ≡ (appnd img.old first second caller).image }
 {
-    match decide_appnd(img, opened, first, second, caller) {
-        Appending::Refused(code) => code,
-        Appending::Join(g, e, x, f, y) => {
-            join(img, g, e, x, y);
-            pack::clear_entry(img, g, f);
-            0
-        }
-    }
+    let Joining { first, second } = decide_appnd(img, opened, first, second, caller)?;
+    let g = first.geometry;
+    join(img, g, first.number, first.entry, second.entry);
+    pack::clear_entry(img, g, second.number);
+    Ok(())
 }

@@ -2,21 +2,20 @@
 use Prim.Native.Nat.{ℕ}
 use mathlib.Core.Path.{◌≡◌, refl, sym}
 use mathlib.Core.Bool.{Bool, true, false, not}
-use mathlib.Core.List.{[]}
+use mathlib.Core.List.{[], ◌∷◌}
 use native.Mathlib.Omega.{arith}
 use lib.Dec.{eqb}
 use borrow.Author.Tests.{eq-eqb, ne_eqb, eqb-false, not-false}
-use Rattle.answers.specs.Refusals.{first_of}
-use Rattle.answers.specs.Stage.{verdict_of}
-use Rattle.answers.specs.declared.Verdict.TheVariants.{Clear, Refused}
+use Rattle.std.specs.Prelude.{Result, Err, ⊤}
+use Rattle.answers.specs.declared.Refusal.{Refusal}
+use Rattle.answers.specs.Refusals.{row, first_of}
+use Rattle.answers.specs.Stage.{Clear, Refused, verdict_of, verdict_in}
 use Rattle.answers.proofs.Refusals.{none_given, coded}
 use Rattle.answers.proofs.Stage.{makes_clear, makes_refused}
 use Rattle.pack.specs.declared.Entry.{Entry}
+use Rattle.asking.proofs.Verdicts.{front_refused}
 use Rattle.asking.specs.declared.Right.{Right}
-use Rattle.asking.specs.declared.Grant.{Grant}
-use Rattle.asking.specs.declared.Grant.TheVariants.{Granted, Denied}
 use Rattle.asking.specs.RightsTest.{may}
-use Rattle.asking.specs.AskedStage.{granted}
 use Rattle.asking.specs.Access.{access_rows}
 
 module _ (x : Entry) (caller : ℕ) (right : Right) (other : ℕ) (closed : Bool) where
@@ -29,18 +28,16 @@ module _ (x : Entry) (caller : ℕ) (right : Right) (other : ℕ) (closed : Bool
   verdict_by : {code : ℕ} → code ≡ first_of (access_rows x caller right other closed) → (code ≡ 0 → ⊥) → Refused code ≡ verdict_of (access_rows x caller right other closed)
   verdict_by = makes_refused (access_rows x caller right other closed)
 
-  code_6 : (grant : Grant) → granted grant ≡ may right caller x.uic x.protect → grant ≡ Denied → 0o6 ≡ first_of (access_rows x caller right other closed)
-  unfolding first_of access_rows
-  code_6 grant says is = rw (sym says, is)
+  -- the row of the right stands first: what refuses there refuses here
+  pub access_6 : {outcome : Result ⊤ Refusal} {refusal : Refusal} → verdict_in outcome ≡ verdict_of (row (not (may right caller x.uic x.protect)) 0o6 ∷ []) → outcome ≡ Err refusal
+      → verdict_in (Err refusal) ≡ verdict_of (access_rows x caller right other closed)
+  unfolding access_rows
+  access_6 asked is = front_refused _ _ asked is
 
-  pub access_6 : (grant : Grant) → granted grant ≡ may right caller x.uic x.protect → grant ≡ Denied
-      → Refused 0o6 ≡ verdict_of (access_rows x caller right other closed)
-  access_6 grant says is = verdict_by (code_6 grant says is) (λ zero. omega (arith, zero))
-
-  module _ (grant : Grant) (says : granted grant ≡ may right caller x.uic x.protect) (is : grant ≡ Granted) where
+  module _ (given : may right caller x.uic x.protect ≡ true) where
     code_43 : x.kind ≡ other → 0o43 ≡ first_of (access_rows x caller right other closed)
     unfolding first_of access_rows
-    code_43 kind = rw (sym says, is, eq-eqb x.kind other kind)
+    code_43 kind = rw (given, eq-eqb x.kind other kind)
 
     pub access_43 : x.kind ≡ other → Refused 0o43 ≡ verdict_of (access_rows x caller right other closed)
     access_43 kind = verdict_by (code_43 kind) (λ zero. omega (arith, zero))
@@ -48,14 +45,14 @@ module _ (x : Entry) (caller : ℕ) (right : Right) (other : ℕ) (closed : Bool
     module _ (kind : x.kind ≡ other → ⊥) where
       code_45 : closed ≡ true → 0o45 ≡ first_of (access_rows x caller right other closed)
       unfolding first_of access_rows
-      code_45 shut = rw (sym says, is, ne_eqb x.kind other kind, shut)
+      code_45 shut = rw (given, ne_eqb x.kind other kind, shut)
 
       pub access_45 : closed ≡ true → Refused 0o45 ≡ verdict_of (access_rows x caller right other closed)
       access_45 shut = verdict_by (code_45 shut) (λ zero. omega (arith, zero))
 
       code_0 : closed ≡ false → 0 ≡ first_of (access_rows x caller right other closed)
       unfolding first_of access_rows
-      code_0 opened = rw (sym says, is, ne_eqb x.kind other kind, opened)
+      code_0 opened = rw (given, ne_eqb x.kind other kind, opened)
 
       pub access_clear : closed ≡ false → Clear ≡ verdict_of (access_rows x caller right other closed)
       access_clear opened = makes_clear (access_rows x caller right other closed) (code_0 opened)
@@ -65,7 +62,7 @@ module _ (x : Entry) (caller : ℕ) (right : Right) (other : ℕ) (closed : Bool
   access_coded = refl
 
   pub accessed_clear : Accessed → first_of (access_rows x caller right other closed) ≡ 0
-  accessed_clear a = sym (code_0 Granted (sym a.right_given) refl a.kind a.opened)
+  accessed_clear a = sym (code_0 a.right_given a.kind a.opened)
 
   pub clear_accessed : first_of (access_rows x caller right other closed) ≡ 0 → Accessed
   unfolding access_rows

@@ -6,8 +6,8 @@ use mathlib.Core.List.{List, ◌++◌, append_assoc}
 use lib.Dec.{eqb}
 use lib.ListN.{length}
 use Rattle.answers.specs.Refusals.{Row, first_of}
-use Rattle.answers.specs.declared.Verdict.{Verdict}
-use Rattle.answers.specs.declared.Verdict.TheVariants.{Clear, Refused as Stopped}
+use Rattle.answers.specs.Stage.{Verdict}
+use Rattle.answers.specs.Stage.{Clear, Refused as Stopped}
 use Rattle.answers.specs.Stage.{verdict_of}
 use Rattle.answers.proofs.Refusals.{behind_refused, behind_clear, first_front}
 use Rattle.answers.proofs.Stage.{told_clear, told_refused}
@@ -16,8 +16,8 @@ use Rattle.pack.specs.declared.Entry.{Entry}
 use Rattle.pack.specs.declared.Key.{Key}
 use Rattle.pack.specs.Geometry.{geometry_of}
 use Rattle.asking.specs.declared.Right.{Right}
-use Rattle.asking.specs.declared.Asked.{Asked}
-use Rattle.asking.specs.declared.Asked.TheVariants.{File, Refused}
+use Rattle.asking.specs.AskedStage.{Asked}
+use Rattle.asking.specs.AskedStage.{File, Refused}
 use Rattle.asking.specs.AskedStage.{file_rows, asked_of}
 use Rattle.asking.specs.Asked.{entry_no, file_of}
 use Rattle.asking.specs.Access.{access_rows}

@@ -22,8 +22,8 @@ use Rattle.asking.specs.KeysTest.{legal_key, found, find_from}
 use Rattle.asking.specs.AskedStage.{file_rows, stage_of, asked_of}
 use Rattle.asking.specs.Asked.{entry_no, file_of}
 use Rattle.asking.specs.Outcome.{Outcome, zeroed, settled}
-use Rattle.asking.specs.declared.Asked.{Asked}
-use Rattle.asking.specs.declared.Asked.TheVariants.{File, Refused}
+use Rattle.asking.specs.AskedStage.{Asked}
+use Rattle.asking.specs.AskedStage.{File, Refused}
 use Rattle.asking.proofs.Outcome.{settled_refused, settled_success, refused_answer, done_answer}
 use Rattle.asking.proofs.Keys.{found_iff}
 

@@ -8,9 +8,8 @@ use mathlib.Core.Option.{Option, none, some}
 use native.Mathlib.Omega.{arith}
 use native.Mathlib.Nat.{mul_comm, mul_assoc}
 use native.Mathlib.Decide.{ℕ_discrete, dec_lt}
-use borrow.Author.Tests.{eq-eqb, ne_eqb}
 use Rattle.radix.specs.Names.{LegalName, LegalExtension}
-use Rattle.radix.specs.NamesTest.{legal_name, legal_extension}
+use Rattle.radix.specs.NamesTest.{legal_name}
 use Rattle.radix.proofs.Names.{name_iff, extension_iff, name_not_zero}
 use Rattle.pack.specs.declared.Geometry.{Geometry}
 use Rattle.pack.specs.declared.Key.{Key}
@@ -20,19 +19,8 @@ use Rattle.pack.specs.Consistent.{Consistent}
 use Rattle.pack.specs.KeyTest.{same_key}
 use Rattle.pack.specs.Key.{key_in, SameKey}
 use Rattle.pack.proofs.KeySame.{same_key_iff}
-use Rattle.answers.proofs.RefusalsTests.{and_left, and_right, and_both, go_on, stop, true_not_false}
+use Rattle.answers.proofs.RefusalsTests.{and_left, and_right, and_both, true_not_false}
 use Rattle.asking.specs.KeysTest.{legal_key, find_from, found}
-use Rattle.asking.specs.Keys.{key_of}
-
--- UIC 0 is the caller's
-module _ (caller name1 name2 extension uic : ℕ) where
-  pub key_callers : uic ≡ 0 → record { name1 = name1; name2 = name2; extension = extension; uic = caller } ≡ key_of caller name1 name2 extension uic
-  unfolding key_of
-  key_callers is = rw (eq-eqb uic 0 is)
-
-  pub key_own : (uic ≡ 0 → ⊥) → record { name1 = name1; name2 = name2; extension = extension; uic = uic } ≡ key_of caller name1 name2 extension uic
-  unfolding key_of
-  key_own never = rw (ne_eqb uic 0 never)
 
 -- a legal key is of a legal name and a legal extension
 pub legal_iff : (key : Key) → legal_key key ≡ true ↔ (LegalName key.name1 key.name2 × LegalExtension key.extension)
@@ -41,14 +29,6 @@ legal_iff key = (
   λ t. ((name_iff _ _).0 (and_left (legal_name key.name1 key.name2) _ t), (extension_iff _).0 (and_right (legal_name key.name1 key.name2) _ t)),
   λ l. and_both ((name_iff _ _).1 l.0) ((extension_iff _).1 l.1),
 )
-
-pub legal_not : (key : Key) → legal_name key.name1 key.name2 ≡ false → false ≡ legal_key key
-unfolding legal_key
-legal_not key h = stop _ _ h
-
-pub legal_then : (key : Key) (answer : Bool) → legal_name key.name1 key.name2 ≡ true → answer ≡ legal_extension key.extension → answer ≡ legal_key key
-unfolding legal_key
-legal_then key answer h e = go_on h e
 
 -- finding, step by step: among the entries that are left
 module _ (img : List ℕ) (g : Geometry) (key : Key) (e t : ℕ) (less : e < t) where

@@ -6,5 +6,6 @@ pub mod Outcome
 pub mod AskedStage
 pub mod Opens
 pub mod AskedCleared
+pub mod Verdicts
 pub mod AccessRows
 pub mod AccessStage

@@ -5,25 +5,12 @@ use mathlib.Core.Logic.{◌↔◌}
 use mathlib.Core.Bool.{true}
 use native.Mathlib.Decide.{ℕ_discrete}
 use native.Mathlib.Omega.{arith}
-use lib.Dec.{eqb, leb}
+use lib.Dec.{eqb}
 use borrow.Author.Tests.{eq-eqb, ne_eqb, eqb-true, leb-true, le-leb}
 use Rattle.asking.specs.declared.Right.{Right}
 use Rattle.asking.specs.declared.Right.TheVariants.{Delete, Write, Read}
 use Rattle.asking.specs.RightsTest.{in_field, owners, may}
 use Rattle.asking.specs.Rights.{others_field, group_field, InField, May, delete, write, read, owner_reads, owner_writes, owner_deletes, group, others}
-
--- a field
-pub field_delete : (right : Right) (field : ℕ) → right ≡ Delete → eqb field 0 ≡ in_field right field
-unfolding in_field
-field_delete right field is = rw is
-
-pub field_write : (right : Right) (field : ℕ) → right ≡ Write → leb field 1 ≡ in_field right field
-unfolding in_field
-field_write right field is = rw is
-
-pub field_read : (right : Right) (field : ℕ) → right ≡ Read → leb field 3 ≡ in_field right field
-unfolding in_field
-field_read right field is = rw is
 
 field_to : (right : Right) (field : ℕ) → in_field right field ≡ true → InField right field
 unfolding in_field

@@ -3,7 +3,7 @@ use Rattle.std.specs.Prelude.{ℕ, Bool, List, ◌++◌}
 use Rattle.pack.specs.declared.Entry.{Entry}
 use Rattle.pack.specs.declared.Key.{Key}
 use Rattle.asking.specs.declared.Right.{Right}
-use Rattle.asking.specs.declared.Asked.{Asked}
+use Rattle.asking.specs.AskedStage.{Asked}
 use Rattle.asking.specs.AskedStage.{file_rows, stage_of}
 use Rattle.asking.specs.Asked.{file_of}
 use Rattle.asking.specs.Access.{access_rows}

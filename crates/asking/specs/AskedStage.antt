@@ -1,19 +1,21 @@
--- Means: the rows of tests that requests on a file share, what the stages of a request answer, and the values of the code's answers to 'which entry' and 'may it'.
-use Rattle.std.specs.Prelude.{ℕ, Bool, true, false, not, List, [], ◌∷◌}
-use Rattle.std.proofs.Math.Option.{Option, none, some}
-use Rattle.answers.specs.Refusals.{Row, row, first_of, on_success}
+-- Means: the rows of tests that requests on a file share, and what the stages of a request answer.
+use Rattle.std.specs.Prelude.{ℕ, Bool, not, List, [], ◌∷◌, Result, Ok, Err}
+use Rattle.answers.specs.Refusals.{Row, row, first_of, on_success, code_of}
 use Rattle.pack.specs.declared.Key.{Key}
 use Rattle.pack.specs.Geometry.{geometry_of}
-use Rattle.asking.specs.declared.Asked.{Asked}
-use Rattle.asking.specs.declared.Asked.TheVariants.{File, Refused}
-use Rattle.asking.specs.declared.Found.{Found}
-use Rattle.asking.specs.declared.Found.TheVariants.{At, Nothing}
-use Rattle.asking.specs.declared.Grant.{Grant}
-use Rattle.asking.specs.declared.Grant.TheVariants.{Granted, Denied}
+use Rattle.pack.specs.declared.Entry.{Entry}
+use Rattle.pack.specs.declared.Geometry.{Geometry}
+use Rattle.answers.specs.declared.Refusal.{Refusal}
 use Rattle.answers.specs.Missing.{missing}
+use Rattle.asking.specs.declared.Found.{Found}
 use Rattle.consistency.specs.ConsistentTest.{consistent}
 use Rattle.asking.specs.KeysTest.{legal_key, found}
 use Rattle.asking.specs.Asked.{entry_no, file_of}
+
+-- what a stage answers that looks for a file: the pack's measures, the number of its entry and the entry; or the code of a refusal
+pub data Asked : Type 0 where
+  File : Geometry → ℕ → Entry → Asked
+  Refused : ℕ → Asked
 
 -- "40: image not consistent", "15: a name or extension is not legal", "41: argument: ..", "2: .. absent", in the order of the table.
 -- `wrong` says that an argument of the request is wrong; a request without such an argument says false.
@@ -29,10 +31,7 @@ stage_of rows img key = on_success (first_of rows) (File (geometry_of img) (entr
 abbrev pub asked_of : List ℕ → Key → Bool → Asked
 asked_of img key wrong = stage_of (file_rows img key wrong) img key
 
-abbrev pub found_in : Found → Option ℕ
-found_in (At e) = some e
-found_in Nothing = none
-
-abbrev pub granted : Grant → Bool
-granted Granted = true
-granted Denied = false
+-- the stage's answer as the code gives it
+abbrev pub asked_in : Result Found Refusal → Asked
+asked_in (Ok found) = File found.geometry found.number found.entry
+asked_in (Err refusal) = Refused (code_of refusal)

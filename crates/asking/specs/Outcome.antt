@@ -1,6 +1,8 @@
 -- What a request on an image comes to: its code, its numbers, and what image and lent buffer then hold.
-use Rattle.std.specs.Prelude.{ℕ, ◌≡◌, List, [], ◌∷◌}
+use Rattle.std.specs.Prelude.{ℕ, ◌≡◌, List, [], ◌∷◌, Result, Ok, Err}
+use Rattle.answers.specs.declared.Refusal.{Refusal}
 use Rattle.answers.specs.Refusals.{Row, first_of, on_success}
+use Rattle.pack.specs.declared.BlockNo.{BlockNo}
 
 pub record Outcome : Type 0 where
   pub code : ℕ
@@ -29,3 +31,8 @@ pub record Unchanged (outcome : Outcome) (zeros image buffer : List ℕ) : Type 
   pub same_numbers : outcome.numbers ≡ zeros
   pub same_image : outcome.image ≡ image
   pub same_buffer : outcome.buffer ≡ buffer
+
+-- "ALLOC and linked add also return the first or added block": its number, and 0 with a refusal
+abbrev pub block_number : Result BlockNo Refusal → ℕ
+block_number (Ok block) = block.0
+block_number (Err refusal) = 0

@@ -13,14 +13,13 @@ use Rattle.pack.specs.Geometry.{payload_bytes}
 use Rattle.pack.specs.GeometrySized.{most_segments, Sized}
 use Rattle.pack.specs.File.{blocks_of, count}
 use Rattle.asking.specs.declared.Right.TheVariants.{Read}
-use Rattle.asking.specs.declared.Asked.{Asked}
-use Rattle.asking.specs.declared.Asked.TheVariants.{File, Refused}
+use Rattle.asking.specs.AskedStage.{Asked}
+use Rattle.asking.specs.AskedStage.{File, Refused}
 use Rattle.asking.specs.Outcome.{Outcome}
 use Rattle.asking.specs.AccessStage.{accessed_of}
 use Rattle.asking.proofs.AccessStage.{reached_file}
 use Rattle.bodies.specs.Payloads.{payloads_of}
-use Rattle.stream.specs.declared.Spot.{Spot}
-use Rattle.stream.specs.Spot.{most_bytes, bytes_from}
+use Rattle.stream.specs.Spot.{most_bytes}
 use Rattle.stream.specs.BytesReading.{bytes_behind}
 use Rattle.stream.proofs.BytesReadingStage.{reading_unasked, reading_counted, few_bytes, bytes_left, reading_beyond, reading_located, bytes_here, bytes_few}
 use Rattle.lines.specs.LineReadingRows.{wrong_reading}
@@ -82,19 +81,19 @@ module _ {img : List ℕ} {key : Key} {caller mode coming sum : ℕ} {buffer : L
       binary_located = reading_located file.reached position inside
 
       -- what `read_part` asks, and what is answered when it has read
-      module _ (spot : Spot) (stands : bytes_from img g spot ≡ drop position (payloads_of img g (blocks_of img g x))) where
-        pub binary_ready : (0 < length buffer) × (length (bytes_from img g spot) ≤ most_bytes)
-        binary_ready = (asked_room file, bytes_few file.reached position spot stands)
+      module _ (here : List ℕ) (stands : here ≡ drop position (payloads_of img g (blocks_of img g x))) where
+        pub binary_ready : (0 < length buffer) × (length (here) ≤ most_bytes)
+        binary_ready = (asked_room file, bytes_few file.reached position here stands)
 
         pub binary_passed_in : (coming ≤ 511) × (sum ≤ 255) × (coming ≡ 0 → sum ≡ 0)
         binary_passed_in = asked_given file
 
-        module _ {after : List ℕ} {r : Part} (read : ReadsAs (binary_found (mode_of mode) (length buffer) coming sum (bytes_from img g spot)) buffer after r) where
+        module _ {after : List ℕ} {r : Part} (read : ReadsAs (binary_found (mode_of mode) (length buffer) coming sum (here)) buffer after r) where
           abbrev found : BinaryFound
           found = binary_found (mode_of mode) (length buffer) coming sum (bytes_behind img key position)
 
-          same : binary_found (mode_of mode) (length buffer) coming sum (bytes_from img g spot) ≡ found
-          same = ap (binary_found (mode_of mode) (length buffer) coming sum) (bytes_here file.reached position spot stands)
+          same : binary_found (mode_of mode) (length buffer) coming sum (here) ≡ found
+          same = ap (binary_found (mode_of mode) (length buffer) coming sum) (bytes_here file.reached position here stands)
 
           pub binary_fits : position + r.passed ≤ most_bytes
           binary_fits =

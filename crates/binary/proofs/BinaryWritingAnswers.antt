@@ -10,8 +10,8 @@ use Rattle.pack.specs.declared.Geometry.{Geometry}
 use Rattle.pack.specs.declared.Entry.{Entry}
 use Rattle.pack.specs.declared.Key.{Key}
 use Rattle.consistency.specs.Mapped.{Mapped, MappedIf}
-use Rattle.asking.specs.declared.Asked.{Asked}
-use Rattle.asking.specs.declared.Asked.TheVariants.{File, Refused}
+use Rattle.asking.specs.AskedStage.{Asked}
+use Rattle.asking.specs.AskedStage.{File, Refused}
 use Rattle.asking.specs.Outcome.{Outcome}
 use Rattle.asking.specs.AskedStage.{stage_of}
 use Rattle.asking.proofs.AskedStage.{stage_is_file}

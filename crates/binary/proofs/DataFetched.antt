@@ -7,11 +7,10 @@ use native.Mathlib.Omega.{arith}
 use borrow.Rule.Slice.PartMut.{put_mid}
 use lib.ListN.{length, take, drop, get_or, set, length-take, length-drop, drop_of_length-le}
 use lib.Seq.{take-add, take_all, drop-drop, drop-cons, sets-eq}
-use Rattle.pack.specs.declared.Geometry.{Geometry}
 use Rattle.bodies.specs.BlockBytes.{part_of}
 use Rattle.bodies.proofs.BlockBytes.{part_written}
-use Rattle.stream.specs.declared.Spot.{Spot}
-use Rattle.stream.specs.Spot.{bytes_from, Standing}
+use Rattle.stream.specs.declared.Tail.{Tail}
+use Rattle.stream.specs.Tail.{rest}
 use Rattle.stream.proofs.SpotSteps.{spot_end}
 use Rattle.stream.proofs.SpotPayload.{payload_inside, next_bytes}
 use Rattle.lines.specs.LineSteps.{laid_all}
@@ -27,10 +26,9 @@ cut_out img at here = part_of img at (at + here - at)
 cut_is : (img : List ℕ) (at here : ℕ) → cut_out img at here ≡ part_of img at here
 cut_is img at here = let less : at + here - at ≡ here = omega arith in ap (λ (n : ℕ). part_of img at n) less
 
-pub fetch_start : {img : List ℕ} {g : Geometry} {limit : ℕ} {buffer : List ℕ} {spot : Spot} → Standing img g spot
-    → Fetching img g (bytes_from img g spot) limit buffer buffer 0 0 spot
+pub fetch_start : {limit : ℕ} {buffer : List ℕ} {behind : Tail} → Fetching (rest behind) limit buffer buffer 0 0 behind
 unfolding sum_of laid_all
-fetch_start standing =
+fetch_start =
     record {
       long = refl;
       few = omega arith;
@@ -38,14 +36,13 @@ fetch_start standing =
       summed = refl;
       small = omega arith;
       laid = refl;
-      standing = standing;
       stands = refl;
     }
 
-module _ {img : List ℕ} {g : Geometry} {s : List ℕ} {limit : ℕ} {buffer after : List ℕ} {count sum : ℕ} {spot : Spot}
-    (fetching : Fetching img g s limit buffer after count sum spot) where
+module _ {s : List ℕ} {limit : ℕ} {buffer after : List ℕ} {count sum : ℕ} {behind : Tail}
+    (fetching : Fetching s limit buffer after count sum behind) where
   -- as many as may be
-  pub fetch_all : limit ≤ count → Fetched img g s limit buffer after (record { count = count; sum = sum; spot = spot })
+  pub fetch_all : limit ≤ count → Fetched s limit buffer after (record { count = count; sum = sum; behind = behind })
   fetch_all reached =
       let is : count ≡ limit = omega (arith, reached, fetching.few) in
       record {
@@ -53,56 +50,56 @@ module _ {img : List ℕ} {g : Geometry} {s : List ℕ} {limit : ℕ} {buffer af
         summed = fetching.summed ∙ ap (λ (n : ℕ). sum_of (take n s)) is;
         small = fetching.small;
         laid = fetching.laid ∙ ap (λ (n : ℕ). laid_all (length buffer) buffer 0 (take n s)) is;
-        standing = fetching.standing;
         stands = fetching.stands ∙ ap (λ (n : ℕ). drop n s) is;
       }
 
   -- as many as there are
-  pub fetch_end : spot.left ≡ 0 → Fetched img g s limit buffer after (record { count = count; sum = sum; spot = spot })
+  pub fetch_end : behind.spot.left ≡ 0 → Fetched s limit buffer after (record { count = count; sum = sum; behind = behind })
   fetch_end none =
-      let nothing : length (drop count s) ≡ 0 = ap length (sym fetching.stands ∙ spot_end img g spot none) in
+      let nothing : length (drop count s) ≡ 0 = ap length (sym fetching.stands ∙ spot_end behind.img.now behind.g behind.spot none) in
       let end : length s ≡ count = omega (arith, nothing, length-drop count s, fetching.there) in
       let all : take count s ≡ take limit s = take_all count s (omega (arith, end)) ∙ sym (take_all limit s (omega (arith, end, fetching.few))) in
-      let rest : drop count s ≡ drop limit s =
+      let same : drop count s ≡ drop limit s =
       past count (omega (arith, end)) ∙ sym (past limit (omega (arith, end, fetching.few))) in
       record {
         counted = omega (arith, end, fetching.few);
         summed = fetching.summed ∙ ap sum_of all;
         small = fetching.small;
         laid = fetching.laid ∙ ap (laid_all (length buffer) buffer 0) all;
-        standing = fetching.standing;
-        stands = fetching.stands ∙ rest;
+        stands = fetching.stands ∙ same;
       }
     where
       past : (n : ℕ) → length s ≤ n → drop n s ≡ []
       past n over = drop_of_length-le s over
 
   -- as much as the payload has and may be taken
-  pub part_room : 0 < spot.left → {here : ℕ} → here ≡ min (spot.end - spot.at) (limit - count)
-      → (spot.at + here ≤ length img) × (spot.at + here ≤ spot.end) × (count + here ≤ limit) × (length (cut_out img spot.at here) ≡ here) × (count < limit → 0 < here)
+  pub part_room : 0 < behind.spot.left → {here : ℕ} → here ≡ min (behind.spot.end - behind.spot.at) (limit - count)
+      → (behind.spot.at + here ≤ length behind.img.now) × (behind.spot.at + here ≤ behind.spot.end) × (count + here ≤ limit)
+      × (length (cut_out behind.img.now behind.spot.at here) ≡ here) × (count < limit → 0 < here)
   part_room some {here} is =
-      let inside = payload_inside fetching.standing some in
-      let before = fetching.standing.before some in (
+      let inside = payload_inside behind.standing some in
+      let before = behind.standing.before some in (
         omega (arith, is, inside.1, before),
         omega (arith, is, before),
         omega (arith, is, fetching.few),
-        omega (arith, is, inside.1, before, ap length (cut_is img spot.at here), length-take here (drop spot.at img), length-drop spot.at img),
+        omega (arith, is, inside.1, before, ap length (cut_is behind.img.now behind.spot.at here), length-take here (drop behind.spot.at behind.img.now), length-drop behind.spot.at behind.img.now),
         λ more. omega (arith, is, before, more),
       )
 
-  pub part_short : 0 < spot.left → {here : ℕ} → here ≡ min (spot.end - spot.at) (limit - count) → limit ≤ 512 → length (cut_out img spot.at here) ≤ 512
+  pub part_short : 0 < behind.spot.left → {here : ℕ} → here ≡ min (behind.spot.end - behind.spot.at) (limit - count) → limit ≤ 512
+      → length (cut_out behind.img.now behind.spot.at here) ≤ 512
   part_short some is few = omega (arith, part_room some is, is, few)
 
   -- a part more
-  module _ (some : 0 < spot.left) (here : ℕ) (within : spot.at + here ≤ spot.end) where
-    part_is : cut_out img spot.at here ≡ take here (drop count s)
-    part_is = cut_is img spot.at here ∙ next_bytes fetching.standing some here within ∙ ap (take here) fetching.stands
+  module _ (some : 0 < behind.spot.left) (here : ℕ) (within : behind.spot.at + here ≤ behind.spot.end) where
+    part_is : cut_out behind.img.now behind.spot.at here ≡ take here (drop count s)
+    part_is = cut_is behind.img.now behind.spot.at here ∙ next_bytes behind.standing some here within ∙ ap (take here) fetching.stands
 
-    pub fetch_next : count + here ≤ limit → length (cut_out img spot.at here) ≡ here → {after' : List ℕ} {added : ℕ} (next : Spot) → length after' ≡ length after
-        → after' ≡ laid_all (length after) after count (cut_out img spot.at here) → added ≡ sum_of (cut_out img spot.at here)
-        → added ≤ 255 * length (cut_out img spot.at here) → bytes_from img g next ≡ drop here (bytes_from img g spot) → Standing img g next
-        → Fetching img g s limit buffer after' (count + here) (sum + added) next
-    fetch_next few long {after'} {added} next kept laid sums bound stands standing =
+    pub fetch_next : count + here ≤ limit → length (cut_out behind.img.now behind.spot.at here) ≡ here → {after' : List ℕ} {added : ℕ} (next : Tail) → length after' ≡ length after
+        → after' ≡ laid_all (length after) after count (cut_out behind.img.now behind.spot.at here) → added ≡ sum_of (cut_out behind.img.now behind.spot.at here)
+        → added ≤ 255 * length (cut_out behind.img.now behind.spot.at here) → rest next ≡ drop here (rest behind)
+        → Fetching s limit buffer after' (count + here) (sum + added) next
+    fetch_next few long {after'} {added} next kept laid sums bound stands =
         let there : here ≤ length (drop count s) = omega (arith, length-take here (drop count s), ap length part_is, long) in
         let front : length (take count s) ≡ count = omega (arith, length-take count s, fetching.there) in
         record {
@@ -113,14 +110,13 @@ module _ {img : List ℕ} {g : Geometry} {s : List ℕ} {limit : ℕ} {buffer af
           small = omega (arith, fetching.small, bound, long);
           laid =
               laid
-              ∙ ap (λ (n : ℕ). laid_all n after count (cut_out img spot.at here)) fetching.long
-              ∙ ap (λ (b : List ℕ). laid_all (length buffer) b count (cut_out img spot.at here)) fetching.laid
-              ∙ ap (λ (n : ℕ). laid_all (length buffer) (laid_all (length buffer) buffer 0 (take count s)) n (cut_out img spot.at here))
+              ∙ ap (λ (n : ℕ). laid_all n after count (cut_out behind.img.now behind.spot.at here)) fetching.long
+              ∙ ap (λ (b : List ℕ). laid_all (length buffer) b count (cut_out behind.img.now behind.spot.at here)) fetching.laid
+              ∙ ap (λ (n : ℕ). laid_all (length buffer) (laid_all (length buffer) buffer 0 (take count s)) n (cut_out behind.img.now behind.spot.at here))
               (sym (zero-add (length (take count s)) ∙ front))
               ∙ ap (λ (t : List ℕ). laid_all (length buffer) (laid_all (length buffer) buffer 0 (take count s)) (0 + length (take count s)) t) part_is
               ∙ sym (laid_append (length buffer) buffer 0 (take count s) (take here (drop count s)))
               ∙ ap (laid_all (length buffer) buffer 0) (sym (take-add count here s));
-          standing = standing;
           stands = stands ∙ ap (drop here) fetching.stands ∙ drop-drop here count s;
         }
 

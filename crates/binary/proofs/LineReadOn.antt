@@ -4,13 +4,13 @@ use mathlib.Core.Path.{◌≡◌, refl, sym, ap, ◌∙◌, subst}
 use mathlib.Core.List.{List}
 use native.Mathlib.Omega.{arith}
 use lib.ListN.{length, take, drop, length-drop}
-use Rattle.pack.specs.declared.Geometry.{Geometry}
-use Rattle.stream.specs.declared.Spot.{Spot}
-use Rattle.stream.specs.Spot.{bytes_from, Standing}
+use Rattle.std.specs.Prelude.{Result, Ok, Err}
+use Rattle.stream.specs.Tail.{rest}
 use Rattle.lines.specs.declared.LineMode.{LineMode}
 use Rattle.binary.specs.declared.heading.Begin.{Begin}
 use Rattle.binary.specs.declared.heading.Heading.{Heading}
-use Rattle.binary.specs.declared.heading.Heading.TheVariants.{Cut, Wrong, Counts}
+use Rattle.binary.specs.declared.heading.HeadingFault.{HeadingFault}
+use Rattle.binary.specs.declared.heading.HeadingFault.TheVariants.{Cut, Wrong}
 use Rattle.binary.specs.declared.binary_read.Part.{Part}
 use Rattle.binary.specs.BinaryLine.{sum_of}
 use Rattle.binary.specs.BinaryRead.{nuls_before, line_from, header_of, cut_found, wrong_found, behind, data_found, binary_found}
@@ -20,71 +20,72 @@ use Rattle.binary.specs.BinaryPart.{ReadsAs}
 use Rattle.binary.proofs.BinaryCases.{data_kind, data_case, case_only}
 use Rattle.binary.proofs.BinaryProgress.{nuls_most, passed_most}
 
-module _ {img : List ℕ} {g : Geometry} {s : List ℕ} {begin : Begin} (begins : LineBegins img g s begin) {h : Heading}
-    (heads : HeadingStands img g (bytes_from img g begin.spot) (header_of (bytes_from img g begin.spot)) 4 h) where
-  same_header : header_of (bytes_from img g begin.spot) ≡ header_of (line_from s)
+module _ {s : List ℕ} {begin : Begin} (begins : LineBegins s begin) {h : Result Heading HeadingFault}
+    (heads : HeadingStands (rest begin.line) (header_of (rest begin.line)) 4 h) where
+  same_header : header_of (rest begin.line) ≡ header_of (line_from s)
   same_header = ap header_of begins.stands
 
-  whole : length s ≡ begin.nuls + length (bytes_from img g begin.spot)
+  whole : length s ≡ begin.nuls + length (rest begin.line)
   whole = omega (arith, begins.passed, ap length begins.stands, length-drop (nuls_before s) s, nuls_most s)
 
   -- how many bytes there are before the data
-  pub cut_within : {there : ℕ} → h ≡ Cut there → begin.nuls + there ≡ length s
-  cut_within told = by (subst (HeadingStands img g (bytes_from img g begin.spot) (header_of (bytes_from img g begin.spot)) 4) told heads)
+  pub cut_within : {there : ℕ} → h ≡ Err (Cut there) → begin.nuls + there ≡ length s
+  cut_within told = by (subst (HeadingStands (rest begin.line) (header_of (rest begin.line)) 4) told heads)
     where
-      by : {there : ℕ} → HeadingStands img g (bytes_from img g begin.spot) (header_of (bytes_from img g begin.spot)) 4 (Cut there) → begin.nuls + there ≡ length s
+      by : {there : ℕ} → HeadingStands (rest begin.line) (header_of (rest begin.line)) 4 (Err (Cut there)) → begin.nuls + there ≡ length s
       by (ends_inside is long few) = omega (arith, whole, long)
 
-  pub new_cut : (mode : LineMode) (most : ℕ) (buffer : List ℕ) {there : ℕ} → h ≡ Cut there
+  pub new_cut : (mode : LineMode) (most : ℕ) (buffer : List ℕ) {there : ℕ} → h ≡ Err (Cut there)
       → ReadsAs (binary_found mode most 0 0 s) buffer buffer (record { count = 0; status = 64; passed = begin.nuls + there; coming = 0; sum = 0 })
   new_cut mode most buffer told =
-      by (subst (HeadingStands img g (bytes_from img g begin.spot) (header_of (bytes_from img g begin.spot)) 4) told heads) (cut_within told)
+      by (subst (HeadingStands (rest begin.line) (header_of (rest begin.line)) 4) told heads) (cut_within told)
     where
-      by : {there : ℕ} → HeadingStands img g (bytes_from img g begin.spot) (header_of (bytes_from img g begin.spot)) 4 (Cut there) → begin.nuls + there ≡ length s
+      by : {there : ℕ} → HeadingStands (rest begin.line) (header_of (rest begin.line)) 4 (Err (Cut there)) → begin.nuls + there ≡ length s
           → ReadsAs (binary_found mode most 0 0 s) buffer buffer (record { count = 0; status = 64; passed = begin.nuls + there; coming = 0; sum = 0 })
       by (ends_inside is long few) within =
           let case : BinaryCase mode most 0 s 0 HeaderCut (cut_found s) = header_cut (sym same_header ∙ is) in
           let found : cut_found s ≡ binary_found mode most 0 0 s = (case_only case).1 in
           rw (← found) (record { tells = record { count = refl; status = refl; passed = within; coming = refl; sum = refl }; laid = refl })
 
-  pub new_wrong : (mode : LineMode) (most : ℕ) (buffer : List ℕ) → h ≡ Wrong
+  pub new_wrong : (mode : LineMode) (most : ℕ) (buffer : List ℕ) → h ≡ Err Wrong
       → ReadsAs (binary_found mode most 0 0 s) buffer buffer (record { count = 0; status = 4; passed = 0; coming = 0; sum = 0 })
-  new_wrong mode most buffer told = by (subst (HeadingStands img g (bytes_from img g begin.spot) (header_of (bytes_from img g begin.spot)) 4) told heads)
+  new_wrong mode most buffer told = by (subst (HeadingStands (rest begin.line) (header_of (rest begin.line)) 4) told heads)
     where
-      by : HeadingStands img g (bytes_from img g begin.spot) (header_of (bytes_from img g begin.spot)) 4 Wrong
+      by : HeadingStands (rest begin.line) (header_of (rest begin.line)) 4 (Err Wrong)
           → ReadsAs (binary_found mode most 0 0 s) buffer buffer (record { count = 0; status = 4; passed = 0; coming = 0; sum = 0 })
       by (is_wrong is) =
           let case : BinaryCase mode most 0 s 0 HeaderWrong wrong_found = header_wrong (sym same_header ∙ is) in
           let found : wrong_found ≡ binary_found mode most 0 0 s = (case_only case).1 in
           rw (← found) (record { tells = record { count = refl; status = refl; passed = refl; coming = refl; sum = refl }; laid = refl })
 
-  module _ {many sum : ℕ} {spot : Spot} (told : h ≡ Counts many sum spot) where
+  module _ {headed : Heading} (told : h ≡ Ok headed) where
     -- what the reading of the data asks
-    pub new_ready : Standing img g spot × ((many ≤ 512) × (sum ≤ 1024))
-    new_ready = by (subst (HeadingStands img g (bytes_from img g begin.spot) (header_of (bytes_from img g begin.spot)) 4) told heads)
+    pub new_ready : (headed.many ≤ 512) × (headed.sum ≤ 1024)
+    new_ready = by (subst (HeadingStands (rest begin.line) (header_of (rest begin.line)) 4) told heads)
       where
-        by : {m n : ℕ} {t : Spot} → HeadingStands img g (bytes_from img g begin.spot) (header_of (bytes_from img g begin.spot)) 4 (Counts m n t)
-            → Standing img g t × ((m ≤ 512) × (n ≤ 1024))
-        by (tells is few added small standing stands long) = (standing, (few, omega (arith, small)))
+        by : {v : Heading} → HeadingStands (rest begin.line) (header_of (rest begin.line)) 4 (Ok v)
+            → (v.many ≤ 512) × (v.sum ≤ 1024)
+        by (tells is few added small stands long) = (few, omega (arith, small))
 
     new_found : (mode : LineMode) (most : ℕ)
-        → binary_found mode most 0 0 s ≡ behind (nuls_before s + 4) (data_found mode most many sum (bytes_from img g spot))
-    new_found mode most = by (subst (HeadingStands img g (bytes_from img g begin.spot) (header_of (bytes_from img g begin.spot)) 4) told heads)
+        → binary_found mode most 0 0 s ≡ behind (nuls_before s + 4) (data_found mode most headed.many headed.sum (rest headed.behind))
+    new_found mode most = by (subst (HeadingStands (rest begin.line) (header_of (rest begin.line)) 4) told heads)
       where
-        by : {m n : ℕ} {t : Spot} → HeadingStands img g (bytes_from img g begin.spot) (header_of (bytes_from img g begin.spot)) 4 (Counts m n t)
-            → binary_found mode most 0 0 s ≡ behind (nuls_before s + 4) (data_found mode most m n (bytes_from img g t))
-        by {m} {n} {t} (tells is few added small standing stands long) =
-            let line : bytes_from img g begin.spot ≡ line_from s = begins.stands in
+        by : {v : Heading} → HeadingStands (rest begin.line) (header_of (rest begin.line)) 4 (Ok v)
+            → binary_found mode most 0 0 s ≡ behind (nuls_before s + 4) (data_found mode most v.many v.sum (rest v.behind))
+        by (tells {many = m} {sum = n} {behind = t} is few added small stands long) =
+            let line : rest begin.line ≡ line_from s = begins.stands in
             let sums : n ≡ sum_of (take 4 (line_from s)) = added ∙ ap (λ (u : List ℕ). sum_of (take 4 u)) line in
-            let rest : bytes_from img g t ≡ drop 4 (line_from s) = stands ∙ ap (drop 4) line in
+            let left : rest t ≡ drop 4 (line_from s) = stands ∙ ap (drop 4) line in
             let inner = data_found mode most m (sum_of (take 4 (line_from s))) (drop 4 (line_from s)) in
             let case : BinaryCase mode most 0 s 0 (data_kind mode most m (drop 4 (line_from s))) (behind (nuls_before s + 4) inner) =
             new_line m (sym same_header ∙ is) (data_case most m (sum_of (take 4 (line_from s))) (drop 4 (line_from s)) mode) in
             sym (case_only case).1
             ∙ ap (λ (u : ℕ). behind (nuls_before s + 4) (data_found mode most m u (drop 4 (line_from s)))) (sym sums)
-            ∙ ap (λ (u : List ℕ). behind (nuls_before s + 4) (data_found mode most m n u)) (sym rest)
+            ∙ ap (λ (u : List ℕ). behind (nuls_before s + 4) (data_found mode most m n u)) (sym left)
 
-    module _ (mode : LineMode) (most : ℕ) {buffer after : List ℕ} {part : Part} (read : ReadsAs (data_found mode most many sum (bytes_from img g spot)) buffer after part) where
+    module _ (mode : LineMode) (most : ℕ) {buffer after : List ℕ} {part : Part}
+        (read : ReadsAs (data_found mode most headed.many headed.sum (rest headed.behind)) buffer after part) where
       pub new_read : ReadsAs (binary_found mode most 0 0 s) buffer after
           (record { count = part.count; status = part.status; passed = begin.nuls + 4 + part.passed; coming = part.coming; sum = part.sum })
       new_read =

@@ -10,3 +10,4 @@ pub mod BinaryWriting
 pub mod Heading
 pub mod Fetching
 pub mod BinaryPart
+pub mod BinaryAnswers

@@ -1,26 +1,38 @@
 // Reading a formatted binary line: at once, or in parts by what is still to come of it.
-ghost use Rattle.std.specs.Prelude.{◌≡◌, not, cond, List, [], ◌∷◌, ℕ, ◌*◌, ◌%◌, ◌≤◌, ◌<◌, min, eqb, length, take, drop};
+ghost use Rattle.std.specs.Prelude.{◌≡◌, not, List, [], ◌∷◌, ℕ, ◌*◌, ◌%◌, ◌≤◌, ◌<◌, min, eqb, length, take, drop};
 ghost use Rattle.consistency.specs.ConsistentTest.{opened_of};
-ghost use Rattle.stream.specs.Spot.{bytes_from, most_bytes, Standing};
-ghost use Rattle.lines.specs.declared.LineMode.TheVariants.{Normal, Special};
+ghost use Rattle.stream.specs.Spot.{most_bytes};
+ghost use Rattle.stream.specs.Tail.{rest};
 ghost use Rattle.lines.specs.LineRead.{status_bit};
 ghost use Rattle.binary.specs.BinaryRead.{data_found, binary_found};
 ghost use Rattle.binary.specs.BinaryLine.{sum_of};
 ghost use Rattle.binary.specs.BinaryReadingRows.{wrong_given};
 ghost use Rattle.binary.specs.BinaryReading.{binary_read};
+ghost use Rattle.binary.specs.BinaryAnswers.{binary_answer};
 ghost use Rattle.binary.specs.Fetching.{limit_of};
 ghost use Rattle.binary.specs.BinaryPart.{Tells, ReadsAs};
 
 use crate::fetching::Fetch;
-use crate::heading::Heading;
+use crate::heading::HeadingFault;
 use crate::{fetching, heading};
-use asking::Asked;
+use answers::Refusal;
 use consistency::Opened;
-use lines::line_read;
-use pack::{Geometry, Key};
-use stream::Spot;
+use lines::{LineMode, line_read};
+use pack::{Key, View};
+use stream::Tail;
 use transfer::linked_read;
 
+// What a reading answers: the count, the status, the next position, and what is given back of a line that goes on.
+#[derive(Clone, Copy)]
+pub struct BinaryRead {
+    pub count: usize,
+    pub status: usize,
+    pub position: usize,
+    pub coming: usize,
+    pub sum: usize,
+}
+
+// The same to a host.
 #[repr(C)]
 #[derive(Clone, Copy)]
 pub struct BinaryAnswer {
@@ -30,6 +42,31 @@ pub struct BinaryAnswer {
     pub position: usize,
     pub coming: usize,
     pub sum: usize,
+}
+
+impl From<Result<BinaryRead, Refusal>> for BinaryAnswer {
+    ghost from_gives = { λ outcome answer. answer ≡ binary_answer outcome };
+
+    fn from(outcome: Result<BinaryRead, Refusal>) -> BinaryAnswer {
+        match outcome {
+            Ok(line) => BinaryAnswer {
+                code: 0,
+                count: line.count,
+                status: line.status,
+                position: line.position,
+                coming: line.coming,
+                sum: line.sum,
+            },
+            Err(refusal) => BinaryAnswer {
+                code: refusal.code(),
+                count: 0,
+                status: 0,
+                position: 0,
+                coming: 0,
+                sum: 0,
+            },
+        }
+    }
 }
 
 // What one reading comes to: the data bytes read, the status, the bytes passed, and what is given back of a line that goes on.
@@ -43,13 +80,13 @@ pub struct Part {
 }
 
 // "special keeps the rest": it takes no more data bytes than the buffer has; normal takes all.
-fn limit_of(special: bool, most: usize, coming: usize) -> usize
-    ensures { result ≡ limit_of (cond special Special Normal) most coming }
+fn limit_of(mode: LineMode, most: usize, coming: usize) -> usize
+    ensures { result ≡ limit_of mode most coming }
 {
-    if special & (most < coming) {
-        return most;
+    match mode {
+        LineMode::Normal => coming,
+        LineMode::Special => coming.min(most),
     }
-    coming
 }
 
 // "Bit 1 is a wrong sum".
@@ -64,26 +101,17 @@ fn bit_1(total: usize) -> usize
 }
 
 // The data bytes were read, as many as there are and may be: the buffer is full; or they end, or the byte behind them is missing; or it is there.
-fn judge_data(
-    img: &[u8],
-    g: Geometry,
-    special: bool,
-    most: usize,
-    coming: usize,
-    sum: usize,
-    fetched: Fetch,
-) -> Part
-    requires standing { Standing img.now g fetched.spot }
-    requires coming_bound { (coming ≤ 512) × (sum ≤ 1024) × (fetched.sum ≤ 255 * 512) × (fetched.count ≤ 512) }
-    ensures { (s : List ℕ) → fetched.count ≡ min (limit_of (cond special Special Normal) most coming) (length s)
-        → fetched.sum ≡ sum_of (take (limit_of (cond special Special Normal) most coming) s)
-        → bytes_from img.now g fetched.spot ≡ drop (limit_of (cond special Special Normal) most coming) s
-        → Tells (data_found (cond special Special Normal) most coming sum s) result }
+fn judge_data(mode: LineMode, most: usize, coming: usize, sum: usize, fetched: Fetch<'_>) -> Part
+    requires { (coming ≤ 512) × (sum ≤ 1024) × (fetched.sum ≤ 255 * 512) × (fetched.count ≤ 512) }
+    ensures { (s : List ℕ) → fetched.entry.count ≡ min (limit_of mode most coming) (length s)
+        → fetched.entry.sum ≡ sum_of (take (limit_of mode most coming) s)
+        → rest fetched.entry.behind ≡ drop (limit_of mode most coming) s
+        → Tells (data_found mode most coming sum s) result }
 {
-    let behind = fetched.spot;
+    let behind = fetched.behind;
     let count = fetched.count;
     let total = sum + fetched.sum;
-    if special & ((count == most) & (most < coming)) {
+    if mode.is_special() & ((count == most) & (most < coming)) {
         return Part {
             count,
             status: 1,
@@ -93,7 +121,7 @@ fn judge_data(
         };
     }
     let short = line_read::bit_0((most < coming) & (most <= count));
-    if behind.left == 0 {
+    if behind.spot.left == 0 {
         return Part {
             count,
             status: short + 64,
@@ -102,7 +130,7 @@ fn judge_data(
             sum: 0,
         };
     }
-    let last = stream::byte_at(img, behind) as usize;
+    let last = behind.byte_at() as usize;
     Part {
         count,
         status: short + bit_1(total + last),
@@ -112,53 +140,44 @@ fn judge_data(
     }
 }
 
-// The data bytes to come, from a spot on.
-fn read_data(
-    img: &[u8],
-    g: Geometry,
-    start: Spot,
-    special: bool,
-    coming: usize,
-    sum: usize,
-    buffer: &mut [u8],
-) -> Part
-    requires standing { Standing img.now g start }
-    requires buffer_nonzero { (0 < length buffer.old) × (coming ≤ 512) × (sum ≤ 1024) }
-    ensures { ReadsAs (data_found (cond special Special Normal) (length buffer.old) coming sum (bytes_from img.now g start))
+// The data bytes to come.
+fn read_data(start: Tail<'_>, mode: LineMode, coming: usize, sum: usize, buffer: &mut [u8]) -> Part
+    requires { (0 < length buffer.old) × (coming ≤ 512) × (sum ≤ 1024) }
+    ensures { ReadsAs (data_found mode (length buffer.old) coming sum (rest start.entry))
         buffer.old buffer.new result }
 {
     let most = buffer.len();
-    let limit = limit_of(special, most, coming);
-    let fetched = fetching::fetch_data(img, g, start, limit, buffer);
-    judge_data(img, g, special, most, coming, sum, fetched)
+    let limit = limit_of(mode, most, coming);
+    let fetched = fetching::fetch_data(start, limit, buffer);
+    judge_data(mode, most, coming, sum, fetched)
 }
 
-// A new line, from a spot on: NULs, the header, the data.
-fn read_new(img: &[u8], g: Geometry, start: Spot, special: bool, buffer: &mut [u8]) -> Part
-    requires standing { Standing img.now g start }
-    requires buffer_nonzero { (0 < length buffer.old) × (length (bytes_from img.now g start) ≤ most_bytes) }
-    ensures { ReadsAs (binary_found (cond special Special Normal) (length buffer.old) 0 0 (bytes_from img.now g start))
+// A new line: NULs, the header, the data.
+fn read_new(start: Tail<'_>, mode: LineMode, buffer: &mut [u8]) -> Part
+    requires { (0 < length buffer.old) × (length (rest start) ≤ most_bytes) }
+    ensures { ReadsAs (binary_found mode (length buffer.old) 0 0 (rest start.entry))
         buffer.old buffer.new result }
 {
-    let begin = heading::skip_nuls(img, g, start);
+    let begin = heading::skip_nuls(start);
     let nuls = begin.nuls;
-    match heading::read_header(img, g, begin.spot) {
-        Heading::Cut(there) => Part {
+    match heading::read_header(begin.line) {
+        Err(HeadingFault::Cut(there)) => Part {
             count: 0,
             status: 64,
             passed: nuls + there,
             coming: 0,
             sum: 0,
         },
-        Heading::Wrong => Part {
+        Err(HeadingFault::Wrong) => Part {
             count: 0,
             status: 4,
             passed: 0,
             coming: 0,
             sum: 0,
         },
-        Heading::Counts(many, sum, spot) => {
-            let part = read_data(img, g, spot, special, many, sum, buffer);
+        Ok(headed) => {
+            let many = headed.many;
+            let part = read_data(headed.behind, mode, many, headed.sum, buffer);
             Part {
                 count: part.count,
                 status: part.status,
@@ -171,25 +190,16 @@ fn read_new(img: &[u8], g: Geometry, start: Spot, special: bool, buffer: &mut [u
 }
 
 // "the length still to come and the sum so far are given back and passed in again, 0 and 0 for a new line".
-fn read_part(
-    img: &[u8],
-    g: Geometry,
-    start: Spot,
-    special: bool,
-    coming: usize,
-    sum: usize,
-    buffer: &mut [u8],
-) -> Part
-    requires standing { Standing img.now g start }
-    requires buffer_nonzero { (0 < length buffer.old) × (length (bytes_from img.now g start) ≤ most_bytes) }
+fn read_part(start: Tail<'_>, mode: LineMode, coming: usize, sum: usize, buffer: &mut [u8]) -> Part
+    requires buffer_nonzero { (0 < length buffer.old) × (length (rest start) ≤ most_bytes) }
     requires coming_bound { (coming ≤ 511) × (sum ≤ 255) × (coming ≡ 0 → sum ≡ 0) }
-    ensures { ReadsAs (binary_found (cond special Special Normal) (length buffer.old) coming sum (bytes_from img.now g start))
+    ensures { ReadsAs (binary_found mode (length buffer.old) coming sum (rest start.entry))
         buffer.old buffer.new result }
 {
     if coming == 0 {
-        return read_new(img, g, start, special, buffer);
+        return read_new(start, mode, buffer);
     }
-    read_data(img, g, start, special, coming, sum, buffer)
+    read_data(start, mode, coming, sum, buffer)
 }
 
 fn is_given_wrong(coming: usize, sum: usize) -> bool
@@ -207,9 +217,10 @@ pub fn binary_read(
     coming: usize,
     sum: usize,
     buffer: &mut [u8],
-) -> BinaryAnswer
-    ensures code_value { result.code ≡ (binary_read img.now key caller mode position coming sum buffer.old).code }
-    ensures sum_value { (result.count ∷ (result.status ∷ (result.position ∷ (result.coming ∷ (result.sum ∷ [])))))
+) -> Result<BinaryRead, Refusal>
+    ensures code_value { (binary_answer result).code ≡ (binary_read img.now key caller mode position coming sum buffer.old).code }
+    ensures sum_value { ((binary_answer result).count ∷ ((binary_answer result).status ∷ ((binary_answer result).position
+        ∷ ((binary_answer result).coming ∷ ((binary_answer result).sum ∷ [])))))
         ≡ (binary_read img.now key caller mode position coming sum buffer.old).numbers }
     ensures buffer_after { buffer.new ≡ (binary_read img.now key caller mode position coming sum buffer.old).buffer }
 {
@@ -217,20 +228,6 @@ pub fn binary_read(
     binary_read_opened(
         img, opened, key, caller, mode, position, coming, sum, buffer,
     )
-}
-
-fn refused(code: usize) -> BinaryAnswer
-    ensures code_value { result.code ≡ code }
-    ensures sum_value { (result.count ∷ (result.status ∷ (result.position ∷ (result.coming ∷ (result.sum ∷ []))))) ≡ 0 ∷ (0 ∷ (0 ∷ (0 ∷ (0 ∷ [])))) }
-{
-    BinaryAnswer {
-        code,
-        count: 0,
-        status: 0,
-        position: 0,
-        coming: 0,
-        sum: 0,
-    }
 }
 
 // In a pack that was opened.
@@ -244,32 +241,28 @@ pub fn binary_read_opened(
     coming: usize,
     sum: usize,
     buffer: &mut [u8],
-) -> BinaryAnswer
+) -> Result<BinaryRead, Refusal>
     requires { opened ≡ opened_of img.now }
-    ensures code_value { result.code ≡ (binary_read img.now key caller mode position coming sum buffer.old).code }
-    ensures sum_value { (result.count ∷ (result.status ∷ (result.position ∷ (result.coming ∷ (result.sum ∷ [])))))
+    ensures code_value { (binary_answer result).code ≡ (binary_read img.now key caller mode position coming sum buffer.old).code }
+    ensures sum_value { ((binary_answer result).count ∷ ((binary_answer result).status ∷ ((binary_answer result).position
+        ∷ ((binary_answer result).coming ∷ ((binary_answer result).sum ∷ [])))))
         ≡ (binary_read img.now key caller mode position coming sum buffer.old).numbers }
     ensures buffer_after { buffer.new ≡ (binary_read img.now key caller mode position coming sum buffer.old).buffer }
 {
     let wrong = ((buffer.len() == 0) | (1 < mode)) | is_given_wrong(coming, sum);
-    match linked_read::ask_linked_read(img, opened, key, caller, wrong) {
-        Asked::Refused(code) => {
-            return refused(code);
-        }
-        Asked::File(g, _, x) => {
-            if stream::bytes_in(g, x) < position {
-                return refused(0o44);
-            }
-            let spot = stream::locate(img, g, x, position);
-            let part = read_part(img, g, spot, mode == 1, coming, sum, buffer);
-            return BinaryAnswer {
-                code: 0,
-                count: part.count,
-                status: part.status,
-                position: position + part.passed,
-                coming: part.coming,
-                sum: part.sum,
-            };
-        }
+    let found = linked_read::ask_linked_read(img, opened, key, caller, wrong)?;
+    let g = found.geometry;
+    let x = found.entry;
+    if stream::bytes_in(g, x) < position {
+        return Err(Refusal::NoSuchBlock);
     }
+    let tail = stream::locate(View { img, g }, x, position);
+    let part = read_part(tail, LineMode::from(mode), coming, sum, buffer);
+    Ok(BinaryRead {
+        count: part.count,
+        status: part.status,
+        position: position + part.passed,
+        coming: part.coming,
+        sum: part.sum,
+    })
 }

@@ -1,15 +1,16 @@
 // Writing a formatted binary line: its header, its data and the byte that makes the sum of all 0 modulo 256, laid one behind another.
 ghost use Rattle.std.specs.Prelude.{◌≡◌, [], ◌∷◌, ◌≤◌, length};
 ghost use Rattle.consistency.specs.ConsistentTest.{opened_of};
-ghost use Rattle.consistency.specs.Mapped.{Lent, MappedIf};
+ghost use Rattle.consistency.specs.Mapped.{MappedIf};
 ghost use Rattle.stream.specs.Filling.{Writable, Laying};
+ghost use Rattle.lines.specs.LineAnswers.{write_answer};
 ghost use Rattle.binary.specs.BinaryLine.{header_bytes, header_and_data, sum_byte, binary_line};
 ghost use Rattle.binary.specs.BinaryWriting.{binary_write};
 
 use crate::sums;
-use asking::Asked;
+use answers::Refusal;
 use consistency::Opened;
-use lines::line_write::WriteAnswer;
+use lines::line_write::LineWritten;
 use pack::{BlockNo, Geometry, Key};
 use stream::Filling;
 
@@ -70,44 +71,17 @@ pub fn binary_write(
     content: &[u8],
     gather: &mut [u8],
     filled: usize,
-) -> WriteAnswer
-    ensures code_value { result.code ≡ (binary_write img.old key caller content.now gather.old filled).code }
-    ensures filled_value { (result.count ∷ (result.status ∷ (result.filled ∷ [])))
+) -> Result<LineWritten, Refusal>
+    ensures code_value { (write_answer result).code ≡ (binary_write img.old key caller content.now gather.old filled).code }
+    ensures filled_value { ((write_answer result).count ∷ ((write_answer result).status ∷ ((write_answer result).filled ∷ [])))
         ≡ (binary_write img.old key caller content.now gather.old filled).numbers }
     ensures img_after { img.new ≡ (binary_write img.old key caller content.now gather.old filled).image }
     ensures gather_after { gather.new ≡ (binary_write img.old key caller content.now gather.old filled).buffer }
 {
-    if img.len() <= consistency::FEW_BYTES {
-        let mut map = [0u8; consistency::FEW_BLOCKS];
-        return binary_write_lent(img, &mut map, key, caller, content, gather, filled);
-    }
-    if img.len() <= consistency::MANY_BYTES {
-        let mut map = [0u8; consistency::MANY_BLOCKS];
-        return binary_write_lent(img, &mut map, key, caller, content, gather, filled);
-    }
-    let mut map = [0u8; pack::MOST_BLOCKS];
-    binary_write_lent(img, &mut map, key, caller, content, gather, filled)
-}
-
-// On a lent map.
-fn binary_write_lent(
-    img: &mut [u8],
-    map: &mut [u8],
-    key: Key,
-    caller: usize,
-    content: &[u8],
-    gather: &mut [u8],
-    filled: usize,
-) -> WriteAnswer
-    requires { Lent map.old img.old }
-    ensures code_value { result.code ≡ (binary_write img.old key caller content.now gather.old filled).code }
-    ensures filled_value { (result.count ∷ (result.status ∷ (result.filled ∷ [])))
-        ≡ (binary_write img.old key caller content.now gather.old filled).numbers }
-    ensures img_after { img.new ≡ (binary_write img.old key caller content.now gather.old filled).image }
-    ensures gather_after { gather.new ≡ (binary_write img.old key caller content.now gather.old filled).buffer }
-{
-    let opened = consistency::open_mapped(img, map);
-    binary_write_opened(img, map, opened, key, caller, content, gather, filled)
+    consistency::lend_map_beside(img, gather, |img, map, gather| {
+        let opened = consistency::open_mapped(img, map);
+        binary_write_opened(img, map, opened, key, caller, content, gather, filled)
+    })
 }
 
 // In a pack that was opened.
@@ -120,11 +94,11 @@ pub fn binary_write_opened(
     content: &[u8],
     gather: &mut [u8],
     filled: usize,
-) -> WriteAnswer
+) -> Result<LineWritten, Refusal>
     requires opened_value { opened ≡ opened_of img.old }
     requires mapped_if { MappedIf map.old img.old }
-    ensures code_value { result.code ≡ (binary_write img.old key caller content.now gather.old filled).code }
-    ensures filled_value { (result.count ∷ (result.status ∷ (result.filled ∷ [])))
+    ensures code_value { (write_answer result).code ≡ (binary_write img.old key caller content.now gather.old filled).code }
+    ensures filled_value { ((write_answer result).count ∷ ((write_answer result).status ∷ ((write_answer result).filled ∷ [])))
         ≡ (binary_write img.old key caller content.now gather.old filled).numbers }
     ensures img_after { img.new ≡ (binary_write img.old key caller content.now gather.old filled).image }
     ensures gather_after { gather.new ≡ (binary_write img.old key caller content.now gather.old filled).buffer }
@@ -132,7 +106,7 @@ pub fn binary_write_opened(
 {
     let count = content.len();
     let needed = stream::full_blocks(gather.len(), filled, count + 5);
-    match stream::ask_write(
+    let found = stream::ask_write(
         img,
         map,
         opened,
@@ -142,25 +116,17 @@ pub fn binary_write_opened(
         gather,
         filled,
         needed,
-    ) {
-        Asked::Refused(code) => WriteAnswer {
-            code,
-            count: 0,
-            status: 0,
-            filled: 0,
-        },
-        Asked::File(g, e, _) => {
-            let start = Filling {
-                filled,
-                from: BlockNo(g.blocks),
-            };
-            let at = lay_line(img, map, g, e, gather, start, content);
-            WriteAnswer {
-                code: 0,
-                count,
-                status: 0,
-                filled: at.filled,
-            }
-        }
-    }
+    )?;
+    let g = found.geometry;
+    let e = found.number;
+    let start = Filling {
+        filled,
+        from: BlockNo(g.blocks),
+    };
+    let at = lay_line(img, map, g, e, gather, start, content);
+    Ok(LineWritten {
+        count,
+        status: 0,
+        filled: at.filled,
+    })
 }

@@ -1,33 +1,40 @@
 // What stands before the data of a formatted binary line: NULs, which are skipped, and its header of two words.
 ghost use Rattle.std.specs.Prelude.{◌≡◌, ◌≤◌, length};
-ghost use Rattle.stream.specs.Spot.{bytes_from, most_bytes, Standing};
+ghost use Rattle.stream.specs.Spot.{most_bytes};
+ghost use Rattle.stream.specs.Tail.{rest};
 ghost use Rattle.binary.specs.BinaryRead.{nuls_before, count_read, header_of};
 ghost use Rattle.binary.specs.Heading.{LineBegins, WordStands, HeadingStands};
 
-use pack::Geometry;
-use stream::Spot;
+use stream::Tail;
 
 // Where a line begins, and how many NULs stand before it.
 #[derive(Clone, Copy)]
-pub struct Begin {
+pub struct Begin<'a> {
     pub nuls: usize,
-    pub spot: Spot,
+    pub line: Tail<'a>,
 }
 
-// Two bytes and what stands behind them, or how many bytes there are where that are less than two.
+// A word of the header and what stands behind it.
 #[derive(Clone, Copy)]
-pub enum Word {
-    Cut(usize),
-    Bytes(u8, u8, Spot),
+pub struct Word<'a> {
+    pub low: u8,
+    pub high: u8,
+    pub behind: Tail<'a>,
 }
 
-// How many bytes there are where they end inside the header; a word of it is wrong; or how many data bytes it counts, the sum of its own bytes,
-// and what stands behind it.
+// How many data bytes a header counts, the sum of its own bytes, and what stands behind it.
 #[derive(Clone, Copy)]
-pub enum Heading {
+pub struct Heading<'a> {
+    pub many: usize,
+    pub sum: usize,
+    pub behind: Tail<'a>,
+}
+
+// Why there is no header: the bytes end inside it, and so many are there; or a word of it is wrong.
+#[derive(Clone, Copy, Debug, PartialEq, Eq)]
+pub enum HeadingFault {
     Cut(usize),
     Wrong,
-    Counts(usize, usize, Spot),
 }
 
 // How many NULs a part begins with.
@@ -35,101 +42,90 @@ fn nuls_in(part: &[u8]) -> usize
     ensures value { result ≡ nuls_before part.now }
     ensures upper_bound { result ≤ length part.now }
 {
-    let mut i = 0;
-    while i < part.len() {
-        if part[i] != 0 {
-            return i;
-        }
-        i += 1;
-    }
-    i
+    part.iter()
+        .position(|byte| *byte != 0)
+        .unwrap_or(part.len())
 }
 
 // "NULs before a line are skipped."
-pub fn skip_nuls(img: &[u8], g: Geometry, start: Spot) -> Begin
-    requires standing { Standing img.now g start }
-    requires start_len_bound { length (bytes_from img.now g start) ≤ most_bytes }
-    ensures { LineBegins img.now g (bytes_from img.now g start) result }
+pub fn skip_nuls(start: Tail<'_>) -> Begin<'_>
+    requires { length (rest start) ≤ most_bytes }
+    ensures { LineBegins (rest start.entry) result }
 {
-    let mut spot = start;
+    let mut tail = start;
     let mut nuls = 0;
-    while 0 < spot.left {
-        let block = spot.block;
-        let at = spot.at;
-        let end = spot.end;
+    while 0 < tail.spot.left {
+        let img = tail.img;
+        let at = tail.spot.at;
+        let end = tail.spot.end;
         let here = nuls_in(&img[at..end]);
         nuls += here;
         if at + here < end {
             return Begin {
                 nuls,
-                spot: Spot {
-                    block,
-                    left: spot.left,
-                    at: at + here,
-                    end,
-                },
+                line: tail.go_on(here),
             };
         }
-        spot = stream::next_payload(img, g, spot);
+        tail = tail.next_payload();
     }
-    Begin { nuls, spot }
+    Begin { nuls, line: tail }
 }
 
-fn read_word(img: &[u8], g: Geometry, start: Spot) -> Word
-    requires { Standing img.now g start }
-    ensures { WordStands img.now g (bytes_from img.now g start) result }
+fn read_word(start: Tail<'_>) -> Result<Word<'_>, HeadingFault>
+    ensures { WordStands (rest start.entry) result }
 {
-    if start.left == 0 {
-        return Word::Cut(0);
+    if start.spot.left == 0 {
+        return Err(HeadingFault::Cut(0));
     }
-    let low = stream::byte_at(img, start);
-    let behind = stream::step(img, g, start);
-    if behind.left == 0 {
-        return Word::Cut(1);
+    let low = start.byte_at();
+    let next = start.step();
+    if next.spot.left == 0 {
+        return Err(HeadingFault::Cut(1));
     }
-    let high = stream::byte_at(img, behind);
-    Word::Bytes(low, high, stream::step(img, g, behind))
+    let high = next.byte_at();
+    let behind = next.step();
+    Ok(Word { low, high, behind })
 }
 
 // "a count word of 4 plus the data bytes, low byte first"; "a count not 4 to 516" is wrong.
-fn read_count(img: &[u8], g: Geometry, start: Spot) -> Heading
-    requires { Standing img.now g start }
-    ensures { HeadingStands img.now g (bytes_from img.now g start) (count_read (bytes_from img.now g start)) 2 result }
+fn read_count(start: Tail<'_>) -> Result<Heading<'_>, HeadingFault>
+    ensures { HeadingStands (rest start.entry) (count_read (rest start.entry)) 2 result }
 {
-    match read_word(img, g, start) {
-        Word::Cut(there) => Heading::Cut(there),
-        Word::Bytes(low, high, behind) => {
-            let word = low as usize + 256 * (high as usize);
-            if word < 4 {
-                return Heading::Wrong;
-            }
-            if 516 < word {
-                return Heading::Wrong;
-            }
-            Heading::Counts(word - 4, low as usize + high as usize, behind)
-        }
+    let word = read_word(start)?;
+    let low = word.low as usize;
+    let high = word.high as usize;
+    let count = low + 256 * high;
+    if count < 4 {
+        return Err(HeadingFault::Wrong);
     }
+    if 516 < count {
+        return Err(HeadingFault::Wrong);
+    }
+    Ok(Heading {
+        many: count - 4,
+        sum: low + high,
+        behind: word.behind,
+    })
 }
 
 // The header, word by word: a first word that is there is judged though nothing follows.
-pub fn read_header(img: &[u8], g: Geometry, start: Spot) -> Heading
-    requires { Standing img.now g start }
-    ensures { HeadingStands img.now g (bytes_from img.now g start) (header_of (bytes_from img.now g start)) 4 result }
+pub fn read_header(start: Tail<'_>) -> Result<Heading<'_>, HeadingFault>
+    ensures { HeadingStands (rest start.entry) (header_of (rest start.entry)) 4 result }
 {
-    match read_word(img, g, start) {
-        Word::Cut(there) => Heading::Cut(there),
-        Word::Bytes(low, high, behind) => {
-            if low != 1 {
-                return Heading::Wrong;
-            }
-            if high != 0 {
-                return Heading::Wrong;
-            }
-            match read_count(img, g, behind) {
-                Heading::Cut(there) => Heading::Cut(2 + there),
-                Heading::Wrong => Heading::Wrong,
-                Heading::Counts(many, sum, data) => Heading::Counts(many, 1 + sum, data),
-            }
-        }
+    let word = read_word(start)?;
+    if word.low != 1 {
+        return Err(HeadingFault::Wrong);
+    }
+    if word.high != 0 {
+        return Err(HeadingFault::Wrong);
+    }
+    match read_count(word.behind) {
+        Err(HeadingFault::Cut(there)) => Err(HeadingFault::Cut(2 + there)),
+        Err(HeadingFault::Wrong) => Err(HeadingFault::Wrong),
+        Ok(counted) => Ok(Heading {
+            many: counted.many,
+            sum: 1 + counted.sum,
+            behind: counted.behind,
+        }),
     }
 }

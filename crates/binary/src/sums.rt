@@ -11,10 +11,8 @@ pub fn sum_of(part: &[u8]) -> usize
     ensures upper_bound { result ≤ 255 * length part.now }
 {
     let mut sum = 0u32;
-    let mut i = 0;
-    while i < part.len() {
-        sum += part[i] as u32;
-        i += 1;
+    for byte in part {
+        sum += *byte as u32;
     }
     sum as usize
 }

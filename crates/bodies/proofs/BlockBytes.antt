@@ -31,12 +31,6 @@ room_of img g b sized below =
       small = omega (arith, sized.long, few_words sized.most sized.few);
     }
 
--- the part that the code takes, from byte `start` on as many bytes as a buffer has
-pub part_taken : (img : List ℕ) (start count : ℕ) → take (start + count - start) (drop start img) ≡ part_of img start count
-part_taken img start count =
-    let size : start + count - start ≡ count = omega arith in
-    ap (λ (n : ℕ). take n (drop start img)) size
-
 -- the image when the part that was lent is back, filled
 pub part_written : (img put part : List ℕ) (start : ℕ) → part ≡ put → put_mid start (start + length put - start) img part ≡ with_part img start put
 part_written img put part start filled =

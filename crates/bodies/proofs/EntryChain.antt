@@ -1,6 +1,6 @@
 -- The three words of an entry that say where its chain is: written one after another, what they keep, and what is read afterwards.
 use Prim.Native.Nat.{ℕ, ◌+◌, ◌≤◌, ◌<◌}
-use mathlib.Core.Path.{◌≡◌, refl, ap, ◌∙◌}
+use mathlib.Core.Path.{◌≡◌, refl, ◌∙◌}
 use mathlib.Core.Bool.{cond}
 use mathlib.Core.List.{List}
 use native.Mathlib.Omega.{arith}
@@ -22,11 +22,6 @@ use Rattle.frame.specs.Growth.{Resized}
 use Rattle.frame.proofs.ChangesWritten.{changes_then, changes_either, changes_word}
 use Rattle.pack.proofs.EntryWordsWritten.{entry_set_same, entry_set_other}
 use Rattle.bodies.specs.EntryChain.{resized}
-
--- three words, one after another
-pub resized_by : (img : List ℕ) (g : Geometry) (e first size last : ℕ) (one two three : List ℕ)
-    → one ≡ set_entry_word img g e 6 first → two ≡ set_entry_word one g e 7 size → three ≡ set_entry_word two g e 8 last → three ≡ resized img g e first size last
-resized_by img g e first size last one two three a b c = c ∙ ap (λ (s : List ℕ). set_entry_word s g e 8 last) (b ∙ ap (λ (s : List ℕ). set_entry_word s g e 7 size) a)
 
 module _ {May : ℕ → Type 0} where
   -- its first block, its length and its last block, and, of a file that has blocks, the link of the last

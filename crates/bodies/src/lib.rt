@@ -10,7 +10,7 @@ ghost use Rattle.pack.specs.File.{blocks_of, count};
 ghost use Rattle.bodies.specs.BlockBytes.{block_start, part_of, with_part};
 ghost use Rattle.bodies.specs.EntryChain.{resized};
 
-use pack::{BlockNo, Entry, Geometry, Place};
+use pack::{BlockNo, Entry, Geometry, Place, View};
 
 // "its payload is the 510 bytes that start at byte 2 of a block": the byte behind the link.
 pub const PAYLOAD: usize = 2;
@@ -39,23 +39,18 @@ pub fn block_bytes_of(img: &[u8]) -> usize
 pub fn payload_bytes_of(img: &[u8]) -> usize
     ensures { result ≡ payload_bytes (geometry_of img.now) }
 {
-    let bytes = block_bytes_of(img);
-    if bytes < PAYLOAD {
-        return 0;
-    }
-    bytes - PAYLOAD
+    block_bytes_of(img).saturating_sub(PAYLOAD)
 }
 
 // As many bytes of a block as the buffer has, from byte `from` of the block on: a block from byte 0, a payload from behind its link.
-pub fn read_part(img: &[u8], g: Geometry, b: BlockNo, from: usize, buffer: &mut [u8])
-    requires sized { Sized img.now g }
-    requires b_lt_blocks { (b.0 < g.blocks) × (from + length buffer.old ≤ block_bytes g) }
-    ensures { buffer.new ≡ part_of img.now (block_start g b.0 + from) (length buffer.old) }
+pub fn read_part(view: View<'_>, b: BlockNo, from: usize, buffer: &mut [u8])
+    requires b_lt_blocks { (b.0 < view.g.blocks) × (from + length buffer.old ≤ block_bytes view.g) }
+    ensures { buffer.new ≡ part_of view.entry.img.now (block_start view.entry.g b.0 + from) (length buffer.old) }
 {
-    let segments = g.segments;
+    let segments = view.g.segments;
     let start = b.0 * segments.bytes() + from;
     let end = start + buffer.len();
-    words::fill(buffer, &img[start..end]);
+    buffer.copy_from_slice(&view.img[start..end]);
 }
 
 // The bytes that are written are lent as they stand in the image, and no others.
@@ -67,23 +62,18 @@ pub fn write_part(img: &mut [u8], g: Geometry, b: BlockNo, from: usize, buffer: 
     let segments = g.segments;
     let start = b.0 * segments.bytes() + from;
     let end = start + buffer.len();
-    words::fill(&mut img[start..end], buffer);
+    img[start..end].copy_from_slice(buffer);
 }
 
 // The block of a file at a place, from block to block: as many steps as the place says, so that the walk ends on any chain.
-pub fn block_at(img: &[u8], g: Geometry, x: Entry, place: Place) -> BlockNo
-    requires sized { Sized img.now g }
-    requires by_index { (z : ℕ) → 0 < count z (blocks_of img.now g x) → z < g.blocks }
+pub fn block_at(view: View<'_>, x: Entry, place: Place) -> BlockNo
+    requires by_index { (z : ℕ) → 0 < count z (blocks_of view.img.now view.g x) → z < view.g.blocks }
     requires place_lt_length { place.0 < x.length }
-    ensures { result.0 ≡ get_or (blocks_of img.now g x) place.0 0 }
+    ensures { result.0 ≡ get_or (blocks_of view.entry.img.now view.entry.g x) place.0 0 }
 {
-    let end = place.0;
-    let kind = x.kind;
-    let mut passed = 0;
     let mut at = x.first;
-    while passed < end {
-        at = pack::next_block(img, g, kind, at);
-        passed += 1;
+    for _ in 0..place.0 {
+        at = view.next_block(x.kind, at);
     }
     at
 }

@@ -5,15 +5,10 @@ use mathlib.Core.List.{List, [], ◌∷◌, ◌++◌, append_assoc, append-nil}
 use mathlib.Core.Bool.{Bool, true, false, cond}
 use native.Mathlib.Numerals.{add-one}
 use native.Mathlib.Omega.{arith}
-use borrow.Author.Tests.{ne_eqb}
 use lib.ListN.{length, take, drop, get_or, set, drop_of_length-le}
 use lib.Seq.{drop-cons, take-suc-set, length-take-le}
 use Rattle.command.specs.Condensed.{is_dropped, condensed}
 use Rattle.command.specs.Laid.{LaidOne, CondensedTo}
-
-pub between_kept : (x : ℕ) → 33 ≤ x → x ≤ 126 → false ≡ is_dropped x
-between_kept x low high =
-    rw (ne_eqb x 32 (λ is. omega arith), ne_eqb x 9 (λ is. omega arith), ne_eqb x 0 (λ is. omega arith), ne_eqb x 127 (λ is. omega arith))
 
 -- one character and the rest
 by_character : (x : ℕ) (line : List ℕ) → condensed (x ∷ line) ≡ condensed (x ∷ []) ++ condensed line
@@ -45,9 +40,6 @@ keep_laid characters count x inside is =
 pub record Laid (line characters : List ℕ) (count i : ℕ) : Type 0 where
   pub few : count ≤ i
   pub due : take count characters ++ condensed (drop i line) ≡ condensed line
-
-pub laid_start : (line characters : List ℕ) → Laid line characters 0 0
-laid_start line characters = record { few = omega arith; due = refl }
 
 pub laid_next : {line characters after : List ℕ} {count next i : ℕ} → i < length line → Laid line characters count i
     → LaidOne characters after count next (get_or line i 0) → Laid line after next (i + 1)

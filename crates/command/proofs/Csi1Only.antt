@@ -16,7 +16,7 @@ use Rattle.command_grammar.proofs.LinePlace.{place_one, not_read}
 use Rattle.command.specs.Condensed.{condensed, raw_limit, line_limit, TooLong}
 use Rattle.command.specs.Csi1.{condensing_answer, Csi1Answered}
 use Rattle.command.specs.Csi1 as One
-use Rattle.command.specs.declared.csi1.Condensing.TheVariants as C
+use Rattle.command.specs.Condensing as C
 
 -- its cases, each with what it answers and leaves
 abbrev Csi1Ladder : List ℕ → List ℕ → Answer × List ℕ → Type 0

@@ -15,7 +15,7 @@ use Rattle.command.specs.Condensed.{line_limit}
 use Rattle.command.specs.Csi2.{refusal, asking_answer, FoundAt, Csi2Answered}
 use Rattle.command.specs.Csi2 as Two
 use Rattle.command.specs.declared.csi2.SpecificationAnswer.{SpecificationAnswer}
-use Rattle.command.specs.declared.csi2.Asking.TheVariants as A
+use Rattle.command.specs.Asking as A
 use Rattle.command.proofs.Csi2Only.{csi2_answered_one}
 
 module _ (line : List ℕ) (fits : length line ≤ line_limit) (side k : ℕ) (buffer : List ℕ) (answer : SpecificationAnswer) (after : List ℕ)

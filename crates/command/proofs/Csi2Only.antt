@@ -20,7 +20,7 @@ use Rattle.command.specs.Condensed.{line_limit}
 use Rattle.command.specs.Csi2.{refusal, asking_answer, FoundAt, Csi2Answered}
 use Rattle.command.specs.Csi2 as Two
 use Rattle.command.specs.declared.csi2.SpecificationAnswer.{SpecificationAnswer}
-use Rattle.command.specs.declared.csi2.Asking.TheVariants as A
+use Rattle.command.specs.Asking as A
 
 module _ {line : List ℕ} {side k : ℕ} where
   -- one thing is found at a place

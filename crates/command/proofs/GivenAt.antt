@@ -24,7 +24,7 @@ use Rattle.command_switches.proofs.EncodedRoom.{specification_short}
 use Rattle.command.specs.Condensed.{line_limit}
 use Rattle.command.specs.GivenAt.{GivenAt, SpecificationAt, SwitchesAt, LacksRoom}
 use Rattle.command.specs.GivenAt as Q
-use Rattle.command.specs.declared.csi2.Asking.TheVariants as A
+use Rattle.command.specs.Asking as A
 
 moved_back : (at : ℕ) (r : Res Specification) (v : Specification) (end : ℕ) → moved at r ≡ ok v end → (n : ℕ) × (r ≡ ok v n)
 moved_back at (ok w n) v end is = (n, let z : w ≡ v = cc in ap (λ (u : Specification). ok u n) z)
@@ -54,10 +54,6 @@ module _ {line : List ℕ} {start : ℕ} where
         let short = stands_short line s.at s.what.what s.what.end s.what.stands in
         sym (le-ltb room (length (encoded ws)) (omega (arith, short, ap (λ (l : List Switch). length (encoded l)) same)));
   }
-
-  pub room_measured : (room : ℕ) {bytes : ℕ} → ((ws : List Switch) (end : ℕ) → from (many (is slash) switch) line start ≡ ok ws end → bytes ≡ length (encoded ws))
-      → LacksRoom line start room (ltb room bytes)
-  room_measured room measured = record { tells = λ ws end stand. ap (ltb room) (measured ws end stand) }
 
 -- the specification that stands at a place, its parts, and whether there is room for its switches
 module _ {line : List ℕ} {at : ℕ} (s : SpecificationAt line at) {x : Parts} (parts : PartsAt line at x) where

@@ -20,7 +20,7 @@ use Rattle.command_parts.specs.declared.Numbers.{Numbers}
 use Rattle.command_parts.specs.Numbers.{numbers_of, device_word, unit_of, name_first, name_second, extension_word, group_of, user_of, is_present, is_extended, bit, present_bits}
 use Rattle.command.specs.Csi2.{asking_answer}
 use Rattle.command.specs.Known.{Pair, pair_of, DecodedSwitch, value_numbers, switch_numbers, Known, known_of}
-use Rattle.command.specs.declared.csi2.Asking.TheVariants as A
+use Rattle.command.specs.Asking as A
 
 -- names and their words
 

@@ -5,8 +5,8 @@ use Rattle.answers.specs.declared.Answer.{Answer}
 use Rattle.command_grammar.specs.Reading.{Reading, Reads, OverBound}
 use Rattle.command_grammar.specs.LinePlace.{LinePlace}
 use Rattle.command.specs.Condensed.{condensed, TooLong}
-use Rattle.command.specs.declared.csi1.Condensing.{Condensing}
-use Rattle.command.specs.declared.csi1.Condensing.TheVariants as C
+use Rattle.command.specs.Condensing.{Condensing}
+use Rattle.command.specs.Condensing as C
 
 -- the code, and the number: "Success returns the condensed length", 50 "with the place", which "is given with 50 only"
 abbrev pub condensing_answer : Condensing → Answer

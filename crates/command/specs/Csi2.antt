@@ -9,8 +9,8 @@ use Rattle.command_parts.specs.Numbers.{numbers_of}
 use Rattle.command.specs.Condensed.{line_limit}
 use Rattle.command_switches.specs.Encoded.{encoded}
 use Rattle.command.specs.declared.csi2.SpecificationAnswer.{SpecificationAnswer}
-use Rattle.command.specs.declared.csi2.Asking.{Asking}
-use Rattle.command.specs.declared.csi2.Asking.TheVariants as A
+use Rattle.command.specs.Asking.{Asking}
+use Rattle.command.specs.Asking as A
 
 -- a refusal: its code, the place "with 50 only", "any other number in the answer 0"
 abbrev pub refusal : ℕ → ℕ → SpecificationAnswer

@@ -6,8 +6,8 @@ use Rattle.command_grammar.specs.Reader.{is, ok, many, switch, specification, fr
 use Rattle.command_parts.specs.CappedParts.{capped_specification}
 use Rattle.command_parts.specs.Numbers.{numbers_of}
 use Rattle.command_switches.specs.Encoded.{encoded}
-use Rattle.command.specs.declared.csi2.Asking.{Asking}
-use Rattle.command.specs.declared.csi2.Asking.TheVariants as A
+use Rattle.command.specs.Asking.{Asking}
+use Rattle.command.specs.Asking as A
 
 -- "52, switch buffer too short"; else its numbers, as far as 256, and the bytes of its switches
 pub data SpecificationGiven (v : Specification) (buffer : List ℕ) : Asking → List ℕ → Type 0 where

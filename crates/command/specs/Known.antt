@@ -6,7 +6,7 @@ use Rattle.words.specs.Word.{word_at}
 use Rattle.command_parts.specs.Numbers.{numbers_of}
 use Rattle.command.specs.Csi2.{asking_answer, Csi2Answered}
 use Rattle.command.specs.declared.csi2.SpecificationAnswer.{SpecificationAnswer}
-use Rattle.command.specs.declared.csi2.Asking.TheVariants as A
+use Rattle.command.specs.Asking as A
 
 -- a name, or a value, of up to 6 characters is two words
 pub record Pair : Type 0 where

@@ -3,23 +3,11 @@ ghost use Rattle.std.specs.Prelude.{◌≡◌, ◌<◌, ◌≤◌, length};
 ghost use Rattle.command.specs.Condensed.{is_dropped};
 ghost use Rattle.command.specs.Laid.{LaidOne, CondensedTo};
 
-// "blank, TAB, NUL and RUBOUT". The many that lie between blank and RUBOUT are told first.
+// "blank, TAB, NUL and RUBOUT"
 fn is_dropped(character: u8) -> bool
     ensures { result ≡ is_dropped character }
 {
-    if 33 <= character && character <= 126 {
-        return false;
-    }
-    if character == 32 {
-        return true;
-    }
-    if character == 9 {
-        return true;
-    }
-    if character == 0 {
-        return true;
-    }
-    character == 127
+    matches!(character, b' ' | b'\t' | 0 | 127)
 }
 
 // A character that is not dropped is laid behind the `count` that were kept before it.
@@ -40,10 +28,8 @@ pub fn condense(line: &[u8], characters: &mut [u8]) -> usize
     ensures { CondensedTo line.now characters.new result }
 {
     let mut count = 0;
-    let mut i = 0;
-    while i < line.len() {
-        count = keep(characters, count, line[i]);
-        i += 1;
+    for &character in line {
+        count = keep(characters, count, character);
     }
     count
 }

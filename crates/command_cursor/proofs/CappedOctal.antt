@@ -13,7 +13,7 @@ pub capped_low : (n : ℕ) → n < 256 → capped n ≡ n
 unfolding capped
 capped_low n low = rw (lt-ltb n 256 low)
 
-pub capped_high : (n : ℕ) → 256 ≤ n → capped n ≡ 256
+capped_high : (n : ℕ) → 256 ≤ n → capped n ≡ 256
 unfolding capped
 capped_high n high = rw (le-ltb n 256 high)
 

@@ -39,14 +39,6 @@ pub letters_named : {s : List ℕ} → All is_letter s → All is_letter_or_digi
 letters_named nil = nil
 letters_named (cons {c = x} p all) = cons {c = x} (rw p) (letters_named all)
 
-pub octal_digit : (x : ℕ) → is_octal x ≡ true → (48 ≤ x) × (x ≤ 55)
-octal_digit x is = by (leb 48 x) (leb x 55) refl refl is
-  where
-    by : (a b : Bool) → leb 48 x ≡ a → leb x 55 ≡ b → a && b ≡ true → (48 ≤ x) × (x ≤ 55)
-    by true true p q h = (leb-true 48 x p, leb-true x 55 q)
-    by true false p q h = let z : ◌≡◌ {A = ℕ} 0 1 = cc in absurd (omega arith)
-    by false b p q h = let z : ◌≡◌ {A = ℕ} 0 1 = cc in absurd (omega arith)
-
 -- letters and digits as the code comes to them: from 65 on letters only, below it digits only
 module _ (x : ℕ) where
   pub high_named : 65 ≤ x → x ≤ 90 → is_letter_or_digit x ≡ true

@@ -14,7 +14,7 @@ use Rattle.command_grammar.proofs.ReaderLeaves.{Word, of, run_reads, span_within
 use Rattle.command_grammar.proofs.ReaderPlaces.{from_word, from_word_no, one_place}
 use Rattle.command_cursor.specs.CursorAt.{part_at}
 use Rattle.command_cursor.specs.declared.Cursor.{Cursor}
-use Rattle.command_cursor.specs.declared.Part.TheVariants as P
+use Rattle.command_cursor.specs.Part as P
 use Rattle.command_cursor.proofs.Classes.{letters_named}
 
 found_from : (i : ℕ) (next : Cursor) (r : Res ℕ) → part_at i r ≡ P.Read next → (x : ℕ) × (moved i r ≡ ok x next.at)

@@ -1,4 +1,5 @@
 -- The laws of a cursor, and of what stands between two places of a line.
+pub mod Carried
 pub mod Classes
 pub mod CappedOctal
 pub mod NumberAt

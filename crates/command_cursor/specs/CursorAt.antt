@@ -2,8 +2,7 @@
 use Rattle.std.specs.Prelude.{ℕ, ◌+◌, List, Bool, cond, ◌&&◌, eqb, ltb, length, get_or}
 use Rattle.radix.specs.Names.{blank}
 use Rattle.command_grammar.specs.Reader.{Res, ok, no}
-use Rattle.command_cursor.specs.declared.Part.{Part}
-use Rattle.command_cursor.specs.declared.Part.TheVariants.{Read, Refused}
+use Rattle.command_cursor.specs.Part.{Part, Read, Refused}
 
 -- a reader that started at `at`
 abbrev pub part_at : {A : Type 0} → ℕ → Res A → Part

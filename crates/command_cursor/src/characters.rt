@@ -1,15 +1,15 @@
-// The characters that stand between the parts of a line, by their ASCII numbers.
-pub const COMMA: u8 = 44;
+// The characters that stand between the parts of a line.
+pub const COMMA: u8 = b',';
 
-pub const PERIOD: u8 = 46;
+pub const PERIOD: u8 = b'.';
 
-pub const SLASH: u8 = 47;
+pub const SLASH: u8 = b'/';
 
-pub const COLON: u8 = 58;
+pub const COLON: u8 = b':';
 
 // Before the input side.
-pub const LESS_THAN: u8 = 60;
+pub const LESS_THAN: u8 = b'<';
 
-pub const OPENING: u8 = 91;
+pub const OPENING: u8 = b'[';
 
-pub const CLOSING: u8 = 93;
+pub const CLOSING: u8 = b']';

@@ -6,11 +6,12 @@ pub mod characters;
 ghost use Rattle.std.specs.Prelude.{◌≡◌, true, ◌+◌, ◌-◌, ◌<◌, ◌≤◌, length, take, drop, get_or};
 ghost use Rattle.answers.specs.Missing.{or_else};
 ghost use Rattle.radix.specs.Characters.{code_of};
-ghost use Rattle.radix.specs.Names.{is_letter, is_digit, is_letter_or_digit};
+ghost use Rattle.radix.specs.Names.{is_letter, is_letter_or_digit};
 ghost use Rattle.command_grammar.specs.LineCharacters.{is_octal};
 ghost use Rattle.command_grammar.specs.Grammar.{All};
 ghost use Rattle.command_grammar.specs.Reader.{is, span, one_character};
 ghost use Rattle.command_cursor.specs.Capped.{capped};
+ghost use Rattle.command_cursor.specs.Part.{part_in};
 ghost use Rattle.command_cursor.specs.CursorAt.{part_at, stands_at, character_at};
 ghost use Rattle.command_cursor.specs.NumberAt.{NumberAt};
 ghost use Rattle.command_cursor.specs.FilledWord.{filled_word, first_word, second_word};
@@ -30,45 +31,29 @@ pub struct Number {
     pub next: Cursor,
 }
 
-// Where the cursor stands then, or the place of the refusal.
-#[derive(Clone, Copy)]
-pub enum Part {
-    Read(Cursor),
-    Refused(usize),
-}
-
-fn is_letter(character: u8) -> bool
-    ensures { result ≡ is_letter character }
-{
-    65 <= character && character <= 90
-}
-
-fn is_digit(character: u8) -> bool
-    ensures { result ≡ is_digit character }
-{
-    48 <= character && character <= 57
+// The place at which the grammar refuses the line.
+#[derive(Clone, Copy, Debug, PartialEq, Eq)]
+pub struct Misread {
+    pub place: usize,
 }
 
 fn is_octal(character: u8) -> bool
     ensures { result ≡ is_octal character }
 {
-    48 <= character && character <= 55
+    matches!(character, b'0'..=b'7')
 }
 
 fn capped(number: usize) -> usize
     ensures { result ≡ capped number }
 {
-    if number < 256 { number } else { 256 }
+    number.min(256)
 }
 
 // Whether a character stands at a place of the line.
 fn stands(line: &[u8], place: usize, character: u8) -> bool
     ensures { result ≡ stands_at line.now place character }
 {
-    if line.len() <= place {
-        return false;
-    }
-    line[place] == character
+    place < line.len() && line[place] == character
 }
 
 impl Cursor {
@@ -76,19 +61,14 @@ impl Cursor {
     pub fn letters(self, line: &[u8], most: usize) -> Self
         ensures { result.at ≡ self.at + span is_letter most (drop self.at line.now) }
     {
-        let mut i = self.at;
-        let mut left = most;
-        while 0 < left {
-            if line.len() <= i {
-                return Cursor { at: i };
+        let mut here = self;
+        for _ in 0..most {
+            if line.len() <= here.at || !line[here.at].is_ascii_uppercase() {
+                return here;
             }
-            if !is_letter(line[i]) {
-                return Cursor { at: i };
-            }
-            i += 1;
-            left -= 1;
+            here.at += 1;
         }
-        Cursor { at: i }
+        here
     }
 
     // Behind the letters and digits that stand here, at most so many. The tests stand here, letters first, and not in a function of their own: joined to
@@ -96,26 +76,22 @@ impl Cursor {
     pub fn named(self, line: &[u8], most: usize) -> Self
         ensures { result.at ≡ self.at + span is_letter_or_digit most (drop self.at line.now) }
     {
-        let mut i = self.at;
-        let mut left = most;
-        while 0 < left {
-            if line.len() <= i {
-                return Cursor { at: i };
+        let mut here = self;
+        for _ in 0..most {
+            if line.len() <= here.at {
+                return here;
             }
-            let character = line[i];
-            if 65 <= character {
-                if 90 < character {
-                    return Cursor { at: i };
+            let character = line[here.at];
+            if b'A' <= character {
+                if b'Z' < character {
+                    return here;
                 }
-            } else {
-                if !is_digit(character) {
-                    return Cursor { at: i };
-                }
+            } else if !character.is_ascii_digit() {
+                return here;
             }
-            i += 1;
-            left -= 1;
+            here.at += 1;
         }
-        Cursor { at: i }
+        here
     }
 
     // The octal number that stands here, as far as 256: digits of any length are read, and a number that keeps its bound is whole.
@@ -123,33 +99,28 @@ impl Cursor {
         ensures { NumberAt line.now self.at result }
     {
         let mut value = 0;
-        let mut i = self.at;
-        while i < line.len() {
-            let character = line[i];
+        let end = line.len().max(self.at);
+        for at in self.at..end {
+            let character = line[at];
             if !is_octal(character) {
-                return Number {
-                    value,
-                    next: Cursor { at: i },
-                };
+                let next = Cursor { at };
+                return Number { value, next };
             }
-            value = capped(value * 8 + (character - 48) as usize);
-            i += 1;
+            value = capped(value * 8 + (character - b'0') as usize);
         }
-        Number {
-            value,
-            next: Cursor { at: i },
-        }
+        let next = Cursor { at: end };
+        Number { value, next }
     }
 
     // Behind the character, if it stands here.
-    pub fn one(self, line: &[u8], character: u8) -> Part
-        ensures { result ≡ part_at self.at (one_character (is character) (drop self.at line.now)) }
+    pub fn one(self, line: &[u8], character: u8) -> Result<Cursor, Misread>
+        ensures { part_in result ≡ part_at self.at (one_character (is character) (drop self.at line.now)) }
     {
         let at = self.at;
         if stands(line, at, character) {
-            Part::Read(Cursor { at: at + 1 })
+            Ok(Cursor { at: at + 1 })
         } else {
-            Part::Refused(at)
+            Err(Misread { place: at })
         }
     }
 }
@@ -165,7 +136,7 @@ fn code_at(line: &[u8], place: usize, end: usize) -> usize
         return 0;
     }
     let character = line[place];
-    if 65 <= character {
+    if b'A' <= character {
         (character - 64) as usize
     } else {
         (character - 18) as usize

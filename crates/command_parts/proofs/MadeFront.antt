@@ -4,6 +4,7 @@ use mathlib.Core.Path.{◌≡◌, refl, sym, ap, ◌∙◌}
 use mathlib.Core.List.{List}
 use mathlib.Core.Option.{Option, none, some}
 use mathlib.Core.Bool.{Bool, true, false, cond}
+use Rattle.std.specs.Prelude.{Some, None}
 use native.Mathlib.Omega.{arith}
 use lib.Dec.{leb}
 use lib.ListN.{length, take, drop}
@@ -18,14 +19,14 @@ use Rattle.command_cursor.specs.CursorAt.{part_at}
 use Rattle.command_cursor.specs.FilledWord.{filled_word, first_word, second_word}
 use Rattle.command_cursor.specs.declared.Cursor.{Cursor}
 use Rattle.command_cursor.specs.declared.NameWords.{NameWords}
-use Rattle.command_cursor.specs.declared.Part.TheVariants as P
+use Rattle.command_cursor.specs.Part as P
 use Rattle.command_cursor.proofs.CursorAtRuns.{found, missed, found_place, run_up, run_within, run_found, run_most, named_run}
 use Rattle.command_parts.specs.Made.{extension_found, file_found}
 use Rattle.command_parts.specs.Passed.{extension, passing, unit_of_device, keeps_of}
-use Rattle.command_parts.specs.declared.front.ExtensionNumbers.{ExtensionNumbers}
-use Rattle.command_parts.specs.declared.front.FileNumbers.{FileNumbers}
-use Rattle.command_parts.specs.declared.passing.Passing.{Passing}
-use Rattle.command_parts.specs.declared.passing.Passing.TheVariants as W
+use Rattle.command_parts.specs.declared.reading.ReadAt.{ReadAt}
+use Rattle.command_parts.specs.declared.reading.FileNumbers.{FileNumbers}
+use Rattle.command_parts.specs.Passing.{Passing}
+use Rattle.command_parts.specs.Passing as W
 use Rattle.command_parts.proofs.Passed.{passing_ok, passing_no}
 use Rattle.command_parts.proofs.PassedFile.{extended, named, file_absent, file_present}
 use Rattle.command_parts.proofs.PassedHead.{head_with, moved_mapped}
@@ -33,7 +34,7 @@ use Rattle.command_parts.proofs.PassedHead.{head_with, moved_mapped}
 -- behind a name that ends at `i`: nothing, or a period and characters
 module _ (s : List ℕ) (i : ℕ) where
   pub extension_none : {p : ℕ} → part_at i (one_character (is period) (drop i s)) ≡ P.Refused p
-      → (x : Option (List ℕ)) (j : ℕ) → from extension s i ≡ ok x j → ◌≡◌ {A = ExtensionNumbers} (record { present = false; word = 0; next = record { at = i } })
+      → (x : Option (List ℕ)) (j : ℕ) → from extension s i ≡ ok x j → ◌≡◌ {A = ReadAt ℕ} (record { part = None; next = record { at = i } })
       (extension_found x j)
   unfolding extension_found
   extension_none {p} h x j stands =
@@ -60,8 +61,8 @@ module _ (s : List ℕ) (i : ℕ) where
         (y.2 ∙ ap some (z.2 ∙ w.1 ∙ ap (λ (n : ℕ). take n (drop a.at s)) long), w.0 ∙ sym q)
 
     pub extension_made : {w : ℕ} → w ≡ filled_word (take (e - a.at) (drop a.at s))
-        → (x : Option (List ℕ)) (j : ℕ) → from extension s i ≡ ok x j → ◌≡◌ {A = ExtensionNumbers}
-        (record { present = true; word = w; next = record { at = e } }) (extension_found x j)
+        → (x : Option (List ℕ)) (j : ℕ) → from extension s i ≡ ok x j → ◌≡◌ {A = ReadAt ℕ}
+        (record { part = Some w; next = record { at = e } }) (extension_found x j)
     unfolding extension_found
     extension_made is x j stands = let y = extension_parts stands in rw (y.0, y.1, is)
 
@@ -76,7 +77,7 @@ name_wordable s i e q z =
 -- a file: a name up to `e`, and what stands behind it
 module _ (s : List ℕ) (i e : ℕ) (q : e ≡ i + span is_letter_or_digit 6 (drop i s)) where
   pub file_none : e ≡ i → (f : Option FileName) (j : ℕ) → from file s i ≡ ok f j
-      → ◌≡◌ {A = FileNumbers} (record { present = false; extended = false; name1 = 0; name2 = 0; extension = 0; next = record { at = i } }) (file_found f j)
+      → ◌≡◌ {A = ReadAt FileNumbers} (record { part = None; next = record { at = i } }) (file_found f j)
   unfolding file_found
   file_none z f j stands =
       let told = sym (file_absent s i e q z) ∙ stands in
@@ -96,9 +97,9 @@ module _ (s : List ℕ) (i e : ℕ) (q : e ≡ i + span is_letter_or_digit 6 (dr
         (x.2, ap (from extension s) (sym ends) ∙ x.4, f.2 ∙ ap some (x.5 ∙ ap (λ (n : List ℕ). mk_file n x.2) name))
 
     pub file_made : {n : NameWords} → (n.first ≡ first_word (take (e - i) (drop i s))) × (n.second ≡ second_word (take (e - i) (drop i s)))
-        → (x : ExtensionNumbers) → ((y : Option (List ℕ)) (j : ℕ) → from extension s e ≡ ok y j → x ≡ extension_found y j)
+        → (x : ReadAt ℕ) → ((y : Option (List ℕ)) (j : ℕ) → from extension s e ≡ ok y j → x ≡ extension_found y j)
         → (f : Option FileName) (j : ℕ) → from file s i ≡ ok f j
-        → ◌≡◌ {A = FileNumbers} (record { present = true; extended = x.present; name1 = n.first; name2 = n.second; extension = x.word; next = x.next }) (file_found f j)
+        → ◌≡◌ {A = ReadAt FileNumbers} (record { part = Some (record { name1 = n.first; name2 = n.second; extension = x.part }); next = x.next }) (file_found f j)
     unfolding file_found extension_found
     file_made names x is f j stands = let y = file_parts stands in rw (y.2, names.0, names.1, is y.0 j y.1)
 

@@ -3,7 +3,7 @@ use Prim.Native.Nat.{ℕ, ◌+◌, ◌≤◌}
 use mathlib.Core.Path.{◌≡◌, sym, ap, ◌∙◌}
 use mathlib.Core.List.{List}
 use mathlib.Core.Option.{Option, none, some}
-use mathlib.Core.Bool.{true, false}
+use Rattle.std.specs.Prelude.{Some, None}
 use native.Mathlib.Omega.{arith}
 use lib.ListN.{length, drop}
 use Rattle.command_grammar.specs.LineCharacters.{is_octal, comma, opening, closing}
@@ -14,12 +14,13 @@ use Rattle.command_cursor.specs.CursorAt.{part_at}
 use Rattle.command_cursor.specs.NumberAt.{octals_at, NumberAt}
 use Rattle.command_cursor.specs.declared.Cursor.{Cursor}
 use Rattle.command_cursor.specs.declared.Number.{Number}
-use Rattle.command_cursor.specs.declared.Part.TheVariants as P
+use Rattle.command_cursor.specs.Part as P
 use Rattle.command_cursor.proofs.CursorAtRuns.{found, missed, found_place}
 use Rattle.command_cursor.proofs.NumberAt.{number_within}
 use Rattle.command_parts.specs.Made.{uic_found}
 use Rattle.command_parts.specs.Passed.{user, brackets}
-use Rattle.command_parts.specs.declared.bracket.UicNumbers.{UicNumbers}
+use Rattle.command_parts.specs.declared.reading.ReadAt.{ReadAt}
+use Rattle.command_parts.specs.declared.reading.UicNumbers.{UicNumbers}
 use Rattle.command_parts.proofs.PassedUic.{digits, last, body}
 
 -- digits, all of them
@@ -39,7 +40,7 @@ user_taken s c j h =
 
 module _ (s : List ℕ) (i : ℕ) where
   pub uic_none : {p : ℕ} → part_at i (one_character (is opening) (drop i s)) ≡ P.Refused p
-      → (u : Option Uic) (j : ℕ) → from brackets s i ≡ ok u j → ◌≡◌ {A = UicNumbers} (record { present = false; group = 0; user = 0; next = record { at = i } }) (uic_found u j)
+      → (u : Option Uic) (j : ℕ) → from brackets s i ≡ ok u j → ◌≡◌ {A = ReadAt UicNumbers} (record { part = None; next = record { at = i } }) (uic_found u j)
   unfolding uic_found
   uic_none {p} h u j stands =
       let told = sym (from_opt_missed opening uic s i p (missed opening s i p h)) ∙ stands in
@@ -72,6 +73,6 @@ module _ (s : List ℕ) (i : ℕ) where
           )
 
       pub uic_made : (u : Option Uic) (j : ℕ) → from brackets s i ≡ ok u j
-          → ◌≡◌ {A = UicNumbers} (record { present = true; group = x.value; user = y.value; next = record { at = y.next.at + 1 } }) (uic_found u j)
+          → ◌≡◌ {A = ReadAt UicNumbers} (record { part = Some (record { group = x.value; user = y.value }); next = record { at = y.next.at + 1 } }) (uic_found u j)
       unfolding uic_found
       uic_made u j stands = let t = uic_taken stands in rw (t.0, t.1, group.is, behind.is)

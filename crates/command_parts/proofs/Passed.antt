@@ -10,10 +10,10 @@ use Rattle.command_grammar.specs.Reader.{is, Res, ok, no, mapped, from, seq, opt
 use Rattle.command_grammar.proofs.ReaderPlaces.{from_seq, from_seq_no, from_opt_missed, from_opt_found}
 use Rattle.command_cursor.specs.CursorAt.{part_at}
 use Rattle.command_cursor.specs.declared.Cursor.{Cursor}
-use Rattle.command_cursor.specs.declared.Part.TheVariants as P
+use Rattle.command_cursor.specs.Part as P
 use Rattle.command_cursor.proofs.CursorAtRuns.{found, missed}
 use Rattle.command_parts.specs.Passed.{passed, passing, always}
-use Rattle.command_parts.specs.declared.passing.Passing.TheVariants as W
+use Rattle.command_parts.specs.Passing as W
 
 -- what is made of what was read does not matter
 pub passed_mapped : {A B : Type 0} (h : A → B) (r : Res A) → passed r ≡ passed (mapped h r)

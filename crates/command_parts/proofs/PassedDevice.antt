@@ -1,7 +1,8 @@
 -- A device, as the code passes over it and reads it: its letters end at `middle`, its digits begin there.
 use Prim.Native.Nat.{ℕ, ◌+◌, ◌-◌, ◌≤◌, ◌<◌}
 use mathlib.Core.Path.{◌≡◌, refl, ap, ◌∙◌}
-use mathlib.Core.Bool.{Bool, true, false}
+use mathlib.Core.Bool.{Bool}
+use Rattle.std.specs.Prelude.{Some, None}
 use mathlib.Core.List.{List}
 use native.Mathlib.Omega.{arith}
 use lib.Dec.{leb}
@@ -19,14 +20,15 @@ use Rattle.command_cursor.specs.FilledWord.{filled_word}
 use Rattle.command_cursor.specs.NumberAt.{octals_at, NumberAt}
 use Rattle.command_cursor.specs.declared.Cursor.{Cursor}
 use Rattle.command_cursor.specs.declared.Number.{Number}
-use Rattle.command_cursor.specs.declared.Part.TheVariants as P
+use Rattle.command_cursor.specs.Part as P
 use Rattle.command_cursor.proofs.CappedOctal.{capped_keeps}
 use Rattle.command_cursor.proofs.CursorAtRuns.{found, missed, run_up, run_found, run_most, run_read, run_short, letters_run}
 use Rattle.command_cursor.proofs.NumberAt.{number_read}
 use Rattle.command_parts.specs.Made.{device_found}
 use Rattle.command_parts.specs.Passed.{passing, always, unit_of_device}
-use Rattle.command_parts.specs.declared.front.DeviceNumbers.{DeviceNumbers}
-use Rattle.command_parts.specs.declared.passing.Passing.TheVariants as W
+use Rattle.command_parts.specs.declared.reading.ReadAt.{ReadAt}
+use Rattle.command_parts.specs.declared.reading.DeviceNumbers.{DeviceNumbers}
+use Rattle.command_parts.specs.Passing as W
 use Rattle.command_parts.proofs.Passed.{passing_on, passing_not}
 
 abbrev unit_and_colon : List ℕ → Res (List ℕ)
@@ -45,7 +47,7 @@ module _ (s : List ℕ) (i middle : ℕ) (m : middle ≡ i + span is_letter 3 (d
   unfolding device
   device_few few = from_seq_no mk_device (word 2 (span is_letter 3)) unit_and_colon s i middle (run_short is_letter 3 s i middle m 2 few)
 
-  pub no_letters : middle - i < 2 → ◌≡◌ {A = DeviceNumbers} (record { present = false; word = 0; unit = 0; next = record { at = i } }) (device_found i (from device s i))
+  pub no_letters : middle - i < 2 → ◌≡◌ {A = ReadAt DeviceNumbers} (record { part = None; next = record { at = i } }) (device_found i (from device s i))
   unfolding device_found
   no_letters few = rw (device_few few)
 
@@ -73,12 +75,12 @@ module _ (s : List ℕ) (i middle : ℕ) (m : middle ≡ i + span is_letter 3 (d
           (from_seq first (word 0 (span_all is_octal)) (one_character (is colon)) s middle (octals_at s middle) unit.next.at (number_read n 0 (omega arith)))
 
       pub no_colon : {p : ℕ} → part_at unit.next.at (one_character (is colon) (drop unit.next.at s)) ≡ P.Refused p
-          → ◌≡◌ {A = DeviceNumbers} (record { present = false; word = 0; unit = 0; next = record { at = i } }) (device_found i (from device s i))
+          → ◌≡◌ {A = ReadAt DeviceNumbers} (record { part = None; next = record { at = i } }) (device_found i (from device s i))
       unfolding device_found
       no_colon {p} h = rw (by_colon, missed colon s unit.next.at p h)
 
       pub device_made : {next : Cursor} → part_at unit.next.at (one_character (is colon) (drop unit.next.at s)) ≡ P.Read next
           → {w : ℕ} → w ≡ filled_word (take (middle - i) (drop i s))
-          → ◌≡◌ {A = DeviceNumbers} (record { present = true; word = w; unit = unit.value; next = next }) (device_found i (from device s i))
+          → ◌≡◌ {A = ReadAt DeviceNumbers} (record { part = Some (record { word = w; unit = unit.value }); next = next }) (device_found i (from device s i))
       unfolding device_found
       device_made {next} h is = rw (by_colon, (found colon s unit.next.at next h).1, is, n.is)

@@ -13,7 +13,7 @@ use Rattle.command_grammar.specs.Parsed.{FileName}
 use Rattle.command_grammar.specs.Reader.{is, Res, ok, no, mapped, moved, from, seq, second, mk_file, opt, word, span, one_character, file}
 use Rattle.command_cursor.specs.CursorAt.{part_at}
 use Rattle.command_cursor.specs.declared.Cursor.{Cursor}
-use Rattle.command_cursor.specs.declared.Part.TheVariants as P
+use Rattle.command_cursor.specs.Part as P
 use Rattle.command_cursor.proofs.CursorAtRuns.{found, missed, run_up, run_read, run_short}
 use Rattle.command_parts.specs.Passed.{extension, passed}
 use Rattle.command_parts.proofs.Passed.{passed_mapped, pass_on, pass_present, pass_absent}

@@ -12,9 +12,9 @@ use Rattle.radix.specs.Names.{is_letter_or_digit}
 use Rattle.command_grammar.specs.Parsed.{Device, FileName}
 use Rattle.command_grammar.specs.Reader.{Res, ok, no, mapped, later, moved, from, mk_head, span, device, file, head, head_from}
 use Rattle.command_cursor.specs.declared.Cursor.{Cursor}
-use Rattle.command_cursor.specs.declared.Part.TheVariants as P
+use Rattle.command_cursor.specs.Part as P
 use Rattle.command_parts.specs.Passed.{passed, passing, unit_of_device}
-use Rattle.command_parts.specs.declared.passing.Passing.TheVariants as W
+use Rattle.command_parts.specs.Passing as W
 use Rattle.command_parts.proofs.Passed.{passed_mapped, passing_ok, passing_no}
 
 moved_later : (i n : ℕ) (d : Option Device) (r : Res (Option FileName)) → moved i (later n (mk_head d) r) ≡ mapped (mk_head d) (moved (i + n) r)

@@ -9,10 +9,10 @@ use Rattle.command_grammar.specs.Keeps.{uic_keeps, specification_keeps}
 use Rattle.command_grammar.specs.Reader.{Res, ok, mapped, from, Head, device, head, mk_tail, mk_specification, specification}
 use Rattle.command_grammar.proofs.ReaderPlaces.{from_seq, from_seq_no}
 use Rattle.command_cursor.specs.declared.Cursor.{Cursor}
-use Rattle.command_cursor.specs.declared.Part.TheVariants as P
+use Rattle.command_cursor.specs.Part as P
 use Rattle.command_parts.specs.Passed.{passed, passing, unit_of_device, keeps_of, brackets, switches, tail}
-use Rattle.command_parts.specs.declared.passing.Passing.{Passing}
-use Rattle.command_parts.specs.declared.passing.Passing.TheVariants as W
+use Rattle.command_parts.specs.Passing.{Passing}
+use Rattle.command_parts.specs.Passing as W
 use Rattle.command_parts.proofs.Passed.{passed_ok, passed_no, passing_ok, passing_no, passing_not}
 use Rattle.command_parts.proofs.MadeFront.{unit_kept}
 

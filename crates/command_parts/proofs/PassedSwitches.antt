@@ -9,7 +9,7 @@ use Rattle.command_grammar.proofs.ReaderParts.{switch_part, switch_first, is_in,
 use Rattle.command_grammar.proofs.ReaderPlaces.{from_seq, from_seq_no, from_many_missed, from_many_found, progress}
 use Rattle.command_cursor.specs.CursorAt.{part_at}
 use Rattle.command_cursor.specs.declared.Cursor.{Cursor}
-use Rattle.command_cursor.specs.declared.Part.TheVariants as P
+use Rattle.command_cursor.specs.Part as P
 use Rattle.command_cursor.proofs.CursorAtRuns.{found, missed}
 use Rattle.command_parts.specs.Passed.{behind_slash, switches, passed}
 use Rattle.command_parts.proofs.Passed.{passed_ok, passed_no, pass_on}

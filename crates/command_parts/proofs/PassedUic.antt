@@ -13,13 +13,13 @@ use Rattle.command_grammar.specs.Keeps.{uic_keeps}
 use Rattle.command_grammar.specs.Reader.{is, Res, ok, no, from, seq, first, second, mk_uic, word, span_all, one_character, uic}
 use Rattle.command_cursor.specs.CursorAt.{part_at}
 use Rattle.command_cursor.specs.declared.Cursor.{Cursor}
-use Rattle.command_cursor.specs.declared.Part.TheVariants as P
+use Rattle.command_cursor.specs.Part as P
 use Rattle.command_cursor.specs.NumberAt.{octals_at, NumberAt}
 use Rattle.command_cursor.specs.declared.Number.{Number}
 use Rattle.command_cursor.proofs.CursorAtRuns.{found, missed}
 use Rattle.command_cursor.proofs.NumberAt.{number_up, number_read, number_short}
 use Rattle.command_parts.specs.Passed.{user, user_behind, brackets, passing, always}
-use Rattle.command_parts.specs.declared.passing.Passing.TheVariants as W
+use Rattle.command_parts.specs.Passing as W
 use Rattle.command_parts.proofs.Passed.{passing_on, passing_not, passing_present, passing_absent}
 use Rattle.command_parts.proofs.PassedDevice.{tested}
 

@@ -12,7 +12,7 @@ use Rattle.command_grammar.proofs.ReaderParts.{value_reads, value_first, is_out}
 use Rattle.command_grammar.proofs.ReaderPlaces.{from_seq, from_seq_no, from_many_missed, from_many_found}
 use Rattle.command_cursor.specs.CursorAt.{part_at}
 use Rattle.command_cursor.specs.declared.Cursor.{Cursor}
-use Rattle.command_cursor.specs.declared.Part.TheVariants as P
+use Rattle.command_cursor.specs.Part as P
 use Rattle.command_cursor.proofs.CursorAtRuns.{found, missed, found_place, run_up, run_within, run_read, run_short}
 use Rattle.command_parts.specs.Passed.{behind_slash, passed}
 use Rattle.command_parts.proofs.Passed.{pass_on}

@@ -7,10 +7,9 @@ use Rattle.command_grammar.specs.LineCharacters.{is_octal, comma, period, slash,
 use Rattle.command_grammar.specs.Parsed.{Device, Uic, Switch}
 use Rattle.command_grammar.specs.Keeps.{octet_keeps, device_keeps}
 use Rattle.command_grammar.specs.Reader.{is, Res, ok, no, seq, opt, many, one_character, word, span, span_all, first, second, uic, mk_switch, switch_value, switch, mk_tail, Tail}
-use Rattle.command_cursor.specs.declared.Part.{Part}
-use Rattle.command_cursor.specs.declared.Part.TheVariants.{Read, Refused}
-use Rattle.command_parts.specs.declared.passing.Passing.{Passing}
-use Rattle.command_parts.specs.declared.passing.Passing.TheVariants as W
+use Rattle.command_cursor.specs.Part.{Part, Read, Refused}
+use Rattle.command_parts.specs.Passing.{Passing}
+use Rattle.command_parts.specs.Passing as W
 
 unfoldable pub passed : {A : Type 0} → Res A → Part
 passed (ok a end) = Read (record { at = end })

@@ -5,85 +5,69 @@ ghost use Rattle.command_grammar.specs.Parsed.{Uic};
 ghost use Rattle.command_grammar.specs.Keeps.{uic_keeps};
 ghost use Rattle.command_grammar.specs.Reader.{ok, from};
 ghost use Rattle.command_parts.specs.Made.{uic_found};
+ghost use Rattle.command_parts.specs.Passing.{passing_in};
 ghost use Rattle.command_parts.specs.Passed.{user, user_behind, brackets, passing};
 
-use crate::passing::{Passing, pass_one};
+use crate::passing::{Passed, pass_one};
+use crate::reading::{ReadAt, UicNumbers};
 use command_cursor::characters::{CLOSING, COMMA, OPENING};
-use command_cursor::{Cursor, Part};
+use command_cursor::{Cursor, Misread};
 
 // What stands behind the group: the comma, the user's digits and the closing bracket.
-fn pass_user(line: &[u8], c: Cursor, group: bool) -> Passing
-    ensures { result ≡ passing (user_behind group) (from user line.now c.at) }
+fn pass_user(line: &[u8], c: Cursor, group: bool) -> Result<Passed, Misread>
+    ensures { passing_in result ≡ passing (user_behind group) (from user line.now c.at) }
 {
-    let p = c.one(line, COMMA);
-    match p {
-        Part::Refused(place) => Passing::Refused(place),
-        Part::Read(a) => {
-            let start = a.at;
-            let user = a.number(line);
-            let digits = user.next;
-            let end = digits.at;
-            if end == start {
-                return Passing::Refused(end);
-            }
-            pass_one(line, digits, CLOSING, group & (user.value <= 0o377))
-        }
+    let start = c.one(line, COMMA)?;
+    let user = start.number(line);
+    let digits = user.next;
+    if digits.at == start.at {
+        return Err(Misread { place: digits.at });
     }
+    pass_one(line, digits, CLOSING, group & (user.value <= 0o377))
 }
 
 // "a group and a user at most 377 octal, leading zeros allowed"
-pub fn pass_uic(line: &[u8], c: Cursor) -> Passing
-    ensures { result ≡ passing uic_keeps (from brackets line.now c.at) }
+pub fn pass_uic(line: &[u8], c: Cursor) -> Result<Passed, Misread>
+    ensures { passing_in result ≡ passing uic_keeps (from brackets line.now c.at) }
 {
-    let p = c.one(line, OPENING);
-    match p {
-        Part::Refused(_) => Passing::Read(c, true),
-        Part::Read(a) => {
-            let start = a.at;
-            let group = a.number(line);
-            let digits = group.next;
-            let end = digits.at;
-            if end == start {
-                return Passing::Refused(end);
-            }
-            pass_user(line, digits, group.value <= 0o377)
-        }
+    let Ok(start) = c.one(line, OPENING) else {
+        return Ok(Passed {
+            next: c,
+            keeps: true,
+        });
+    };
+    let group = start.number(line);
+    let digits = group.next;
+    if digits.at == start.at {
+        return Err(Misread { place: digits.at });
     }
-}
-
-// The numbers of a group and a user, whether there are any, and the place behind them.
-#[derive(Clone, Copy)]
-pub struct UicNumbers {
-    pub present: bool,
-    pub group: usize,
-    pub user: usize,
-    pub next: Cursor,
+    pass_user(line, digits, group.value <= 0o377)
 }
 
 // The group and the user at the cursor, of which it is known that they are in the grammar.
-pub fn read_uic(line: &[u8], c: Cursor) -> UicNumbers
+pub fn read_uic(line: &[u8], c: Cursor) -> ReadAt<UicNumbers>
     ensures { (u : Option Uic) (end : ℕ) → from brackets line.now c.at ≡ ok u end → result ≡ uic_found u end }
 {
-    let p = c.one(line, OPENING);
-    match p {
-        Part::Refused(_) => UicNumbers {
-            present: false,
-            group: 0,
-            user: 0,
+    let Ok(start) = c.one(line, OPENING) else {
+        return ReadAt {
+            part: None,
             next: c,
-        },
-        Part::Read(a) => {
-            let group = a.number(line);
-            let comma = group.next.at;
-            let b = Cursor { at: comma + 1 };
-            let user = b.number(line);
-            let closing = user.next.at;
-            UicNumbers {
-                present: true,
-                group: group.value,
-                user: user.value,
-                next: Cursor { at: closing + 1 },
-            }
-        }
+        };
+    };
+    let group = start.number(line);
+    let behind_comma = Cursor {
+        at: group.next.at + 1,
+    };
+    let user = behind_comma.number(line);
+    let next = Cursor {
+        at: user.next.at + 1,
+    };
+    let numbers = UicNumbers {
+        group: group.value,
+        user: user.value,
+    };
+    ReadAt {
+        part: Some(numbers),
+        next,
     }
 }

@@ -4,17 +4,21 @@
 mod bracket;
 mod front;
 pub mod passing;
+mod reading;
 mod switch;
 
-ghost use Rattle.std.specs.Prelude.{◌≡◌, ◌≤◌};
+ghost use Rattle.std.specs.Prelude.{◌≡◌};
 ghost use Rattle.command_grammar.specs.Keeps.{specification_keeps};
 ghost use Rattle.command_grammar.specs.Reader.{specification, from};
-ghost use Rattle.command_parts.specs.Numbers.{bit, present_bits};
+ghost use Rattle.command_parts.specs.Made.{numbers_in};
+ghost use Rattle.command_parts.specs.Numbers.{present_bits};
 ghost use Rattle.command_parts.specs.Specified.{PartsAt};
-ghost use Rattle.command_parts.specs.Passed.{passing, keeps_of};
+ghost use Rattle.command_parts.specs.Passing.{passing_in};
+ghost use Rattle.command_parts.specs.Passed.{passing};
 
-use command_cursor::{Cursor, Part};
-use passing::Passing;
+use command_cursor::{Cursor, Misread};
+use passing::Passed;
+use reading::{DeviceNumbers, FileNumbers, UicNumbers};
 
 // A specification in the paper's numbers, as a host sees them; those of absent parts are 0.
 #[repr(C)]
@@ -38,51 +42,59 @@ pub struct Parts {
     pub next: Cursor,
 }
 
-fn bit(present: bool) -> usize
-    ensures value { result ≡ bit present }
-    ensures upper_bound { result ≤ 1 }
-{
-    if present { 1 } else { 0 }
-}
-
 fn present_bits(device: bool, name: bool, extension: bool, uic: bool) -> usize
     ensures { result ≡ present_bits device name extension uic }
 {
-    bit(device) + (2 * bit(name) + (4 * bit(extension) + 8 * bit(uic)))
+    usize::from(device) + 2 * usize::from(name) + 4 * usize::from(extension) + 8 * usize::from(uic)
 }
 
-// Whether the unit of a device that was passed over keeps its bound, if there is one.
-fn unit_keeps(device: Passing) -> bool
-    ensures { result ≡ keeps_of device }
+// "the parts (absent ones' numbers 0)"
+fn numbers_of(
+    device: Option<DeviceNumbers>,
+    file: Option<FileNumbers>,
+    uic: Option<UicNumbers>,
+) -> Numbers
+    ensures { result ≡ numbers_in device file uic }
 {
-    match device {
-        Passing::Read(_, keeps) => keeps,
-        Passing::Refused(_) => true,
+    let DeviceNumbers { word, unit } = device.unwrap_or_default();
+    let FileNumbers {
+        name1,
+        name2,
+        extension,
+    } = file.unwrap_or_default();
+    let UicNumbers { group, user } = uic.unwrap_or_default();
+    Numbers {
+        present: present_bits(
+            device.is_some(),
+            file.is_some(),
+            extension.is_some(),
+            uic.is_some(),
+        ),
+        device: word,
+        unit,
+        name1,
+        name2,
+        extension: extension.unwrap_or(0),
+        group,
+        user,
+        switches: 0,
     }
 }
 
 // Where the specification ends, and whether its numbers keep their bounds, for those who ask nothing else of it.
-pub fn pass_parts(line: &[u8], c: Cursor) -> Passing
-    ensures { result ≡ passing specification_keeps (from specification line.now c.at) }
+pub fn pass_parts(line: &[u8], c: Cursor) -> Result<Passed, Misread>
+    ensures { passing_in result ≡ passing specification_keeps (from specification line.now c.at) }
 {
     let device = front::pass_device(line, c);
-    let h = front::pass_head(line, c, device);
-    match h {
-        Part::Refused(place) => Passing::Refused(place),
-        Part::Read(head) => {
-            let u = bracket::pass_uic(line, head);
-            match u {
-                Passing::Refused(place) => Passing::Refused(place),
-                Passing::Read(brackets, keeps) => {
-                    let w = switch::pass_switches(line, brackets);
-                    match w {
-                        Part::Refused(place) => Passing::Refused(place),
-                        Part::Read(next) => Passing::Read(next, unit_keeps(device) & keeps),
-                    }
-                }
-            }
-        }
-    }
+    let head = front::pass_head(line, c, device)?;
+    let uic = bracket::pass_uic(line, head)?;
+    let next = switch::pass_switches(line, uic.next)?;
+    // Where there is no device, no unit is over its bound.
+    let unit_keeps = device.map_or(true, |device| device.keeps);
+    Ok(Passed {
+        next,
+        keeps: unit_keeps & uic.keeps,
+    })
 }
 
 // The parts of the specification at the cursor, of which it is known that it is in the grammar.
@@ -90,21 +102,11 @@ pub fn read_parts(line: &[u8], c: Cursor) -> Parts
     ensures { PartsAt line.now c.at result }
 {
     let device = front::read_device(line, c);
-    let behind = device.next;
-    let file = front::read_file(line, behind);
-    let head = file.next;
-    let uic = bracket::read_uic(line, head);
-    let next = uic.next;
-    let numbers = Numbers {
-        present: present_bits(device.present, file.present, file.extended, uic.present),
-        device: device.word,
-        unit: device.unit,
-        name1: file.name1,
-        name2: file.name2,
-        extension: file.extension,
-        group: uic.group,
-        user: uic.user,
-        switches: 0,
-    };
-    Parts { numbers, next }
+    let file = front::read_file(line, device.next);
+    let uic = bracket::read_uic(line, file.next);
+    let numbers = numbers_of(device.part, file.part, uic.part);
+    Parts {
+        numbers,
+        next: uic.next,
+    }
 }

@@ -2,23 +2,22 @@
 // bound stops nobody; that it was met is carried along.
 ghost use Rattle.std.specs.Prelude.{◌≡◌};
 ghost use Rattle.command_grammar.specs.Reader.{is, one_character, from};
+ghost use Rattle.command_parts.specs.Passing.{passing_in};
 ghost use Rattle.command_parts.specs.Passed.{always, passing};
 
-use command_cursor::{Cursor, Part};
+use command_cursor::{Cursor, Misread};
 
-// Where a part ends, and whether its numbers keep their bounds; or the place of the refusal.
+// Where a part ends, and whether its numbers keep their bounds.
 #[derive(Clone, Copy)]
-pub enum Passing {
-    Read(Cursor, bool),
-    Refused(usize),
+pub struct Passed {
+    pub next: Cursor,
+    pub keeps: bool,
 }
 
 // The character that ends a part, where that is known of its numbers.
-pub fn pass_one(line: &[u8], c: Cursor, character: u8, keeps: bool) -> Passing
-    ensures { result ≡ passing (always keeps) (from (one_character (is character)) line.now c.at) }
+pub fn pass_one(line: &[u8], c: Cursor, character: u8, keeps: bool) -> Result<Passed, Misread>
+    ensures { passing_in result ≡ passing (always keeps) (from (one_character (is character)) line.now c.at) }
 {
-    match c.one(line, character) {
-        Part::Refused(place) => Passing::Refused(place),
-        Part::Read(next) => Passing::Read(next, keeps),
-    }
+    let next = c.one(line, character)?;
+    Ok(Passed { next, keeps })
 }

@@ -19,17 +19,17 @@ use Rattle.command_sides.specs.Sought.{BeginsAt, LocatedIn}
 use Rattle.command_sides.specs.Sought as Q
 use Rattle.command_sides.specs.SoughtJoined.{start_of, among_found, chosen}
 use Rattle.command_sides.specs.declared.SideFound.{SideFound}
-use Rattle.command_sides.specs.declared.Located.TheVariants as L
+use Rattle.command_sides.specs.Located as L
 
 pub start_later : (k : ℕ) (here rest : Cursor) → (k ≡ 0 → ⊥) → rest ≡ start_of k here rest
 start_later zero here rest h = absurd (h refl)
 start_later (suc k) here rest h = refl
 
-pub among_here : (found : SideFound) (k : ℕ) → k < found.count → L.At found.start ≡ among_found found k
+among_here : (found : SideFound) (k : ℕ) → k < found.count → L.At found.start ≡ among_found found k
 unfolding among_found
 among_here found k l = rw (lt-ltb k found.count l)
 
-pub among_none : (found : SideFound) (k : ℕ) → found.count ≤ k → L.Missing ≡ among_found found k
+among_none : (found : SideFound) (k : ℕ) → found.count ≤ k → L.Missing ≡ among_found found k
 unfolding among_found
 among_none found k l = rw (le-ltb k found.count l)
 

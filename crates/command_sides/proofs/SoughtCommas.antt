@@ -2,20 +2,27 @@
 use Prim.Native.Nat.{ℕ, suc, ◌+◌, ◌≤◌}
 use mathlib.Core.Path.{◌≡◌, refl, sym, ap, ◌∙◌}
 use mathlib.Core.List.{List, [], ◌∷◌}
+use mathlib.Core.Option.{some}
 use native.Mathlib.Omega.{arith}
 use lib.ListN.{length, drop, length-drop}
-use Rattle.command_grammar.specs.LineCharacters.{comma}
+use Rattle.command_grammar.specs.LineCharacters.{comma, less}
 use Rattle.command_grammar.specs.Parsed.{Specification}
+use Rattle.command_grammar.specs.Reading.{input_of}
 use Rattle.command_grammar.specs.Reader.{is, Res, ok, no, mapped, moved, from, seq, one_character, second, specification, side}
 use Rattle.command_grammar.proofs.ReaderTheory.{seq_reads}
 use Rattle.command_grammar.proofs.ReaderParts.{chr_reads, is_in, after_spec}
 use Rattle.command_grammar.proofs.ReaderLines.{specification_reads, next_first}
 use Rattle.command_grammar.proofs.ReaderSides.{side_count}
-use Rattle.command_grammar.proofs.ReaderPlaces.{from_seq, from_seq_no, from_many_missed, from_many_found}
+use Rattle.command_grammar.proofs.ReaderPlaces.{from_seq, from_seq_no, from_opt_missed, from_opt_found, from_many_missed, from_many_found}
 use Rattle.command_sides.specs.Sought.{behind_comma}
+use Rattle.command_sides.specs.SoughtJoined.{behind_output, begun_by}
 
 abbrev next : List ℕ → Res Specification
 next = seq second (one_character (is comma)) specification
+
+input_only : (x : ℕ) (r : Res (List Specification)) → mapped input_of (mapped some (mapped (second x) r)) ≡ r
+input_only x (ok vs n) = refl
+input_only x (no n) = refl
 
 module _ (s : List ℕ) (i : ℕ) where
   pub side_refused : (p : ℕ) → from specification s i ≡ no p → from side s i ≡ no p
@@ -26,7 +33,7 @@ module _ (s : List ℕ) (i : ℕ) where
   unfolding side behind_comma
   side_behind v j e = from_seq ◌∷◌ specification behind_comma s i v j e
 
-  pub no_comma : (p : ℕ) → from (one_character (is comma)) s i ≡ no p → from behind_comma s i ≡ ok [] i
+  no_comma : (p : ℕ) → from (one_character (is comma)) s i ≡ no p → from behind_comma s i ≡ ok [] i
   unfolding behind_comma
   no_comma p e = from_many_missed comma next s i p e
 
@@ -44,8 +51,32 @@ module _ (s : List ℕ) (i : ℕ) where
     by (ok v l) d = again ∙ from_seq ◌∷◌ next behind_comma s i v l (next_at ∙ ap (mapped (second x)) d) ∙ sym (from_seq ◌∷◌ specification behind_comma s j v l d)
     by (no p) d = again ∙ from_seq_no ◌∷◌ next behind_comma s i p (next_at ∙ ap (mapped (second x)) d) ∙ sym (from_seq_no ◌∷◌ specification behind_comma s j p d)
 
-    pub comma_begins : from behind_comma s i ≡ from side s j
+    comma_begins : from behind_comma s i ≡ from side s j
     comma_begins = by (from specification s j) refl
+
+  -- a sign begins a side, if it stands there
+  module _ (sign : ℕ) where
+    pub begun_none : (p : ℕ) → from (one_character (is sign)) s i ≡ no p → begun_by sign s i ≡ ok [] i
+    unfolding begun_by
+    begun_none p e = ap (mapped input_of) (from_opt_missed sign (seq second (one_character (is sign)) side) s i p e)
+
+    pub begun_some : (x j : ℕ) → from (one_character (is sign)) s i ≡ ok x j → begun_by sign s i ≡ from side s j
+    unfolding begun_by
+    begun_some x j e =
+        ap (mapped input_of) (from_opt_found sign (seq second (one_character (is sign)) side) s i x j e ∙ ap (mapped some) (from_seq second (one_character (is sign)) side s i x j e))
+        ∙ input_only x (from side s j)
+
+  -- so does a comma begin what a side has behind a specification, and `<` the input side
+  pub comma_begun : begun_by comma s i ≡ from behind_comma s i
+  comma_begun = by (from (one_character (is comma)) s i) refl
+    where
+      by : (r : Res ℕ) → from (one_character (is comma)) s i ≡ r → begun_by comma s i ≡ from behind_comma s i
+      by (ok x j) e = begun_some comma x j e ∙ sym (comma_begins x j e)
+      by (no p) e = begun_none comma p e ∙ sym (no_comma p e)
+
+  pub less_begun : begun_by less s i ≡ mapped input_of (from behind_output s i)
+  unfolding begun_by behind_output
+  less_begun = refl
 
   -- a specification ends where it began, or further on
   on_from : (v : Specification) (j : ℕ) (r : Res Specification) → moved i r ≡ ok v j → i ≤ j

@@ -13,19 +13,17 @@ use Rattle.command_grammar.specs.Keeps.{specification_keeps}
 use Rattle.command_grammar.specs.Reader.{is, Res, ok, mapped, from, one_character, specification, side}
 use Rattle.command_cursor.specs.CursorAt.{part_at}
 use Rattle.command_cursor.specs.declared.Cursor.{Cursor}
-use Rattle.command_cursor.specs.declared.Part.{Part}
-use Rattle.command_cursor.specs.declared.Part.TheVariants as C
+use Rattle.command_cursor.specs.Part.{Part}
+use Rattle.command_cursor.specs.Part as C
 use Rattle.command_cursor.proofs.CursorAtRuns.{found, missed, found_place}
 use Rattle.command_parts.specs.Passed.{passing}
-use Rattle.command_parts.specs.declared.passing.Passing.{Passing}
-use Rattle.command_parts.specs.declared.passing.Passing.TheVariants as W
+use Rattle.command_parts.specs.Passing.{Passing}
+use Rattle.command_parts.specs.Passing as W
 use Rattle.command_parts.proofs.Passed.{passing_ok, passing_no}
-use Rattle.command_sides.specs.Sought.{behind_comma, BeginsAt, SoughtAt}
+use Rattle.command_sides.specs.Sought.{Sought, sought_in, behind_comma, BeginsAt, SoughtAt}
 use Rattle.command_sides.specs.Sought as Q
-use Rattle.command_sides.specs.SoughtJoined.{start_of, sought_joined, Countable}
-use Rattle.command_sides.specs.declared.Sought.{Sought}
-use Rattle.command_sides.specs.declared.Sought.TheVariants as S
-use Rattle.command_sides.proofs.SoughtCommas.{side_refused, side_behind, no_comma, comma_begins, specification_on, side_few}
+use Rattle.command_sides.specs.SoughtJoined.{begun_by, none_found, start_of, joined, sought_joined, Countable}
+use Rattle.command_sides.proofs.SoughtCommas.{side_refused, side_behind, begun_none, begun_some, comma_begun, specification_on, side_few}
 
 -- where specification k begins
 
@@ -42,24 +40,24 @@ begins_more s (suc k) v vs here rest end e b w h = (rw sub-one at b) w h
 pub both_keep : {a b c d : Bool} → a ≡ c → b ≡ d → (a && b) ≡ (c && d)
 both_keep p q = rw (p, q)
 
--- behind a specification: whether a comma stands there
+-- whether a sign stands there
 
-module _ (s : List ℕ) (c : Cursor) (r : Part) (h : r ≡ part_at c.at (one_character (is comma) (drop c.at s))) where
-  pub side_ends : (k place : ℕ) → r ≡ C.Refused place → SoughtAt s k (from behind_comma s c.at) (S.Read (record { count = 0; start = c; keeps = true }) c)
-  side_ends k p e = rw (no_comma s c.at p (missed comma s c.at p (sym h ∙ e))) (Q.SoughtAt.read refl (begins_none s k c.at) refl)
+module _ (s : List ℕ) (c : Cursor) (sign : ℕ) (r : Part) (h : r ≡ part_at c.at (one_character (is sign) (drop c.at s))) where
+  pub none_begun : (k place : ℕ) → r ≡ C.Refused place → SoughtAt s k (begun_by sign s c.at) (Q.Read (none_found c) c)
+  none_begun k p e = rw (begun_none s c.at sign p (missed sign s c.at p (sym h ∙ e))) (Q.SoughtAt.read refl (begins_none s k c.at) refl)
 
   module _ (next : Cursor) (e : r ≡ C.Read next) where
     -- the characters left are fewer
-    pub comma_passed : (c.at < next.at) × (next.at ≤ length s)
-    comma_passed = let w = found_place comma s c.at next (sym h ∙ e) in (omega (arith, w.0), w.1)
+    pub sign_passed : (c.at < next.at) × (next.at ≤ length s)
+    sign_passed = let w = found_place sign s c.at next (sym h ∙ e) in (omega (arith, w.0), w.1)
 
-    pub side_goes_on : (k : ℕ) (rest : Sought) → SoughtAt s k (from side s next.at) rest → SoughtAt s k (from behind_comma s c.at) rest
-    side_goes_on k rest b = let w = found comma s c.at next (sym h ∙ e) in rw (comma_begins s c.at w.0 next.at w.1) b
+    pub side_begun : (k : ℕ) (rest : Sought) → SoughtAt s k (from side s next.at) rest → SoughtAt s k (begun_by sign s c.at) rest
+    side_begun k rest b = let w = found sign s c.at next (sym h ∙ e) in rw (begun_some s c.at sign w.0 next.at w.1) b
 
 -- a specification, and what stands behind it
 
 module _ (s : List ℕ) (here : Cursor) (r : Passing) (h : r ≡ passing specification_keeps (from specification s here.at)) where
-  pub side_none : (k place : ℕ) → r ≡ W.Refused place → SoughtAt s k (from side s here.at) (S.Refused place)
+  pub side_none : (k place : ℕ) → r ≡ W.Refused place → SoughtAt s k (from side s here.at) (Q.Refused place)
   side_none k place e = rw (side_refused s here.at place (passing_no specification_keeps place (from specification s here.at) (sym h ∙ e))) Q.SoughtAt.refused
 
   module _ (next : Cursor) (keeps : Bool) (e : r ≡ W.Read next keeps) where
@@ -73,7 +71,7 @@ module _ (s : List ℕ) (here : Cursor) (r : Passing) (h : r ≡ passing specifi
     pub went_on : here.at ≤ next.at
     went_on = specification_on s here.at first.0 next.at first.1
 
-    module _ (k before : ℕ) (rest : Sought) (d : before ≡ k - 1) (known : SoughtAt s before (from behind_comma s next.at) rest) where
+    module _ (k before : ℕ) (rest : Sought) (d : before ≡ k - 1) (known : SoughtAt s before (begun_by comma s next.at) rest) where
       count_by : (y : Res (List Specification)) → from side s here.at ≡ mapped (◌∷◌ first.0) y → length s < 2 ^ 63 → (q : Sought) → SoughtAt s before y q → Countable q
       count_by y b l q Q.SoughtAt.refused = tt
       count_by y b l q (Q.SoughtAt.read {vs} {end} {found} m c t) =
@@ -81,14 +79,14 @@ module _ (s : List ℕ) (here : Cursor) (r : Passing) (h : r ≡ passing specifi
           omega arith
 
       pub countable : length s < 2 ^ 63 → Countable rest
-      countable l = count_by (from behind_comma s next.at) behind l rest known
+      countable l = count_by (from behind_comma s next.at) behind l rest (rw (comma_begun s next.at) at known)
 
       join_by : (y : Res (List Specification)) (q : Sought) → SoughtAt s (k - 1) y q → SoughtAt s k (mapped (◌∷◌ first.0) y) (sought_joined k here keeps q)
-      unfolding sought_joined
+      unfolding sought_joined joined
       join_by y q Q.SoughtAt.refused = Q.SoughtAt.refused
       join_by y q (Q.SoughtAt.read {vs} {found} m b t) =
           let n : found.count + 1 ≡ length (first.0 ∷ vs) = omega arith in
           Q.SoughtAt.read n (begins_more s k first.0 vs here found.start next.at first.1 b) (both_keep first.2 t)
 
       pub side_some : (joint : Sought) → joint ≡ sought_joined k here keeps rest → SoughtAt s k (from side s here.at) joint
-      side_some joint j = rw (j, behind) (join_by (from behind_comma s next.at) rest (rw d at known))
+      side_some joint j = rw (j, behind) (join_by (from behind_comma s next.at) rest (rw (comma_begun s next.at, d) at known))

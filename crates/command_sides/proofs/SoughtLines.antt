@@ -21,21 +21,6 @@ use Rattle.command_sides.specs.SoughtJoined.{behind_output}
 abbrev pub input_at : List ℕ → ℕ → Res (List Specification)
 input_at s i = mapped input_of (from behind_output s i)
 
-input_only : (x : ℕ) (r : Res (List Specification)) → mapped input_of (mapped some (mapped (second x) r)) ≡ r
-input_only x (ok vs n) = refl
-input_only x (no n) = refl
-
-module _ (s : List ℕ) (i : ℕ) where
-  pub no_sign : (p : ℕ) → from (one_character (is less)) s i ≡ no p → input_at s i ≡ ok [] i
-  unfolding behind_output
-  no_sign p e = ap (mapped input_of) (from_opt_missed less (seq second (one_character (is less)) side) s i p e)
-
-  pub sign_begins : (x j : ℕ) → from (one_character (is less)) s i ≡ ok x j → input_at s i ≡ from side s j
-  unfolding behind_output
-  sign_begins x j e =
-      ap (mapped input_of) (from_opt_found less (seq second (one_character (is less)) side) s i x j e ∙ ap (mapped some) (from_seq second (one_character (is less)) side s i x j e))
-      ∙ input_only x (from side s j)
-
 moved_zero : {A : Type 0} (r : Res A) → moved 0 r ≡ r
 moved_zero (ok a n) = rw zero-add
 moved_zero (no n) = rw zero-add

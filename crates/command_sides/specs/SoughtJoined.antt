@@ -1,30 +1,43 @@
 -- Means: how what was read of a side, and of the two sides, goes together.
-use Rattle.std.specs.Prelude.{ℕ, zero, suc, ◌+◌, ◌<◌, ◌^◌, Bool, cond, ◌&&◌, List, eqb, ltb}
+use Rattle.std.specs.Prelude.{ℕ, zero, suc, ◌+◌, ◌<◌, ◌^◌, Bool, true, cond, ◌&&◌, List, eqb, ltb}
 use Rattle.std.proofs.Math.Option.{Option}
 use Rattle.command_grammar.specs.LineCharacters.{less}
 use Rattle.command_grammar.specs.Parsed.{Specification}
-use Rattle.command_grammar.specs.Reader.{is, Res, seq, one_character, opt, second, side}
+use Rattle.command_grammar.specs.Reading.{input_of}
+use Rattle.command_grammar.specs.Reader.{is, Res, mapped, from, seq, one_character, opt, second, side}
 use Rattle.command_cursor.specs.declared.Cursor.{Cursor}
 use Rattle.command_sides.specs.declared.SideFound.{SideFound}
-use Rattle.command_sides.specs.declared.Sought.{Sought}
-use Rattle.command_sides.specs.declared.Sought.TheVariants as S
-use Rattle.command_sides.specs.declared.Located.{Located}
-use Rattle.command_sides.specs.declared.Located.TheVariants as L
+use Rattle.command_sides.specs.Sought.{Sought}
+use Rattle.command_sides.specs.Sought as S
+use Rattle.command_sides.specs.Located.{Located}
+use Rattle.command_sides.specs.Located as L
 
 -- "output side, or output side, `<`, input side": what stands behind the output side
 unfoldable pub behind_output : List ℕ → Res (Option (List Specification))
 unfolding side one_character opt
 behind_output = opt (is less) (seq second (one_character (is less)) side)
 
+-- the side that a sign begins, if it stands there: `,` what a side has behind a specification, `<` the input side
+unfoldable pub begun_by : ℕ → List ℕ → ℕ → Res (List Specification)
+unfolding side one_character opt
+begun_by sign line at = mapped input_of (from (opt (is sign) (seq second (one_character (is sign)) side)) line at)
+
 -- where specification k begins, of one that begins here and of the rest
 abbrev pub start_of : ℕ → Cursor → Cursor → Cursor
 start_of zero here rest = here
 start_of (suc k) here rest = rest
 
--- a specification that begins here, and what its side has behind it
+-- no specification
+abbrev pub none_found : Cursor → SideFound
+none_found start = record { count = 0; start = start; keeps = true }
+
+-- a specification that begins here, and those behind it
+unfoldable pub joined : ℕ → Cursor → Bool → SideFound → SideFound
+joined k here keeps rest = record { count = rest.count + 1; start = start_of k here rest.start; keeps = keeps && rest.keeps }
+
+-- and what its side has behind it
 unfoldable pub sought_joined : ℕ → Cursor → Bool → Sought → Sought
-sought_joined k here keeps (S.Read rest end) =
-    S.Read (record { count = rest.count + 1; start = start_of k here rest.start; keeps = keeps && rest.keeps }) end
+sought_joined k here keeps (S.Read rest end) = S.Read (joined k here keeps rest) end
 sought_joined k here keeps (S.Refused place) = S.Refused place
 
 -- one more can be counted

@@ -10,7 +10,7 @@ use Rattle.command_grammar.specs.Parsed.{Switch}
 use Rattle.command_grammar.specs.Reader.{is, ok, span, one_character, many, switch, mk_switch, from, values_in}
 use Rattle.command_cursor.specs.CursorAt.{part_at}
 use Rattle.command_cursor.specs.declared.Cursor.{Cursor}
-use Rattle.command_cursor.specs.declared.Part.TheVariants as P
+use Rattle.command_cursor.specs.Part as P
 use Rattle.command_cursor.proofs.CursorAtRuns.{found, missed, found_place}
 use Rattle.command_switches.specs.Encoded.{encoded}
 use Rattle.command_switches.specs.SwitchesMeasured.{BehindName}

@@ -8,7 +8,7 @@ use Rattle.command_grammar.specs.LineCharacters.{colon, slash}
 use Rattle.command_grammar.specs.Reader.{is, one_character}
 use Rattle.command_cursor.specs.CursorAt.{part_at}
 use Rattle.command_cursor.specs.declared.Cursor.{Cursor}
-use Rattle.command_cursor.specs.declared.Part.TheVariants as P
+use Rattle.command_cursor.specs.Part as P
 use Rattle.command_switches.specs.declared.WrittenValues.{WrittenValues}
 use Rattle.command_switches.specs.SwitchesWritten.{set_words, name_at, behind_name, name_words, ValuesFit, ValuesWritten, SwitchWritten, SwitchesFit, SwitchesWritten}
 use Rattle.command_switches.proofs.SwitchesWrittenParts.{no_values, value_asked, values_on, values_asked, values_written}

@@ -10,7 +10,7 @@ ghost use Rattle.command_switches.specs.SwitchesMeasured.{BehindName};
 ghost use Rattle.command_switches.specs.SwitchesWritten.{SwitchesWritable, set_words, name_at, behind_name, name_words, ValuesFit, ValuesWritten, SwitchWritten};
 
 use command_cursor::characters::{COLON, SLASH};
-use command_cursor::{Cursor, Part, name_words};
+use command_cursor::{Cursor, name_words};
 use words::set_word;
 
 // How many values were written, and where the cursor stands then.
@@ -28,22 +28,14 @@ fn measure_from(line: &[u8], c: Cursor, bytes: usize) -> usize
     let mut here = c;
     let mut sum = bytes;
     loop {
-        let colon = here.one(line, COLON);
-        match colon {
-            Part::Read(start) => {
-                here = start.named(line, 6);
-                sum += 4;
-            }
-            Part::Refused(_) => {
-                let slash = here.one(line, SLASH);
-                match slash {
-                    Part::Refused(_) => return sum,
-                    Part::Read(start) => {
-                        here = start.named(line, 6);
-                        sum += 6;
-                    }
-                }
-            }
+        if let Ok(start) = here.one(line, COLON) {
+            here = start.named(line, 6);
+            sum += 4;
+        } else if let Ok(start) = here.one(line, SLASH) {
+            here = start.named(line, 6);
+            sum += 6;
+        } else {
+            return sum;
         }
     }
 }
@@ -53,14 +45,10 @@ pub fn measure(line: &[u8], c: Cursor) -> usize
     requires { length line.now ≤ 65535 }
     ensures { (ws : List Switch) (end : ℕ) → from (many (is slash) switch) line.now c.at ≡ ok ws end → result ≡ length (encoded ws) }
 {
-    let slash = c.one(line, SLASH);
-    match slash {
-        Part::Refused(_) => 0,
-        Part::Read(start) => {
-            let name = start.named(line, 6);
-            measure_from(line, name, 6)
-        }
-    }
+    let Ok(start) = c.one(line, SLASH) else {
+        return 0;
+    };
+    measure_from(line, start.named(line, 6), 6)
 }
 
 // "two name words", "two words per value": the name or value at the cursor, as the words i and i + 1.
@@ -69,10 +57,8 @@ fn write_name(line: &[u8], c: Cursor, buffer: &mut [u8], i: usize) -> Cursor
     ensures at_value { result.at ≡ behind_name line.now c.at }
     ensures buffer_after { buffer.new ≡ set_words buffer.old i (name_words (name_at line.now c.at)) }
 {
-    let first = c.at;
     let next = c.named(line, 6);
-    let end = next.at;
-    let words = name_words(line, first, end);
+    let words = name_words(line, c.at, next.at);
     set_word(buffer, i, words.first);
     set_word(buffer, i + 1, words.second);
     next
@@ -85,23 +71,13 @@ fn write_values(line: &[u8], c: Cursor, buffer: &mut [u8], i: usize) -> WrittenV
 {
     let mut here = c;
     let mut place = i;
-    let mut count = 0;
-    loop {
-        let colon = here.one(line, COLON);
-        match colon {
-            Part::Refused(_) => {
-                return WrittenValues {
-                    values: count,
-                    next: here,
-                };
-            }
-            Part::Read(start) => {
-                here = write_name(line, start, buffer, place);
-                place += 2;
-                count += 1;
-            }
-        }
+    let mut values = 0;
+    while let Ok(start) = here.one(line, COLON) {
+        here = write_name(line, start, buffer, place);
+        place += 2;
+        values += 1;
     }
+    WrittenValues { values, next: here }
 }
 
 // The switch whose name stands at the cursor, from word i on. Its first word is written last: how many values there are is known when they are written.
@@ -125,16 +101,11 @@ pub fn write_switches(line: &[u8], c: Cursor, buffer: &mut [u8]) -> usize
     let mut here = c;
     let mut count = 0;
     let mut i = 0;
-    loop {
-        let slash = here.one(line, SLASH);
-        match slash {
-            Part::Refused(_) => return count,
-            Part::Read(start) => {
-                let written = write_switch(line, start, buffer, i);
-                here = written.next;
-                i = i + 3 + 2 * written.values;
-                count += 1;
-            }
-        }
+    while let Ok(start) = here.one(line, SLASH) {
+        let written = write_switch(line, start, buffer, i);
+        here = written.next;
+        i += 3 + 2 * written.values;
+        count += 1;
     }
+    count
 }

@@ -15,7 +15,7 @@ use Rattle.command_switches.proofs.EncodedLength.{switch_length, bytes_length}
 use Rattle.command.specs.Condensed.{line_limit}
 use Rattle.command.specs.Csi2.{asking_answer, FoundAt, Csi2Answered}
 use Rattle.command.specs.declared.csi2.SpecificationAnswer.{SpecificationAnswer}
-use Rattle.command.specs.declared.csi2.Asking.TheVariants as A
+use Rattle.command.specs.Asking as A
 use Rattle.command.proofs.Csi2Only.{csi2_answers}
 use Rattle.command.proofs.Csi2Found.{answers_missing, answers_given, csi2_room}
 use Rattle.command.proofs.KnownDecoded.{bytes_append, word_back}

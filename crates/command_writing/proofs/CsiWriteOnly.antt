@@ -14,8 +14,8 @@ use Rattle.command_writing.specs.WrittenLine.{written}
 use Rattle.command_writing.specs.Records.{Given}
 use Rattle.command_writing.specs.CsiWrite.{writing_answer, CsiWrite, CsiWriteAnswered}
 use Rattle.command_writing.specs.CsiWrite as W
-use Rattle.command_writing.specs.declared.Writing.{Writing}
-use Rattle.command_writing.specs.declared.Writing.TheVariants as A
+use Rattle.command_writing.specs.Writing.{Writing}
+use Rattle.command_writing.specs.Writing as A
 
 module _ {outputs inputs : ℕ} {records : List ℕ} where
   -- the line that is given is one

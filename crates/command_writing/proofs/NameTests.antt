@@ -10,6 +10,7 @@ use borrow.Author.Tests.{le-leb, leb-true}
 use lib.Dec.{leb}
 use lib.ListN.{length, take, length-take}
 use lib.Seq.{take_all}
+use Rattle.std.specs.Prelude.{Decides}
 use Rattle.answers.proofs.RefusalsTests.{and_both, parts}
 use Rattle.radix.specs.Characters.{code_of}
 use Rattle.radix.specs.Packing.{word_of, first_code, second_code, third_code}
@@ -26,7 +27,6 @@ use Rattle.command_cursor.proofs.FilledWordLegal.{legal_words, legal_word}
 use Rattle.command_cursor.proofs.FilledWordNames.{legal_named, legal_extended, first_coded, two_coded, three_coded}
 use Rattle.command_writing.specs.Sayable.{SwitchName}
 use Rattle.command_writing.specs.Sayable as Y
-use Rattle.command_writing.specs.LaidText.{Decides, holds, fails}
 use Rattle.command_writing.specs.PartFits.{DeviceLetters, ExtensionOf, NameOf, SwitchNameOf, LetterCode}
 
 -- a letter's code
@@ -102,13 +102,19 @@ letters_codes word d = at d.letters d.run.all d.run.least d.run.most d.is
     at (x ∷ (y ∷ (z ∷ (u ∷ s)))) all least most is = absurd (omega arith)
 
 -- tests
-pub decided : {P : Type 0} {b : Bool} → Decides P b → b ≡ true → P
-decided (holds p) is = p
-decided (fails never) is = let z : ◌≡◌ {A = ℕ} 0 1 = cc in absurd (omega arith)
+module _ {P : Type 0} {b : Bool} where
+  pub holds : b ≡ true → P → Decides b P
+  holds is p = (λ held. p, λ fact. is)
 
-pub refuted : {P : Type 0} {b : Bool} → Decides P b → b ≡ false → P → ⊥
-refuted (holds p) is q = let z : ◌≡◌ {A = ℕ} 0 1 = cc in omega arith
-refuted (fails never) is q = never q
+  pub fails : b ≡ false → (P → ⊥) → Decides b P
+  fails is never = (λ held. let z : ◌≡◌ {A = ℕ} 0 1 = cc in absurd (omega arith), λ fact. absurd (never fact))
+
+  pub refuted : Decides b P → b ≡ false → P → ⊥
+  refuted test is p = let held = test.1 p in let z : ◌≡◌ {A = ℕ} 0 1 = cc in omega arith
+
+pub decides : {P : Type 0} {b : Bool} → (b ≡ true → P) → (b ≡ false → P → ⊥) → Decides b P
+decides {b = true} told never = holds refl (told refl)
+decides {b = false} told never = fails refl (never refl)
 
 pub not_first : {word a : ℕ} → a ≡ first_code word → (LetterCode a → ⊥) → DeviceLetters word → ⊥
 not_first {word} first other d = other (rw first (letters_codes word d).0)
@@ -116,11 +122,8 @@ not_first {word} first other d = other (rw first (letters_codes word d).0)
 pub not_second : {word b : ℕ} → b ≡ second_code word → (LetterCode b → ⊥) → DeviceLetters word → ⊥
 not_second {word} second other d = other (rw second (letters_codes word d).1)
 
--- a third that is no blank is a letter exactly if the word is a device's
-pub third_decides : {word a b c : ℕ} {r : Bool} → a ≡ first_code word → b ≡ second_code word → c ≡ third_code word → LetterCode a → LetterCode b → (c ≡ 0 → ⊥)
-    → Decides (LetterCode c) r → Decides (DeviceLetters word) r
-third_decides first second third la lb some-third (holds lc) = holds (letters_three first second third la lb lc)
-third_decides {word} {c} first second third la lb some-third (fails other) = fails (λ d. at (letters_codes word d).2)
+pub not_third : {word c : ℕ} → c ≡ third_code word → (c ≡ 0 → ⊥) → (LetterCode c → ⊥) → DeviceLetters word → ⊥
+not_third {word} {c} third some-third other d = at (letters_codes word d).2
   where
     at : (third_code word ≡ 0) ⊎ LetterCode (third_code word) → ⊥
     at (inl blanks) = some-third (third ∙ blanks)

@@ -5,6 +5,8 @@ use mathlib.Core.Bool.{Bool, true, false}
 use mathlib.Core.List.{List, [], ◌∷◌}
 use mathlib.Core.Option.{Option, none, some}
 use native.Mathlib.Omega.{arith}
+use Rattle.std.specs.Prelude.{Some}
+use Rattle.std.specs.Prelude as P
 use Rattle.radix.specs.Names.{is_letter, is_letter_or_digit}
 use Rattle.radix.specs.NamesTest.{legal_name, legal_extension}
 use Rattle.command_grammar.specs.LineCharacters.{comma, period, colon, opening, closing}
@@ -17,8 +19,6 @@ use Rattle.command_writing.specs.Sayable as Y
 use Rattle.command_writing.specs.LaidText.{Puts, shown_word, shown_name, PartLaid}
 use Rattle.command_writing.specs.LaidText as L
 use Rattle.command_writing.specs.PartFits.{DeviceLetters, ExtensionOf, DeviceFits, ExtensionFits, NoFile, FileFits, UicFits}
-use Rattle.command_writing.specs.declared.PartStep.{PartStep}
-use Rattle.command_writing.specs.declared.PartStep.TheVariants as P
 use Rattle.command_writing.proofs.LaidPieces.{puts_both, puts_same, puts_nothing}
 use Rattle.command_writing.proofs.LaidNames.{word_shown, name_shown}
 use Rattle.command_writing.proofs.NameTests.{named, unnamed, extended, unextended, extension_some}
@@ -52,7 +52,7 @@ module _ {present : Bool} {word unit : ℕ} where
   device_other there other (some d) fits = other (record { letters = d.letters; run = (device_parts fits.says).0; is = fits.word_is })
 
   pub device_absent : {line : List ℕ} {count : ℕ} → present ≡ false → word ≡ 0 → unit ≡ 0
-      → PartLaid (DeviceFits present word unit) written_device line count (P.To count) line
+      → PartLaid (DeviceFits present word unit) written_device line count (Some count) line
   unfolding written_device
   device_absent gone no_word no-unit =
       L.PartLaid.to {v = none}
@@ -61,7 +61,7 @@ module _ {present : Bool} {word unit : ℕ} where
 
   pub device_laid : {before between further after : List ℕ} {count middle later next : ℕ} → present ≡ true → DeviceLetters word → unit ≤ 7
       → Puts before count between middle (shown_word word) → Puts between middle further later (written_unit unit) → Puts further later after next (colon ∷ [])
-      → PartLaid (DeviceFits present word unit) written_device before count (P.To next) after
+      → PartLaid (DeviceFits present word unit) written_device before count (Some next) after
   unfolding written_device
   device_laid there k small p q r =
       let letters : shown_word word ≡ k.letters = ap shown_word (sym k.is) ∙ word_shown k.letters k.run.most (letters_named k.run.all) in
@@ -90,13 +90,13 @@ module _ {present : Bool} {word : ℕ} where
   extension_other there other none fits = never_absent fits.there there
   extension_other there other (some e) fits = unextended other (extension_named fits)
 
-  pub extension_absent : {line : List ℕ} {count : ℕ} → present ≡ false → word ≡ 0 → PartLaid (ExtensionFits present word) written_extension line count (P.To count) line
+  pub extension_absent : {line : List ℕ} {count : ℕ} → present ≡ false → word ≡ 0 → PartLaid (ExtensionFits present word) written_extension line count (Some count) line
   extension_absent gone no_word =
       L.PartLaid.to {v = none} (record { says = Y.SayableExtension.absent; there = sym gone; word_is = sym no_word }) puts_nothing
 
   pub extension_laid : {before between after : List ℕ} {count middle next : ℕ} → present ≡ true → (word ≡ 0 → ⊥) → legal_extension word ≡ true
       → Puts before count between middle (period ∷ []) → Puts between middle after next (shown_word word)
-      → PartLaid (ExtensionFits present word) written_extension before count (P.To next) after
+      → PartLaid (ExtensionFits present word) written_extension before count (Some next) after
   extension_laid there some_word legal p q =
       let k = extended legal some_word in
       let letters : shown_word word ≡ k.extension = ap shown_word (sym k.is) ∙ word_shown k.extension k.run.most k.run.all in
@@ -126,7 +126,7 @@ module _ {present : Bool} {longer : Bool} {first second extension : ℕ} where
   file_extension there never (some f) fits = never f.extension (record { says = (file_parts fits.says).1; there = fits.longer; word_is = fits.extension_is })
 
   pub file_absent : {line : List ℕ} {count : ℕ} → present ≡ false → NoFile longer first second extension
-      → PartLaid (FileFits present longer first second extension) written_file line count (P.To count) line
+      → PartLaid (FileFits present longer first second extension) written_file line count (Some count) line
   unfolding written_file
   file_absent gone zeros =
       L.PartLaid.to {v = none}
@@ -141,7 +141,7 @@ module _ {present : Bool} {longer : Bool} {first second extension : ℕ} where
       puts_nothing
 
   -- the name, and what its extension comes to
-  pub file_laid : {before between after : List ℕ} {count middle : ℕ} {step : PartStep} → present ≡ true → legal_name first second ≡ true
+  pub file_laid : {before between after : List ℕ} {count middle : ℕ} {step : P.Option ℕ} → present ≡ true → legal_name first second ≡ true
       → Puts before count between middle (shown_name first second) → PartLaid (ExtensionFits longer extension) written_extension between middle step after
       → PartLaid (FileFits present longer first second extension) written_file before count step after
   unfolding written_file
@@ -183,14 +183,14 @@ module _ {present : Bool} {group user : ℕ} where
   uic_large_user there large (some u) fits = omega (arith, (uic_parts fits.says).1, fits.user_is)
 
   pub uic_absent : {line : List ℕ} {count : ℕ} → present ≡ false → group ≡ 0 → user ≡ 0
-      → PartLaid (UicFits present group user) written_uic line count (P.To count) line
+      → PartLaid (UicFits present group user) written_uic line count (Some count) line
   unfolding written_uic
   uic_absent gone no-group no-user =
       L.PartLaid.to {v = none} (record { says = Y.SayableUic.absent; there = sym gone; group_is = sym no-group; user_is = sym no-user }) puts_nothing
 
   pub uic_laid : {a b c d e f : List ℕ} {count g h i j next : ℕ} → present ≡ true → group ≤ 0o377 → user ≤ 0o377
       → Puts a count b g (opening ∷ []) → Puts b g c h (octal_digits group) → Puts c h d i (comma ∷ []) → Puts d i e j (octal_digits user)
-      → Puts e j f next (closing ∷ []) → PartLaid (UicFits present group user) written_uic a count (P.To next) f
+      → Puts e j f next (closing ∷ []) → PartLaid (UicFits present group user) written_uic a count (Some next) f
   unfolding written_uic
   uic_laid there small-group small-user p q r s t =
       L.PartLaid.to {v = some (record { group = group; user = user })}

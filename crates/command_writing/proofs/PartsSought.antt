@@ -11,9 +11,8 @@ use lib.ListN.{get_or}
 use Rattle.radix.specs.Packing.{first_code, second_code, third_code}
 use Rattle.radix.specs.NamesTest.{legal_name, legal_extension}
 use Rattle.command_writing.specs.Sayable as Y
-use Rattle.command_writing.specs.LaidText.{fails}
 use Rattle.command_writing.specs.PartFits.{LetterCode, DeviceLetters, NameOf, SwitchNameOf, DeviceFits, ExtensionFits, NoFile, FileFits, UicFits, FrontFits}
-use Rattle.command_writing.proofs.NameTests.{letters_two, letters_three, not_first, not_second, third_decides, refuted, named, unnamed, extended}
+use Rattle.command_writing.proofs.NameTests.{letters_two, letters_three, not_first, not_second, not_third, named, unnamed, extended}
 use Rattle.command_writing.proofs.NameTests.{switch_named, switch_not_legal, switch_not_letter}
 use Rattle.command_writing.proofs.PartsLaid.{device_word_law, device_unit, device_large, device_other, extension_word_law, extension_blank, extension_other}
 use Rattle.command_writing.proofs.PartsLaid.{file_numbers, file_other, file_extension, uic_group, uic_user, uic_large_group, uic_large_user}
@@ -41,7 +40,7 @@ letters_decided word =
     by : Dec (LetterCode (first_code word)) → Dec (LetterCode (second_code word)) → Dec (third_code word ≡ 0) → Dec (LetterCode (third_code word)) → Dec (DeviceLetters word)
     by (yes a) (yes b) (yes blanks) c = yes (letters_two refl refl refl a b blanks)
     by (yes a) (yes b) (no some-third) (yes c) = yes (letters_three refl refl refl a b c)
-    by (yes a) (yes b) (no some-third) (no other) = no (refuted (third_decides refl refl refl a b some-third (fails other)) refl)
+    by (yes a) (yes b) (no some-third) (no other) = no (not_third refl some-third other)
     by (yes a) (no other) blanks c = no (not_second refl other)
     by (no other) b blanks c = no (not_first refl other)
 

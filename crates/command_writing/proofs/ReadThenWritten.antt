@@ -12,7 +12,7 @@ use Rattle.command_grammar.proofs.GrammarOne.{reads_one}
 use Rattle.command.specs.Condensed.{condensed, line_limit, TooLong}
 use Rattle.command.specs.Csi1.{condensing_answer, Csi1Answered}
 use Rattle.command.specs.Csi1 as One
-use Rattle.command.specs.declared.csi1.Condensing.TheVariants as C
+use Rattle.command.specs.Condensing as C
 use Rattle.command.proofs.Csi1Only.{csi1_answered_one}
 use Rattle.command.proofs.Csi1Then.{csi1_accepted}
 use Rattle.command_writing.specs.WrittenLine.{written}

@@ -15,7 +15,7 @@ use Rattle.command_parts.specs.Numbers.{numbers_of}
 use Rattle.command_switches.specs.Encoded.{value_words, all_switch_words, encoded}
 use Rattle.command.specs.Csi2.{asking_answer}
 use Rattle.command.specs.Known.{Known, Pair, DecodedSwitch, pair_of, value_numbers, switch_numbers, decoded, known_of}
-use Rattle.command.specs.declared.csi2.Asking.TheVariants as A
+use Rattle.command.specs.Asking as A
 use Rattle.command.proofs.KnownDecoded.{decoded_encoded}
 use Rattle.command.proofs.KnownReading.{known_reading}
 use Rattle.command_writing.specs.WrittenLine.{written}

@@ -1,20 +1,19 @@
 -- The parts of the record at a word, but for its switches: when none fit, and what is laid of those that do.
 use Prim.Native.Nat.{ℕ, ◌+◌, ◌/◌, ◌%◌, ◌≤◌, ◌<◌}
 use mathlib.Core.Path.{◌≡◌, sym, ◌∙◌, subst}
-use mathlib.Core.Bool.{Bool}
 use mathlib.Core.List.{List}
 use mathlib.Core.Option.{Option}
 use native.Mathlib.Omega.{arith}
 use lib.Dec.{eqb}
 use lib.ListN.{get_or}
+use Rattle.std.specs.Prelude.{None, Some}
+use Rattle.std.specs.Prelude as P
 use Rattle.command_grammar.specs.Parsed.{Device, FileName, Uic}
 use Rattle.command_parts.specs.Numbers.{is_present, is_extended}
 use Rattle.command_writing.specs.WrittenLine.{written_device, written_file, written_uic}
 use Rattle.command_writing.specs.LaidText.{Puts, PartLaid}
 use Rattle.command_writing.specs.LaidText as L
 use Rattle.command_writing.specs.PartFits.{DeviceFits, FileFits, UicFits, Front, FrontFits, front_text}
-use Rattle.command_writing.specs.declared.PartStep.{PartStep}
-use Rattle.command_writing.specs.declared.PartStep.TheVariants as P
 use Rattle.command_writing.proofs.LaidPieces.{puts_both}
 use Rattle.command_writing.proofs.PresentBits.{Bits, present_bits_law, bits_present}
 
@@ -25,25 +24,20 @@ pub record PartWent {A : Type 0} (Fits : A → Type 0) (text : A → List ℕ) (
   pub laid : Puts before count after next (text what)
 
 module _ {A : Type 0} {Fits : A → Type 0} {text : A → List ℕ} {before : List ℕ} {count : ℕ} where
-  part_to : (next : ℕ) (after : List ℕ) → PartLaid Fits text before count (P.To next) after → PartWent Fits text before count next after
+  part_to : (next : ℕ) (after : List ℕ) → PartLaid Fits text before count (Some next) after → PartWent Fits text before count next after
   part_to next after (L.PartLaid.to {v} fits laid) = record { what = v; fits = fits; laid = laid }
 
-  part_wrong : (after : List ℕ) → PartLaid Fits text before count P.Wrong after → (v : A) → Fits v → ⊥
+  part_wrong : (after : List ℕ) → PartLaid Fits text before count None after → (v : A) → Fits v → ⊥
   part_wrong after (L.PartLaid.wrong never) = never
 
-  pub part_went : {step : PartStep} {next : ℕ} {after : List ℕ} → PartLaid Fits text before count step after → step ≡ P.To next
+  pub part_went : {step : P.Option ℕ} {next : ℕ} {after : List ℕ} → PartLaid Fits text before count step after → step ≡ Some next
       → PartWent Fits text before count next after
   part_went {step} {next} {after} laid is = part_to next after (subst (λ s. PartLaid Fits text before count s after) is laid)
 
-  pub part_stuck : {step : PartStep} {after : List ℕ} → PartLaid Fits text before count step after → step ≡ P.Wrong → (v : A) → Fits v → ⊥
+  pub part_stuck : {step : P.Option ℕ} {after : List ℕ} → PartLaid Fits text before count step after → step ≡ None → (v : A) → Fits v → ⊥
   part_stuck {step} {after} laid is = part_wrong after (subst (λ s. PartLaid Fits text before count s after) is laid)
 
 -- the file of a record, by the words that were read
-pub file_read : {present extended : Bool} {first second extension first' second' extension' : ℕ} {before : List ℕ} {count : ℕ} {step : PartStep} {after : List ℕ}
-    → first ≡ first' → second ≡ second' → extension ≡ extension' → PartLaid (FileFits present extended first second extension) written_file before count step after
-    → PartLaid (FileFits present extended first' second' extension') written_file before count step after
-file_read p q r laid = rw (← p, ← q, ← r) laid
-
 module _ (records : List ℕ) (at : ℕ) {present : ℕ} (is : present ≡ get_or records at 0) where
   fits_bits : (f : Front) → FrontFits records at f → Bits present (is_present f.device) (is_present f.file) (is_extended f.file) (is_present f.uic)
   fits_bits f fits = present_bits_law _ _ _ _ (fits.present_is ∙ sym is)
@@ -107,7 +101,7 @@ module _ (records : List ℕ) (at : ℕ) {present : ℕ} (is : present ≡ get_o
             user_is = u.user_is ∙ user_is;
           }
 
-    pub front_laid : {before between further after : List ℕ} {count middle later : ℕ} {step : PartStep} {group user : ℕ} → present ≤ 15
+    pub front_laid : {before between further after : List ℕ} {count middle later : ℕ} {step : P.Option ℕ} {group user : ℕ} → present ≤ 15
         → group ≡ get_or records (at + 6) 0 → user ≡ get_or records (at + 7) 0
         → PartWent (DeviceFits (eqb (present % 2) 1) device unit) written_device before count middle between
         → PartWent (FileFits (eqb ((present / 2) % 2) 1) (eqb ((present / 4) % 2) 1) (get_or records (at + 3) 0) (get_or records (at + 4) 0) (get_or records (at + 5) 0))

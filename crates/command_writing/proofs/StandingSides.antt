@@ -5,6 +5,8 @@ use mathlib.Core.List.{List, [], ◌∷◌, ◌++◌, append_assoc, append-nil}
 use mathlib.Core.Option.{Option, none, some}
 use native.Mathlib.Omega.{arith}
 use lib.ListN.{drop}
+use Rattle.std.specs.Prelude.{Some}
+use Rattle.std.specs.Prelude as P
 use Rattle.command_grammar.specs.LineCharacters.{less}
 use Rattle.command_grammar.specs.Parsed.{Specification}
 use Rattle.command_grammar.specs.Reading.{input_of, Reading}
@@ -16,8 +18,6 @@ use Rattle.command_writing.specs.LaidText.{Puts, StepLaid}
 use Rattle.command_writing.specs.LaidText as L
 use Rattle.command_writing.specs.PartFits.{next_text}
 use Rattle.command_writing.specs.declared.Walk.{Walk}
-use Rattle.command_writing.specs.declared.Step.{Step}
-use Rattle.command_writing.specs.declared.Step.TheVariants as S
 use Rattle.command_writing.proofs.LaidPieces.{puts_both, puts_same}
 use Rattle.command_writing.proofs.StandingMany.{taken_more, never_more, never_one}
 use Rattle.command_writing.proofs.LaidMany.{Went}
@@ -49,7 +49,7 @@ module _ {records : List ℕ} {at many : ℕ} where
         only = λ other rest says is. t.only other rest says.each is;
       }
 
-  pub side_laid : {before between after : List ℕ} {count : ℕ} {next : Walk} {step : Step} → (many ≡ 0 → ⊥)
+  pub side_laid : {before between after : List ℕ} {count : ℕ} {next : Walk} {step : P.Option Walk} → (many ≡ 0 → ⊥)
       → Went SayableSpecification specification_words written_specification records at before count next between
       → StepLaid (Each SayableSpecification (many - 1)) (joined specification_words) (joined next_text) records next.at between next.count step after
       → StepLaid (SayableSide many) (joined specification_words) written_side records at before count step after
@@ -132,12 +132,12 @@ module _ (records : List ℕ) (at : ℕ) {outputs inputs : ℕ} where
 
   pub reading_output : {before after : List ℕ} {count : ℕ} {next : Walk} → inputs ≡ 0
       → Went (SayableSide outputs) (joined specification_words) written_side records at before count next after
-      → StepLaid (SayableReading outputs inputs) reading_words written records at before count (S.To next) after
+      → StepLaid (SayableReading outputs inputs) reading_words written records at before count (Some next) after
   unfolding written
   reading_output zero_is output =
       L.StepLaid.to (output_taken output.taken zero_is) (puts_same (sym (append-nil (written_side output.what))) output.laid)
 
-  pub reading_both : {before between further after : List ℕ} {count middle : ℕ} {next : Walk} {step : Step} → (inputs ≡ 0 → ⊥)
+  pub reading_both : {before between further after : List ℕ} {count middle : ℕ} {next : Walk} {step : P.Option Walk} → (inputs ≡ 0 → ⊥)
       → Went (SayableSide outputs) (joined specification_words) written_side records at before count next between
       → Puts between next.count further middle (less ∷ [])
       → StepLaid (SayableSide inputs) (joined specification_words) written_side records next.at further middle step after

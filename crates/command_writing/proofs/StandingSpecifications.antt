@@ -4,10 +4,12 @@ use mathlib.Core.Path.{◌≡◌, sym, ◌∙◌}
 use mathlib.Core.List.{List, [], ◌∷◌, ◌++◌, append_assoc}
 use native.Mathlib.Omega.{arith}
 use lib.ListN.{length, get_or, drop}
+use Rattle.std.specs.Prelude.{Option}
 use Rattle.command_grammar.specs.LineCharacters.{comma}
 use Rattle.command_grammar.specs.Parsed.{Switch, Specification}
 use Rattle.command_switches.specs.Encoded.{switch_words, all_switch_words}
 use Rattle.command_parts.specs.Numbers.{numbers_of}
+use Rattle.command_writing.specs.declared.Walk.{Walk}
 use Rattle.command_writing.specs.Records.{record_words}
 use Rattle.command_writing.specs.WrittenLine.{written_specification}
 use Rattle.command_writing.specs.Sayable.{Each, SayableSwitch, SayableSpecification}
@@ -15,7 +17,6 @@ use Rattle.command_writing.specs.Standing.{joined, specification_words, Taken, N
 use Rattle.command_writing.specs.LaidText.{Puts, StepLaid}
 use Rattle.command_writing.specs.LaidText as L
 use Rattle.command_writing.specs.PartFits.{Front, FrontFits, front_text, switch_text, next_text}
-use Rattle.command_writing.specs.declared.Step.{Step}
 use Rattle.command_writing.proofs.LaidPieces.{puts_both, puts_same}
 use Rattle.command_writing.proofs.RecordRows.{nine_rows, stands_within}
 use Rattle.command_writing.proofs.StandingFronts.{PartWent}
@@ -113,7 +114,7 @@ module _ (records : List ℕ) (at : ℕ) where
               let b = behind v rest says is in
               none.never v.switches rest (record { long = b.many ∙ sym many; all = says.switches }) b.stand
 
-      pub specification_laid : {before between after : List ℕ} {count middle : ℕ} {step : Step} → PartWent (FrontFits records at) front_text before count middle between
+      pub specification_laid : {before between after : List ℕ} {count middle : ℕ} {step : Option Walk} → PartWent (FrontFits records at) front_text before count middle between
           → StepLaid (Each SayableSwitch switches) (joined switch_words) (joined switch_text) records (at + 9) between middle step after
           → StepLaid SayableSpecification specification_words written_specification records at before count step after
       specification_laid p (L.StepLaid.to {v = ws} t laid) =
@@ -121,7 +122,7 @@ module _ (records : List ℕ) (at : ℕ) where
       specification_laid p (L.StepLaid.wrong none) = L.StepLaid.wrong (specification_never none)
 
 -- a comma before it
-pub next_laid : {records : List ℕ} {at : ℕ} {before between after : List ℕ} {count middle : ℕ} {step : Step} → Puts before count between middle (comma ∷ [])
+pub next_laid : {records : List ℕ} {at : ℕ} {before between after : List ℕ} {count middle : ℕ} {step : Option Walk} → Puts before count between middle (comma ∷ [])
     → StepLaid SayableSpecification specification_words written_specification records at between middle step after
     → StepLaid SayableSpecification specification_words next_text records at before count step after
 unfolding next_text

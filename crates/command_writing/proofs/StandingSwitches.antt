@@ -5,6 +5,7 @@ use mathlib.Core.Bool.{true}
 use mathlib.Core.List.{List, [], ◌∷◌, ◌++◌}
 use native.Mathlib.Omega.{arith}
 use lib.ListN.{length, get_or, drop}
+use Rattle.std.specs.Prelude.{Option, Some}
 use Rattle.radix.specs.Names.{is_letter_or_digit}
 use Rattle.radix.specs.NamesTest.{legal_name}
 use Rattle.command_grammar.specs.LineCharacters.{slash, colon}
@@ -12,14 +13,13 @@ use Rattle.command_grammar.specs.Parsed.{Switch}
 use Rattle.command_grammar.specs.Grammar.{Between}
 use Rattle.command_cursor.specs.FilledWord.{first_word, second_word}
 use Rattle.command_switches.specs.Encoded.{value_words, switch_words, all_switch_words}
+use Rattle.command_writing.specs.declared.Walk.{Walk}
 use Rattle.command_writing.specs.WrittenLine.{written_values, written_switches}
 use Rattle.command_writing.specs.Sayable.{Each, SayableSwitch}
 use Rattle.command_writing.specs.Standing.{joined, name_words, Taken, Never}
 use Rattle.command_writing.specs.LaidText.{Puts, shown_name, StepLaid}
 use Rattle.command_writing.specs.LaidText as L
 use Rattle.command_writing.specs.PartFits.{NameOf, SwitchNameOf, value_text, switch_text}
-use Rattle.command_writing.specs.declared.Step.{Step}
-use Rattle.command_writing.specs.declared.Step.TheVariants as S
 use Rattle.command_writing.proofs.LaidPieces.{puts_both, puts_same}
 use Rattle.command_writing.proofs.LaidNames.{name_shown}
 use Rattle.command_writing.proofs.NameTests.{named, switch_run}
@@ -78,7 +78,7 @@ module _ {records : List ℕ} {at : ℕ} where
 
     pub value_laid : {before between after : List ℕ} {count middle next : ℕ} → legal_name first second ≡ true → Puts before count between middle (colon ∷ [])
         → Puts between middle after next (shown_name first second)
-        → StepLaid (Between 1 6 is_letter_or_digit) name_words value_text records at before count (S.To (record { at = at + 2; count = next })) after
+        → StepLaid (Between 1 6 is_letter_or_digit) name_words value_text records at before count (Some (record { at = at + 2; count = next })) after
     value_laid legal p q =
         let k = named legal in
         L.StepLaid.to (value_taken k) (puts_both p (puts_same (shows k) q))
@@ -144,7 +144,7 @@ module _ (records : List ℕ) (at : ℕ) where
               let b = values_behind w rest is in
               none.never w.values rest (record { long = b.0 ∙ sym many; all = says.values }) b.1
 
-      pub switch_laid : {before between further after : List ℕ} {count middle later : ℕ} {step : Step} → SwitchNameOf first second
+      pub switch_laid : {before between further after : List ℕ} {count middle later : ℕ} {step : Option Walk} → SwitchNameOf first second
           → Puts before count between middle (slash ∷ []) → Puts between middle further later (shown_name first second)
           → StepLaid (Values values) (joined name_words) (joined value_text) records (at + 3) further later step after
           → StepLaid SayableSwitch switch_words switch_text records at before count step after

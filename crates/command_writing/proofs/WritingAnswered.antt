@@ -4,7 +4,6 @@ use mathlib.Core.Path.{◌≡◌, refl, sym, ap, ◌∙◌}
 use mathlib.Core.List.{List, [], ◌++◌, append-nil}
 use native.Mathlib.Omega.{arith}
 use lib.ListN.{length, get_or, take, drop, replicate, length-drop, drop_of_length-le}
-use lib.Seq.{length-take-le}
 use Rattle.words.specs.Word.{word_bytes}
 use Rattle.command_switches.proofs.EncodedLength.{bytes_length}
 use Rattle.command.specs.Condensed.{line_limit}
@@ -17,7 +16,7 @@ use Rattle.command_writing.specs.Sayable.{SayableReading}
 use Rattle.command_writing.specs.Standing.{words_in, reading_words, Taken, Never}
 use Rattle.command_writing.specs.LaidText.{Laid, within}
 use Rattle.command_writing.specs.declared.Walk.{Walk}
-use Rattle.command_writing.specs.declared.Writing.TheVariants as W
+use Rattle.command_writing.specs.Writing as W
 use Rattle.command_writing.proofs.LaidPieces.{laid_within, laid_over_law}
 use Rattle.command_writing.proofs.LaidMany.{Went}
 use Rattle.command_writing.proofs.WordsIn.{words_long, words_again, bytes_again, reading_bytes}
@@ -105,10 +104,3 @@ module _ (outputs inputs : ℕ) (records buffer : List ℕ) where
             let answer : CsiWrite outputs inputs records buffer (W.Written (length (written went.what))) (written went.what ++ drop (length (written went.what)) buffer) =
             C.CsiWrite.line (is_given went.taken small even) (omega (arith, line_is.1)) (omega (arith, line_is.1)) in
             rw (filled, line_is.0) (rw line_is.1 at answer)
-
--- the part of the line that is filled in, and the part of the buffer for it
-pub line_part : (line : List ℕ) (count : ℕ) → length line ≡ 128 → count ≤ line_limit → length (take count line) ≡ count
-line_part line count whole fits = length-take-le count line (omega arith)
-
-pub same_parts : (line buffer : List ℕ) (count : ℕ) → length line ≡ 128 → count ≤ line_limit → count ≤ length buffer → length (take count buffer) ≡ length (take count line)
-same_parts line buffer count whole fits room = length-take-le count buffer room ∙ sym (line_part line count whole fits)

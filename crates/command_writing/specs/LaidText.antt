@@ -1,15 +1,13 @@
 -- Means: characters laid one behind the other in a line, as far as it goes, and counted one further; and what the steps of a walk over records lay.
-use Rattle.std.specs.Prelude.{ℕ, ◌≤◌, ◌<◌, ◌≡◌, Bool, true, false, cond, List, [], ◌∷◌, ◌++◌, eqb, length, take}
+-- `P.Option` is the code's, `Option` the logic's.
+use Rattle.std.specs.Prelude.{ℕ, ◌≤◌, ◌<◌, ◌≡◌, cond, List, [], ◌∷◌, ◌++◌, eqb, length, take, Some, None}
+use Rattle.std.specs.Prelude as P
 use Rattle.std.proofs.Math.Option.{Option, none, some}
 use Rattle.radix.specs.Characters.{character_of}
 use Rattle.radix.specs.Packing.{first_code, second_code, third_code}
 use Rattle.radix.specs.Names.{blank}
 use Rattle.command_writing.specs.Standing.{Taken, Never}
 use Rattle.command_writing.specs.declared.Walk.{Walk}
-use Rattle.command_writing.specs.declared.Step.{Step}
-use Rattle.command_writing.specs.declared.Step.TheVariants as S
-use Rattle.command_writing.specs.declared.PartStep.{PartStep}
-use Rattle.command_writing.specs.declared.PartStep.TheVariants as P
 
 -- the text is what is laid, or it goes over the line
 pub data Laid (line : List ℕ) (count : ℕ) (text : List ℕ) : Type 0 where
@@ -33,18 +31,13 @@ unfoldable pub shown_name : ℕ → ℕ → List ℕ
 unfolding shown_word
 shown_name first second = shown_word first ++ shown_word second
 
--- a test, and what it is of
-pub data Decides (Fact : Type 0) : Bool → Type 0 where
-  holds : Fact → Decides Fact true
-  fails : (Fact → ⊥) → Decides Fact false
-
 -- a part that fits its numbers is laid, or none fits them
-pub data PartLaid {A : Type 0} (Fits : A → Type 0) (text : A → List ℕ) (before : List ℕ) (count : ℕ) : PartStep → List ℕ → Type 0 where
-  to : {v : A} {next : ℕ} {after : List ℕ} → Fits v → Puts before count after next (text v) → PartLaid Fits text before count (P.To next) after
-  wrong : {after : List ℕ} → ((v : A) → Fits v → ⊥) → PartLaid Fits text before count P.Wrong after
+pub data PartLaid {A : Type 0} (Fits : A → Type 0) (text : A → List ℕ) (before : List ℕ) (count : ℕ) : P.Option ℕ → List ℕ → Type 0 where
+  to : {v : A} {next : ℕ} {after : List ℕ} → Fits v → Puts before count after next (text v) → PartLaid Fits text before count (Some next) after
+  wrong : {after : List ℕ} → ((v : A) → Fits v → ⊥) → PartLaid Fits text before count None after
 
 -- what stands at a word of the records is laid, or nothing stands there
-pub data StepLaid {A : Type 0} (Says : A → Type 0) (words text : A → List ℕ) (records : List ℕ) (at : ℕ) (before : List ℕ) (count : ℕ) : Step → List ℕ → Type 0 where
+pub data StepLaid {A : Type 0} (Says : A → Type 0) (words text : A → List ℕ) (records : List ℕ) (at : ℕ) (before : List ℕ) (count : ℕ) : P.Option Walk → List ℕ → Type 0 where
   to : {v : A} {next : Walk} {after : List ℕ} → Taken Says words records at v next.at → Puts before count after next.count (text v)
-      → StepLaid Says words text records at before count (S.To next) after
-  wrong : {after : List ℕ} → Never Says words records at → StepLaid Says words text records at before count S.Wrong after
+      → StepLaid Says words text records at before count (Some next) after
+  wrong : {after : List ℕ} → Never Says words records at → StepLaid Says words text records at before count None after

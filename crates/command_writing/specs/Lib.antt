@@ -2,6 +2,7 @@
 -- becomes of them when they are written. Sayable and those behind it are means of the code.
 pub mod WrittenLine
 pub mod Records
+pub mod Writing
 pub mod CsiWrite
 pub mod AskedRecords
 pub mod WrittenBack

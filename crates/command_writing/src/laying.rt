@@ -5,7 +5,7 @@ ghost use Rattle.numerals.specs.Digits.{digits};
 ghost use Rattle.command_writing.specs.WrittenLine.{octal_digits, written_unit};
 ghost use Rattle.command_writing.specs.LaidText.{Puts, shown, shown_word, shown_name};
 
-use radix::{Character, Radix50, character_of};
+use radix::{Radix50, character_of};
 
 // One character behind `count` others. Behind a full line it is counted once more and then no more.
 pub fn put(line: &mut [u8], count: usize, character: u8) -> usize
@@ -25,15 +25,13 @@ pub fn put(line: &mut [u8], count: usize, character: u8) -> usize
 fn put_code(line: &mut [u8], count: usize, code: usize) -> usize
     ensures { Puts line.old count line.new result (shown (character_of code)) }
 {
-    match character_of(code) {
-        Character::Nothing => count,
-        Character::Of(character) => {
-            if character == 32 {
-                return count;
-            }
-            put(line, count, character)
-        }
+    let Some(character) = character_of(code) else {
+        return count;
+    };
+    if character == b' ' {
+        return count;
     }
+    put(line, count, character)
 }
 
 // The characters of a word.

@@ -1,9 +1,9 @@
 // The parts of a specification from their numbers: each is judged, and what a line has of it is laid.
+ghost use Rattle.std.specs.Prelude.{Decides};
 ghost use Rattle.command_writing.specs.WrittenLine.{written_device, written_extension, written_file, written_uic};
-ghost use Rattle.command_writing.specs.LaidText.{Decides, PartLaid};
+ghost use Rattle.command_writing.specs.LaidText.{PartLaid};
 ghost use Rattle.command_writing.specs.PartFits.{LetterCode, DeviceLetters, DeviceFits, ExtensionFits, NoFile, FileFits, UicFits};
 
-use crate::PartStep;
 use crate::laying::{put, put_name, put_octal, put_unit, put_word};
 use command_cursor::characters::{CLOSING, COLON, COMMA, OPENING, PERIOD};
 use radix::{Radix50, is_legal_name};
@@ -14,20 +14,14 @@ const LAST_UNIT: usize = 7;
 const LAST_OWNER: usize = 0o377;
 
 pub fn is_letter_code(code: usize) -> bool
-    ensures { Decides (LetterCode code) result }
+    ensures { Decides result (LetterCode code) }
 {
-    if code == 0 {
-        return false;
-    }
-    if 26 < code {
-        return false;
-    }
-    true
+    1 <= code && code <= 26
 }
 
 // "2 or 3 letters"
 fn is_device(word: usize) -> bool
-    ensures { Decides (DeviceLetters word) result }
+    ensures { Decides result (DeviceLetters word) }
 {
     let codes = Radix50(word);
     if !is_letter_code(codes.first()) {
@@ -37,10 +31,7 @@ fn is_device(word: usize) -> bool
         return false;
     }
     let third = codes.third();
-    if third == 0 {
-        return true;
-    }
-    is_letter_code(third)
+    third == 0 || is_letter_code(third)
 }
 
 pub fn write_device(
@@ -49,65 +40,53 @@ pub fn write_device(
     unit: usize,
     line: &mut [u8],
     count: usize,
-) -> PartStep
+) -> Option<usize>
     ensures { PartLaid (DeviceFits present word unit) written_device line.old count result line.new }
 {
     if !present {
         if word != 0 {
-            return PartStep::Wrong;
+            return None;
         }
         if unit != 0 {
-            return PartStep::Wrong;
+            return None;
         }
-        return PartStep::To(count);
+        return Some(count);
     }
     if LAST_UNIT < unit {
-        return PartStep::Wrong;
+        return None;
     }
     if !is_device(word) {
-        return PartStep::Wrong;
+        return None;
     }
     let letters = put_word(line, count, word);
     let digits = put_unit(line, letters, unit);
-    PartStep::To(put(line, digits, COLON))
+    Some(put(line, digits, COLON))
 }
 
-fn write_extension(present: bool, word: usize, line: &mut [u8], count: usize) -> PartStep
+fn write_extension(present: bool, word: usize, line: &mut [u8], count: usize) -> Option<usize>
     ensures { PartLaid (ExtensionFits present word) written_extension line.old count result line.new }
 {
     if !present {
         if word != 0 {
-            return PartStep::Wrong;
+            return None;
         }
-        return PartStep::To(count);
+        return Some(count);
     }
     if word == 0 {
-        return PartStep::Wrong;
+        return None;
     }
     if !Radix50(word).is_legal_extension() {
-        return PartStep::Wrong;
+        return None;
     }
     let next = put(line, count, PERIOD);
-    PartStep::To(put_word(line, next, word))
+    Some(put_word(line, next, word))
 }
 
 // No name: then its words and the extension are 0.
 fn is_no_file(extended: bool, first: usize, second: usize, extension: usize) -> bool
-    ensures { Decides (NoFile extended first second extension) result }
+    ensures { Decides result (NoFile extended first second extension) }
 {
-    if extended {
-        return false;
-    }
-    if first != 0 {
-        return false;
-    }
-    if second != 0 {
-        return false;
-    }
-    if extension != 0 {
-        return false;
-    }
-    true
+    !extended && first == 0 && second == 0 && extension == 0
 }
 
 pub fn write_file(
@@ -118,17 +97,17 @@ pub fn write_file(
     extension: usize,
     line: &mut [u8],
     count: usize,
-) -> PartStep
+) -> Option<usize>
     ensures { PartLaid (FileFits present extended first second extension) written_file line.old count result line.new }
 {
     if !present {
         if !is_no_file(extended, first, second, extension) {
-            return PartStep::Wrong;
+            return None;
         }
-        return PartStep::To(count);
+        return Some(count);
     }
     if !is_legal_name(Radix50(first), Radix50(second)) {
-        return PartStep::Wrong;
+        return None;
     }
     let next = put_name(line, count, first, second);
     write_extension(extended, extension, line, next)
@@ -140,27 +119,27 @@ pub fn write_uic(
     user: usize,
     line: &mut [u8],
     count: usize,
-) -> PartStep
+) -> Option<usize>
     ensures { PartLaid (UicFits present group user) written_uic line.old count result line.new }
 {
     if !present {
         if group != 0 {
-            return PartStep::Wrong;
+            return None;
         }
         if user != 0 {
-            return PartStep::Wrong;
+            return None;
         }
-        return PartStep::To(count);
+        return Some(count);
     }
     if LAST_OWNER < group {
-        return PartStep::Wrong;
+        return None;
     }
     if LAST_OWNER < user {
-        return PartStep::Wrong;
+        return None;
     }
     let opening = put(line, count, OPENING);
     let groups = put_octal(line, opening, group);
     let comma = put(line, groups, COMMA);
     let users = put_octal(line, comma, user);
-    PartStep::To(put(line, users, CLOSING))
+    Some(put(line, users, CLOSING))
 }

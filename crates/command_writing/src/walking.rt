@@ -1,19 +1,15 @@
 // The words of records, by their numbers.
-ghost use Rattle.std.specs.Prelude.{◌≡◌, ◌≤◌, ◌<◌, length, get_or};
+ghost use Rattle.std.specs.Prelude.{◌≡◌, ◌≤◌, ◌<◌, length, get_or, Decides};
 ghost use Rattle.command_writing.specs.Standing.{words_in, Room};
-ghost use Rattle.command_writing.specs.LaidText.{Decides};
 
 use words::word_at;
 
 // Whether so many words stand from a word on.
 pub fn stand(records: &[u8], at: usize, many: usize) -> bool
     requires { at ≤ length (words_in records.now) }
-    ensures { Decides (Room records.now at many) result }
+    ensures { Decides result (Room records.now at many) }
 {
-    if records.len() / 2 - at < many {
-        return false;
-    }
-    true
+    many <= records.len() / 2 - at
 }
 
 pub fn record_word(records: &[u8], i: usize) -> usize

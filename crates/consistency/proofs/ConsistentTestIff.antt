@@ -19,7 +19,7 @@ use Rattle.answers.proofs.RefusalsTests.{and_left, and_right, and_both}
 use Rattle.pack.proofs.HeaderTestWhole.{header_iff}
 use Rattle.pack.proofs.HeaderRules.{header_sized}
 use Rattle.radix.proofs.Names.{name_not_zero}
-use Rattle.consistency.specs.declared.Opened.TheVariants.{Good, Bad}
+use Rattle.std.specs.Prelude.{Some, None}
 use Rattle.consistency.specs.Walk.{system_set}
 use Rattle.consistency.specs.ConsistentTest.{scan_test, mark_all, empty_map, system_map, entries_test, files_test, consistent, opened_of}
 use Rattle.consistency.specs.MapTest.{map_test}
@@ -152,21 +152,21 @@ consistent_iff img = (means, tested)
         ((files_iff img (geometry_of img) (header_sized img h.header)).1 (record { entries = h.entries; differ = h.differ; once = h.once }, h.map))
 
 -- what the answer of a pack opened says
-by_good : (test : Bool) (g h : Geometry) → cond test (Good g) Bad ≡ Good h → (test ≡ true) × (g ≡ h)
+by_good : (test : Bool) (g h : Geometry) → cond test (Some g) None ≡ Some h → (test ≡ true) × (g ≡ h)
 by_good true g h is = (refl, cc)
 by_good false g h is = (cc, cc)
 
-pub opened_good : (img : List ℕ) (g : Geometry) → opened_of img ≡ Good g → Consistent img × (geometry_of img ≡ g) × Sized img g
+pub opened_good : (img : List ℕ) (g : Geometry) → opened_of img ≡ Some g → Consistent img × (geometry_of img ≡ g) × Sized img g
 unfolding opened_of
 opened_good img g is =
     let h = by_good (consistent img) _ _ is in
     let c = (consistent_iff img).0 h.0 in
     (c, h.1, subst (Sized img) h.1 (header_sized img c.header))
 
-by_bad : (test : Bool) (g : Geometry) → cond test (Good g) Bad ≡ Bad → test ≡ false
+by_bad : (test : Bool) (g : Geometry) → cond test (Some g) None ≡ None → test ≡ false
 by_bad true g is = cc
 by_bad false g is = refl
 
-pub opened_bad : (img : List ℕ) → opened_of img ≡ Bad → consistent img ≡ false
+pub opened_bad : (img : List ℕ) → opened_of img ≡ None → consistent img ≡ false
 unfolding opened_of
 opened_bad img is = by_bad (consistent img) _ is

@@ -6,8 +6,6 @@ use mathlib.Core.List.{List}
 use native.Mathlib.Omega.{arith}
 use lib.ListN.{length, get_or}
 use Rattle.pack.specs.declared.Geometry.{Geometry}
-use Rattle.pack.specs.declared.Header.{Header}
-use Rattle.pack.specs.declared.Header.TheVariants.{Right, Wrong}
 use Rattle.pack.specs.Geometry.{geometry_of, slots}
 use Rattle.pack.specs.GeometrySized.{most_entries, Sized}
 use Rattle.pack.specs.Header.{RightHeader}
@@ -16,8 +14,8 @@ use Rattle.pack.specs.Consistent.{held_in, held}
 use Rattle.answers.proofs.RefusalsTests.{and_left, go_on, stop, true_not_false}
 use Rattle.pack.proofs.HeaderTestWhole.{header_iff}
 use Rattle.pack.proofs.HeaderRules.{header_sized, entries_few}
-use Rattle.consistency.specs.declared.Opened.{Opened}
-use Rattle.consistency.specs.declared.Opened.TheVariants.{Good, Bad}
+use Rattle.consistency.specs.ConsistentTest.{Opened}
+use Rattle.std.specs.Prelude.{Option, Some, None}
 use Rattle.consistency.specs.Walk.{system_set}
 use Rattle.consistency.specs.ConsistentTest.{mark_all, system_map, entries_test, files_test, consistent, opened_of}
 use Rattle.consistency.specs.Mapped.{Lent, MappedIf}
@@ -27,26 +25,26 @@ use Rattle.consistency.proofs.ConsistentTestIff.{system_long, entries_any, entri
 
 -- an answer that an image is not consistent: of the map it says nothing
 abbrev Refused : List ℕ → Type 0 → Type 0
-Refused img A = (Bad ≡ opened_of img) × (consistent img ≡ true → A)
+Refused img A = (None ≡ opened_of img) × (consistent img ≡ true → A)
 
 refused : (img : List ℕ) {A : Type 0} → consistent img ≡ false → Refused img A
 unfolding opened_of
 refused img wrong = (simp wrong, λ right. true_not_false (sym right ∙ wrong))
 
-by_right : (test : Bool) (g h : Geometry) → cond test (Right g) Wrong ≡ Right h → (test ≡ true) × (g ≡ h)
+by_right : (test : Bool) (g h : Geometry) → cond test (Some g) None ≡ Some h → (test ≡ true) × (g ≡ h)
 by_right true g h is = (refl, cc)
 by_right false g h is = (cc, cc)
 
-by_wrong : (test : Bool) (g : Geometry) → cond test (Right g) Wrong ≡ Wrong → test ≡ false
+by_wrong : (test : Bool) (g : Geometry) → cond test (Some g) None ≡ None → test ≡ false
 by_wrong true g is = cc
 by_wrong false g is = refl
 
-module _ (img : List ℕ) (r : Header) (is : r ≡ header_of img) where
-  pub open_wrong : {A : Type 0} → r ≡ Wrong → Refused img A
+module _ (img : List ℕ) (r : Option Geometry) (is : r ≡ header_of img) where
+  pub open_wrong : {A : Type 0} → r ≡ None → Refused img A
   unfolding header_of consistent
   open_wrong wrong = refused img (sym (stop (header_test img) (files_test img (geometry_of img)) (by_wrong _ _ (sym is ∙ wrong))))
 
-  module _ (g : Geometry) (right : r ≡ Right g) where
+  module _ (g : Geometry) (right : r ≡ Some g) where
     passed : (header_test img ≡ true) × (geometry_of img ≡ g)
     unfolding header_of
     passed = by_right _ _ _ (sym is ∙ right)
@@ -92,7 +90,7 @@ module _ (img : List ℕ) (r : Header) (is : r ≡ header_of img) where
       right_entries test = entries_any img g open_sized (length lent) (open_enough l) ∙ and_left (entries_test g.blocks img g) _ test
 
       pub open_good : (marks left : List ℕ) → files_test img g ≡ true → marks ≡ mark_all img g map 0 (slots g) → left ≡ system_set marks g.bodies.0 0
-          → (Good g ≡ opened_of img) × MappedIf left img
+          → (Some g ≡ opened_of img) × MappedIf left img
       unfolding opened_of held
       open_good marks left right marked given =
           let good = by_files ∙ right in
@@ -109,10 +107,10 @@ module _ (img : List ℕ) (r : Header) (is : r ≡ header_of img) where
           )
 
 -- whether a pack was opened
-pub consistent_good : (img : List ℕ) (r : Opened) (g : Geometry) → r ≡ opened_of img → r ≡ Good g → true ≡ consistent img
+pub consistent_good : (img : List ℕ) (r : Opened) (g : Geometry) → r ≡ opened_of img → r ≡ Some g → true ≡ consistent img
 unfolding opened_of
 consistent_good img r g is good = by (consistent img) (geometry_of img) (sym is ∙ good)
   where
-    by : (test : Bool) (h : Geometry) → cond test (Good h) Bad ≡ Good g → true ≡ test
+    by : (test : Bool) (h : Geometry) → cond test (Some h) None ≡ Some g → true ≡ test
     by true h e = refl
     by false h e = cc

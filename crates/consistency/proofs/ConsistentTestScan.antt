@@ -72,16 +72,6 @@ module _ (img : List ℕ) (g : Geometry) where
         scan_counts (mark map (blocks_at img g e)) (e + 1) k (rw mark_length long) (and_right (entry_test img g map e) _ test) b,
       )
 
-  -- all are left at the start
-  pub bodies_start : (map : List ℕ) (k : ℕ) → bodies_test img g map 0 k ≡ bodies_test img g map 0 (k - 0)
-  bodies_start map k = let all : k ≡ k - 0 = omega arith in ap (bodies_test img g map 0) all
-
-  pub marks_start : (map : List ℕ) (k : ℕ) → mark_all img g map 0 k ≡ mark_all img g map 0 (k - 0)
-  marks_start map k = let all : k ≡ k - 0 = omega arith in ap (mark_all img g map 0) all
-
-  pub names_start : (k : ℕ) → names_test img g 0 k ≡ names_test img g 0 (k - 0)
-  names_start k = let all : k ≡ k - 0 = omega arith in ap (names_test img g 0) all
-
   pub marks_length : (map : List ℕ) (e k : ℕ) → length (mark_all img g map e k) ≡ length map
   unfolding mark_all
   marks_length map e zero = refl

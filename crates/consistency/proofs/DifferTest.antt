@@ -25,10 +25,6 @@ unfolding slot_of
 slot_in long key few = omega arith
 slot_in long key many = omega arith
 
-pub table_small : {long : ℕ} → TableSize long → long ≤ 1024
-table_small few = omega arith
-table_small many = omega arith
-
 larger : {long : ℕ} → TableSize long → (long ≡ 256 → ⊥) → long ≡ 1024
 larger few other = absurd (other refl)
 larger many other = refl
@@ -315,27 +311,3 @@ module _ (img : List ℕ) (g : Geometry) where
             by (no apart) old =
                 subst (λ (n : ℕ). InList after n i) (sym (get_or-set_other heads slot (slot_of (length heads) (key_number img g i)) (e + 1) 0 apart))
                 (kept (get_or heads (slot_of (length heads) (key_number img g i)) 0) i (before.first (slot_of (length heads) (key_number img g i))) old)
-
--- a search through a list: whoever of it has the number is still to come
-module _ (img : List ℕ) (g : Geometry) {links : List ℕ} {key from : ℕ} where
-  pub seek_end : {f : ℕ} → f ≤ 0 → ((i : ℕ) → InList links from i → key_number img g i ≡ key → InList links f i) → Compared img g links key from true
-  seek_end {f} none leads =
-      record { other = λ _ i in_List is. nobody f i none (leads i in_List is); met = λ never. true_not_false never }
-    where
-      nobody : (f i : ℕ) → f ≤ 0 → InList links f i → ⊥
-      nobody f i low (here is) = omega (arith, low, is)
-      nobody f i low (later k is rest) = omega (arith, low, is)
-
-  pub seek_on : {f : ℕ} → 0 < f → (key_number img g (f - 1) ≡ key → ⊥) → {next : ℕ} → next ≡ get_or links (f - 1) 0
-      → ((i : ℕ) → InList links from i → key_number img g i ≡ key → InList links f i) → (i : ℕ) → InList links from i → key_number img g i ≡ key → InList links next i
-  seek_on {f} more other is leads i in_List same = rw is (rest f (f - 1) i (omega (arith, more)) (leads i in_List same) same other)
-    where
-      rest : (f k i : ℕ) → f ≡ suc k → InList links f i → key_number img g i ≡ key → (key_number img g k ≡ key → ⊥) → InList links (get_or links k 0) i
-      rest f k i at (here is) same other = let own : i ≡ k = omega (arith, at, is) in absurd (other (ap (key_number img g) (sym own) ∙ same))
-      rest f k i at (later k' is found) same other =
-          let own : k' ≡ k = omega (arith, at, is) in
-          subst (λ (n : ℕ). InList links (get_or links n 0) i) own found
-
-  pub seek_met : {f : ℕ} → (0 < f) × (f ≤ from) → SmallKey img g (f - 1) → key_number img g (f - 1) ≡ key → Compared img g links key from false
-  seek_met {f} low small same =
-      record { other = λ never. true_not_false (sym never); met = λ _. record { at = f - 1; before = omega (arith, low); small = small; same = same } }

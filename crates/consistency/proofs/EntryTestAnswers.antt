@@ -5,8 +5,6 @@ use mathlib.Core.Bool.{Bool, true, false, cond, not, ◌&&◌, ◌||◌, and-tru
 use mathlib.Core.List.{List}
 use native.Mathlib.Omega.{arith}
 use native.Mathlib.Decide.{ℕ_discrete, dec_lt}
-use native.Mathlib.Numerals.{add-one}
-use native.Mathlib.Nat.{add-zero}
 use lib.Dec.{eqb, leb, ltb}
 use lib.ListN.{get_or}
 use borrow.Author.Tests.{eq-eqb, ne_eqb, eqb-true, le-leb, lt-leb, lt-ltb, le-ltb}
@@ -39,35 +37,6 @@ module _ (img : List ℕ) (g : Geometry) (e : ℕ) {name1 name2 : ℕ} (is₀ : 
     pub key_uic : legal_extension extension ≡ true → (r : Bool) (uic : ℕ) → uic ≡ entry_word img g e 3 → r ≡ listed img uic → r ≡ key_test img (entry_of img g e)
     unfolding key_test entry_of
     key_uic extended r uic is₃ is = go_on (rw (is₀, is₁) at named) (go_on (rw is₂ at extended) (rw is₃ at is))
-
--- of the test of the writer by the kind
-module _ (kind writer : ℕ) where
-  pub run_writer : kind ≡ 1 → leb writer 1 ≡ writer_test kind writer
-  unfolding writer_test
-  run_writer is = simp (eq-eqb _ _ is)
-
-  module _ (other : kind ≡ 1 → ⊥) where
-    pub no_kind : (kind ≡ 2 → ⊥) → false ≡ writer_test kind writer
-    unfolding writer_test
-    no_kind another = simp (ne_eqb _ _ other, ne_eqb _ _ another)
-
-    module _ (is : kind ≡ 2) where
-      pub chain_updated : writer ≡ 1 → false ≡ writer_test kind writer
-      unfolding writer_test
-      chain_updated u = simp (ne_eqb _ _ other, eq-eqb _ _ is, eq-eqb _ _ u)
-
-      pub chain_writer : (writer ≡ 1 → ⊥) → leb writer 3 ≡ writer_test kind writer
-      unfolding writer_test
-      chain_writer not_u = simp (ne_eqb _ _ other, eq-eqb _ _ is, ne_eqb _ _ not_u)
-
--- of the test of readers and writer
-pub opens_written : (writer readers : ℕ) → 0 < writer → ltb readers 62 ≡ opens_test writer readers
-unfolding opens_test
-opens_written writer readers some = simp (lt-ltb _ _ some, add-one)
-
-pub opens_read : (writer readers : ℕ) → writer ≤ 0 → leb readers 62 ≡ opens_test writer readers
-unfolding opens_test
-opens_read writer readers none = simp (le-ltb _ _ none, add-zero)
 
 -- a number of eight bytes that is 0
 module _ (bytes : List ℕ) (at : ℕ) where

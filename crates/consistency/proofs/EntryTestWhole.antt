@@ -6,18 +6,15 @@ use mathlib.Core.List.{List}
 use mathlib.Core.Logic.{inl, inr, ◌↔◌}
 use native.Mathlib.Omega.{arith}
 use native.Mathlib.Decide.{ℕ_discrete}
-use lib.ListN.{length}
 use borrow.Author.Tests.{eq-eqb, ne_eqb}
 use Rattle.words.specs.Word.{word_at}
 use Rattle.pack.specs.declared.Geometry.{Geometry}
 use Rattle.pack.specs.declared.Entry.{Entry}
 use Rattle.pack.specs.Geometry.{block_words, entry_at, slots}
-use Rattle.pack.specs.GeometrySized.{Sized}
 use Rattle.pack.specs.HeaderTest.{zeros}
 use Rattle.pack.specs.File.{blocks_of}
 use Rattle.pack.specs.Entry.{entry_word, entry_of, blocks_at, Empty, Used, RightEntry}
 use Rattle.answers.proofs.RefusalsTests.{and_left, and_right, and_both}
-use Rattle.pack.proofs.GeometryRoom.{entry_room}
 use Rattle.pack.proofs.HeaderTestWords.{zeros_at, zeros_all}
 use Rattle.pack.proofs.EntryRead.{empty_blocks}
 use Rattle.radix.proofs.Names.{name_not_zero}
@@ -27,20 +24,11 @@ use Rattle.consistency.specs.ConsistentTest.{UsedEnd}
 use Rattle.consistency.proofs.WalkTaking.{takes_range}
 use Rattle.consistency.proofs.EntryTestFields.{fields_iff, kind_iff}
 
--- an entry stands in the image whole
-pub entry_whole : {img : List ℕ} {g : Geometry} → Sized img g → (e : ℕ) → e < slots g → 2 * (entry_at g e + 16) ≤ length img
-entry_whole sized e below = omega (arith, entry_room sized e 15 below (omega arith))
-
 -- the words of an entry from word i on, by the words of a block as they were read
 pub rest_is : (img : List ℕ) (g : Geometry) (e i : ℕ) (r : Bool) {words : ℕ} → words ≡ block_words g → r ≡ zeros img (words + 16 * e + i) (16 - i)
     → r ≡ rest_test img g e i
 unfolding rest_test
 rest_is img g e i r size is = rw size at is
-
--- the entries from e to `end`, the last of all, stand in the image whole; where all their words are 0 they are empty
-module _ {img : List ℕ} {g : Geometry} {e end words : ℕ} (sized : Sized img g) (all : end ≡ slots g) (below : e < end) (size : words ≡ block_words g) where
-  pub entries_whole : 2 * (words + 16 * e + 16 * (end - e)) ≤ length img
-  entries_whole = omega (arith, size, entry_whole sized (end - 1) (omega (arith, all)))
 
 module _ (img : List ℕ) (g : Geometry) where
   pub used_stretch : (e end : ℕ) {words : ℕ} → end ≡ slots g → e < end → words ≡ block_words g → zeros img (words + 16 * e) (16 * (end - e)) ≡ true → UsedEnd img g e
@@ -53,9 +41,6 @@ module _ (img : List ℕ) (g : Geometry) where
               zeros_at img (words + 16 * e) (16 * (end - e)) (entry_at g i + j) test (omega (arith, size)) (omega (arith, size, all));
         };
       }
-
-  pub used_all : (end : ℕ) → end ≡ slots g → UsedEnd img g end
-  used_all end all = record { most = omega (arith, all); empty = λ i low high. absurd (omega (arith, all)) }
 
 pub rest_iff : (img : List ℕ) (g : Geometry) (e i : ℕ) → i ≤ 16 → rest_test img g e i ≡ true ↔ ((j : ℕ) → i ≤ j → j < 16 → entry_word img g e j ≡ 0)
 unfolding rest_test entry_word

@@ -155,11 +155,6 @@ pub record Leads (img : List ℕ) (g : Geometry) (bit : ℕ → ℕ) (w : ℕ) :
   pub within : w ≤ block_words g
   pub rest : agree_from img g bit 0 (map_bits g) ≡ agree_from img g bit (16 * w) (16 * (block_words g - w))
 
-pub leads_begin : (img : List ℕ) (g : Geometry) (bit : ℕ → ℕ) → Leads img g bit 0
-leads_begin img g bit =
-    let size : map_bits g ≡ 16 * (block_words g - 0) = omega arith in
-    record { within = omega arith; rest = ap (agree_from img g bit 0) size }
-
 module _ {img : List ℕ} {g : Geometry} {bit : ℕ → ℕ} {w : ℕ} (leads : Leads img g bit w) where
   module _ (few : (i : ℕ) → bit i ≤ 1) {words word made : ℕ} (many : words ≡ block_words g) (inside : w < words)
       (read : word ≡ word_at img ((g.contents + 1) * words + w)) (small : word < 65536) (bits : made ≡ bits_from bit (16 * w) 16) where

@@ -1,9 +1,8 @@
 -- The number that bits make: eight are laid together, twice eight are a word, and none is 0.
-use Prim.Native.Nat.{ℕ, suc, zero, ◌+◌, ◌*◌, ◌/◌, ◌%◌, ◌≤◌, ◌<◌}
+use Prim.Native.Nat.{ℕ, suc, zero, ◌+◌, ◌*◌, ◌/◌, ◌%◌, ◌≤◌}
 use mathlib.Core.Path.{◌≡◌, refl, sym, ap, ◌∙◌}
 use mathlib.Core.List.{List}
 use native.Mathlib.Omega.{arith}
-use lib.ListN.{length}
 use Rattle.consistency.specs.EightBytes.{eight_at}
 use Rattle.consistency.specs.MapTest.{bits_from, mark_on, Marks}
 use Rattle.consistency.proofs.EightBytes.{laid_eight, laid_small}
@@ -73,6 +72,3 @@ module _ (marks : List ℕ) (few : (i : ℕ) → mark_on marks i ≤ 1) (b : ℕ
 module _ {marks : List ℕ} {blocks : ℕ} (m : Marks marks blocks) (w : ℕ) where
   pub word_beyond : blocks ≤ 16 * w → 0 ≡ bits_from (mark_on marks) (16 * w) 16
   word_beyond past = bits_nothing (mark_on marks) (16 * w) 16 (λ i low. m.beyond i (omega arith))
-
-  pub word_inside : 16 * w < blocks → 16 * w + 16 ≤ length marks
-  word_inside inside = omega (arith, inside, m.whole, m.enough)

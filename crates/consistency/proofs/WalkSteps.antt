@@ -65,9 +65,6 @@ module _ {img : List ℕ} {g : Geometry} {kind : ℕ} {map₀ : List ℕ} {count
         marks = w.marks ∙ mark_step img g kind map left b more _ is;
       })
 
-  pub walking_last : left ≡ 1 → mark map₀ (blocks_from img g kind count first) ≡ mark map (blocks_from img g kind 1 b)
-  walking_last one = w.marks ∙ ap (λ (k : ℕ). mark map (blocks_from img g kind k b)) one
-
   pub walking_ends : left ≡ 0 → map ≡ mark map₀ (blocks_from img g kind count first)
   walking_ends none = sym (w.marks ∙ mark_end img g kind map left b none)
 
@@ -99,9 +96,6 @@ module _ (img : List ℕ) (g : Geometry) (map : List ℕ) (other left b stored :
   unfolding chain_test
   chain_stops more fails = first_fails _ (takes_not img g 2 map left b more fails)
 
-  pub chain_last : left ≡ 1 → chain_test img g map other left b stored ≡ chain_test img g map other 1 b stored
-  chain_last one = ap (λ (k : ℕ). chain_test img g map other k b stored) one
-
   pub chain_ends : left ≡ 0 → chain_test img g map other left b stored ≡ (eqb other stored && eqb b 0)
   unfolding chain_test blocks_from chain takes last_of after
   chain_ends none = ap (λ (k : ℕ). chain_test img g map other k b stored) none
@@ -123,9 +117,6 @@ pub record Running (map₀ : List ℕ) (first behind : ℕ) (map : List ℕ) (b 
   pub taken : (img : List ℕ) (g : Geometry) → SystemTaken map₀ g → behind ≤ g.blocks
       → takes g.bodies.0 g.blocks map₀ (blocks_from img g 1 (behind - first) first) ≡ takes g.bodies.0 g.blocks map (blocks_from img g 1 (behind - b) b)
   pub marks : (img : List ℕ) (g : Geometry) → mark map₀ (blocks_from img g 1 (behind - first) first) ≡ mark map (blocks_from img g 1 (behind - b) b)
-
-pub running_starts : (map : List ℕ) (first behind : ℕ) → Running map first behind map first
-running_starts map first behind = record { long = refl; system = λ g here. here; taken = λ img g here inside. refl; marks = λ img g. refl }
 
 follows : (img : List ℕ) (g : Geometry) (b : ℕ) → b + 1 ≡ next_of img g 1 b
 unfolding next_of

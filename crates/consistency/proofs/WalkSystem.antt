@@ -1,12 +1,12 @@
 -- The system's blocks on a map: taken or given back they are as said, and all others as they were; they stay taken whatever else is taken.
 use Prim.Native.Nat.{ℕ, suc, zero, ◌+◌, ◌≤◌, ◌<◌}
 use mathlib.Core.Path.{◌≡◌, refl, sym, ap, ◌∙◌}
-use mathlib.Core.List.{List, [], ◌∷◌}
+use mathlib.Core.List.{List, [], ◌∷◌, ◌++◌}
 use native.Mathlib.Omega.{arith}
 use native.Mathlib.Decide.{ℕ_discrete, dec_lt, dec_le}
-use native.Mathlib.Numerals.{add-one}
-use lib.ListN.{length, get_or, set, length-set, get_or-eq_default}
+use lib.ListN.{length, get_or, set, drop, replicate, length-set, get_or-eq_default}
 use lib.Seq.{get_or-set_same, get_or-set_other}
+use Rattle.std.proofs.lemmas.List.Edits.{fill_none, fill_more}
 use Rattle.pack.specs.declared.Geometry.{Geometry}
 use Rattle.consistency.specs.Walk.{mark, system_set, SystemTaken}
 
@@ -15,9 +15,14 @@ unfolding system_set
 system_length map zero taken = refl
 system_length map (suc count) taken = length-set (system_set map count taken) count taken ∙ system_length map count taken
 
-pub system_step : (map : List ℕ) (count taken : ℕ) → set (system_set map count taken) count taken ≡ system_set map (count + 1) taken
+-- the first places of a map filled at once
+pub system_fill : (map : List ℕ) (count taken : ℕ) → count ≤ length map → replicate count taken ++ drop count map ≡ system_set map count taken
 unfolding system_set
-system_step map count taken = rw add-one
+system_fill map zero taken inside = sym (fill_none map taken)
+system_fill map (suc count) taken inside =
+    let next : suc count ≡ count + 1 = omega arith in
+    ap (λ (n : ℕ). replicate n taken ++ drop n map) next
+    ∙ (sym (fill_more count taken map (omega arith)) ∙ ap (λ (m : List ℕ). set m count taken) (system_fill map count taken (omega arith)))
 
 module _ (map : List ℕ) (taken b : ℕ) where
   pub system_others : (count : ℕ) → count ≤ b → get_or (system_set map count taken) b 0 ≡ get_or map b 0

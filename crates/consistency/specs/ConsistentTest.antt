@@ -1,12 +1,10 @@
 -- Means: the check of a whole image as a test; proofs/ConsistentTestIff.antt has that it is true exactly if the image is consistent.
-use Rattle.std.specs.Prelude.{ℕ, suc, zero, ◌+◌, ◌≤◌, ◌<◌, Bool, true, cond, ◌&&◌, List, eqb, replicate}
+use Rattle.std.specs.Prelude.{ℕ, suc, zero, ◌+◌, ◌≤◌, ◌<◌, Bool, true, cond, ◌&&◌, List, eqb, replicate, Option, Some, None}
 use Rattle.pack.specs.declared.Geometry.{Geometry}
 use Rattle.pack.specs.Geometry.{geometry_of, slots}
 use Rattle.pack.specs.HeaderTest.{header_test}
 use Rattle.pack.specs.Entry.{entry_of, blocks_at, Empty}
 use Rattle.pack.specs.MapSays.{marking}
-use Rattle.consistency.specs.declared.Opened.{Opened}
-use Rattle.consistency.specs.declared.Opened.TheVariants.{Good, Bad}
 use Rattle.consistency.specs.Walk.{mark, system_set}
 use Rattle.consistency.specs.EntryTest.{key_test, placed_test, entry_test}
 use Rattle.consistency.specs.DifferTest.{new_test, differ_test}
@@ -57,5 +55,9 @@ files_test img g = entries_test g.blocks img g && map_test img g (marking img g)
 unfoldable pub consistent : List ℕ → Bool
 consistent img = header_test img && files_test img (geometry_of img)
 
+-- what a pack is opened as: the measures of a consistent image, or nothing
+abbrev pub Opened : Type 0
+Opened = Option Geometry
+
 unfoldable pub opened_of : List ℕ → Opened
-opened_of img = cond (consistent img) (Good (geometry_of img)) Bad
+opened_of img = cond (consistent img) (Some (geometry_of img)) None

@@ -7,7 +7,7 @@ ghost use Rattle.pack.specs.Entry.{entry_word};
 ghost use Rattle.consistency.specs.DifferTest.{key_number, SmallKey, TableSize, slot_of, Compared, new_test, Listing};
 
 use crate::eights;
-use pack::Geometry;
+use pack::View;
 
 // Lists for at most so many files, and how many lists: so many that few files share one.
 pub const FEW_FILES: usize = 128;
@@ -19,14 +19,13 @@ pub const MANY_FILES: usize = 512;
 pub const MANY_LISTS: usize = 1024;
 
 // The name, extension and UIC of entry e as one number.
-pub fn key_number(img: &[u8], g: Geometry, e: usize) -> usize
-    requires sized { Sized img.now g }
-    requires e_bound { e < slots g }
-    ensures value { result ≡ key_number img.now g e }
-    ensures small_key { SmallKey img.now g e }
+pub fn key_number(view: View<'_>, e: usize) -> usize
+    requires e_bound { e < slots view.g }
+    ensures value { result ≡ key_number view.entry.img.now view.entry.g e }
+    ensures small_key { SmallKey view.entry.img.now view.entry.g e }
 {
-    let segments = g.segments;
-    eights::eight_at(img, segments.bytes() + 32 * e)
+    let segments = view.g.segments;
+    eights::eight_at(view.img, segments.bytes() + 32 * e)
 }
 
 // The list of a file.
@@ -43,14 +42,13 @@ fn slot_of(key: usize, long: usize) -> usize
 }
 
 // Has none of the files in a list this number? The list begins with the entry before `from`, and each entry leads to one before it; 0 is its end.
-fn is_apart(img: &[u8], links: &[u16], g: Geometry, key: usize, from: usize) -> bool
-    requires sized { Sized img.now g }
-    requires from_bound { (from ≤ slots g) × (from ≤ length links.now) × ((f : ℕ) → get_or links.now f 0 ≤ f) }
-    ensures { Compared img.now g links.now key from result }
+fn is_apart(view: View<'_>, links: &[u16], key: usize, from: usize) -> bool
+    requires from_bound { (from ≤ slots view.g) × (from ≤ length links.now) × ((f : ℕ) → get_or links.now f 0 ≤ f) }
+    ensures { Compared view.entry.img.now view.entry.g links.now key from result }
 {
     let mut f = from;
     while 0 < f {
-        if key_number(img, g, f - 1) == key {
+        if key_number(view, f - 1) == key {
             return false;
         }
         f = links[f - 1] as usize;
@@ -59,17 +57,16 @@ fn is_apart(img: &[u8], links: &[u16], g: Geometry, key: usize, from: usize) -> 
 }
 
 // The files before this one stand in their lists: only one in its own can be the same.
-pub fn does_differ(img: &[u8], heads: &mut [u16], links: &mut [u16], g: Geometry, e: usize) -> bool
-    requires sized { Sized img.now g }
-    requires e_bound { (e < slots g) × (entry_word img.now g e 0 ≡ 0 → ⊥) × Listing img.now g heads.old links.old e }
+pub fn does_differ(view: View<'_>, heads: &mut [u16], links: &mut [u16], e: usize) -> bool
+    requires e_bound { (e < slots view.g) × (entry_word view.img.now view.g e 0 ≡ 0 → ⊥) × Listing view.img.now view.g heads.old links.old e }
     requires e_in_bounds { (e < length links.old) × (length links.old < 65536) }
-    ensures value { result ≡ new_test img.now g e }
-    ensures listing { result ≡ true → Listing img.now g heads.new links.new (e + 1) }
+    ensures value { result ≡ new_test view.entry.img.now view.entry.g e }
+    ensures listing { result ≡ true → Listing view.entry.img.now view.entry.g heads.new links.new (e + 1) }
 {
-    let key = key_number(img, g, e);
+    let key = key_number(view, e);
     let slot = slot_of(key, heads.len());
     let from = heads[slot];
-    if !is_apart(img, links, g, key, from as usize) {
+    if !is_apart(view, links, key, from as usize) {
         return false;
     }
     links[e] = from;

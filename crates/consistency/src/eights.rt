@@ -1,5 +1,5 @@
 // Eight bytes of a slice as one number, the lowest byte first: one instruction reads them.
-ghost use Rattle.std.specs.Prelude.{◌≡◌, ◌+◌, ◌≤◌, ◌<◌, length, get_or};
+ghost use Rattle.std.specs.Prelude.{ℕ, ◌≡◌, ◌+◌, ◌≤◌, ◌<◌, length, get_or};
 ghost use Rattle.consistency.specs.EightBytes.{eight_at};
 
 fn byte_at(bytes: &[u8], i: usize) -> usize
@@ -13,7 +13,8 @@ fn byte_at(bytes: &[u8], i: usize) -> usize
 // Joined so, in one expression, they are known to the compiler for what they are.
 pub fn eight_at(bytes: &[u8], i: usize) -> usize
     requires { i + 8 ≤ length bytes.now }
-    ensures { result ≡ eight_at bytes.now i }
+    ensures value { result ≡ eight_at bytes.now i }
+    ensures bytes_small { (k : ℕ) → get_or bytes.now k 0 < 256 }
 {
     byte_at(bytes, i)
         | (byte_at(bytes, i + 1) << 8)

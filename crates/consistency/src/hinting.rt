@@ -18,11 +18,9 @@ pub fn set_hints(img: &[u8], hints: &mut [u8])
     requires hints_len { length hints.old ≡ 64 }
 {
     let uics = words::word_at(img, 3);
-    let mut i = 0;
-    while i < uics {
+    for i in 0..uics {
         let at = hint_of(words::word_at(img, 4 + i));
         hints[at] = (i % 256) as u8;
-        i += 1;
     }
 }
 

@@ -4,6 +4,7 @@
 mod differing;
 mod eights;
 mod hinting;
+mod lending;
 mod mapping;
 mod walking;
 
@@ -19,38 +20,22 @@ ghost use Rattle.consistency.specs.DifferTest.{differ_test, Listing};
 ghost use Rattle.consistency.specs.ConsistentTest.{named_test, names_test, bodies_test, scan_test, mark_all, system_map, UsedEnd, files_test, opened_of};
 ghost use Rattle.consistency.specs.Mapped.{Lent, MappedIf};
 
+pub use lending::{
+    FEW_BLOCKS, FEW_BYTES, MANY_BLOCKS, MANY_BYTES, lend_map, lend_map_beside, lend_map_mut,
+};
 pub use mapping::word_of;
-use pack::{BlockNo, Geometry, Header};
+use pack::{BlockNo, Geometry, View};
 use radix::Radix50;
 
-// An image of at most so many bytes has at most so many blocks, in whatever form.
-pub const FEW_BYTES: usize = 8192;
-
-pub const FEW_BLOCKS: usize = 64;
-
-// Of at most so many bytes, at most so many.
-pub const MANY_BYTES: usize = 524288;
-
-pub const MANY_BLOCKS: usize = 1024;
-
-// What a pack is opened as: the measures of a consistent image, or no consistent image.
-#[derive(Clone, Copy)]
-pub enum Opened {
-    Good(Geometry),
-    Bad,
-}
+// What a pack is opened as: the measures of a consistent image, or nothing.
+pub type Opened = Option<Geometry>;
 
 // The blocks of the system, taken on the map or given back.
 pub fn set_system(map: &mut [u8], g: Geometry, taken: u8)
     requires { g.bodies.0 ≤ length map.old }
     ensures { map.new ≡ system_set map.old g.bodies.0 taken }
 {
-    let end = g.bodies.0;
-    let mut b = 0;
-    while b < end {
-        map[b] = taken;
-        b += 1;
-    }
+    map[..g.bodies.0].fill(taken);
 }
 
 // Most names fill their first word: then nothing is to be said of blanks behind it.
@@ -64,13 +49,12 @@ fn is_name_right(first: Radix50, second: Radix50) -> bool
     radix::is_legal_name(first, second)
 }
 
-fn is_key_right(img: &[u8], hints: &[u8], uics: usize, g: Geometry, e: usize) -> bool
-    requires sized { Sized img.now g }
-    requires right_header { RightHeader img.now × (e < slots g) }
-    requires hints_len { (length hints.now ≡ 64) × (uics ≡ uic_count img.now) }
-    ensures { result ≡ key_test img.now (entry_of img.now g e) }
+fn is_key_right(view: View<'_>, hints: &[u8], uics: usize, e: usize) -> bool
+    requires right_header { RightHeader view.img.now × (e < slots view.g) }
+    requires hints_len { (length hints.now ≡ 64) × (uics ≡ uic_count view.img.now) }
+    ensures { result ≡ key_test view.entry.img.now (entry_of view.entry.img.now view.entry.g e) }
 {
-    let key = differing::key_number(img, g, e);
+    let key = differing::key_number(view, e);
     let first = Radix50(key % 65536);
     let second = Radix50(key / 65536 % 65536);
     let extension = Radix50(key / 4294967296 % 65536);
@@ -80,26 +64,23 @@ fn is_key_right(img: &[u8], hints: &[u8], uics: usize, g: Geometry, e: usize) ->
     if !extension.is_legal_extension() {
         return false;
     }
-    hinting::is_listed(img, hints, uics, key / 281474976710656)
+    hinting::is_listed(view.img, hints, uics, key / 281474976710656)
 }
 
 // "a contiguous file's writer is 0 or 1, a linked one's 0, 2 or 3": judged here for the check and for the report.
+#[tactic(auto, unfolding(crate::specs::EntryTest::writer_test))]
 pub fn is_writer_right(kind: usize, writer: usize) -> bool
     ensures { result ≡ writer_test kind writer }
 {
-    if kind == 1 {
-        return writer <= 1;
+    match kind {
+        1 => writer <= 1,
+        2 => writer != 1 && writer <= 3,
+        _ => false,
     }
-    if kind != 2 {
-        return false;
-    }
-    if writer == 1 {
-        return false;
-    }
-    writer <= 3
 }
 
 // "readers, plus 1 if there is a writer, are at most 62": so is this.
+#[tactic(auto, unfolding(crate::specs::EntryTest::opens_test))]
 pub fn is_few_opens(writer: usize, readers: usize) -> bool
     ensures { result ≡ opens_test writer readers }
 {
@@ -110,234 +91,213 @@ pub fn is_few_opens(writer: usize, readers: usize) -> bool
 }
 
 // Are the words of entry e from word i on all zero?
-fn is_rest_zero(img: &[u8], g: Geometry, e: usize, i: usize) -> bool
-    requires sized { Sized img.now g }
-    requires e_bound { (e < slots g) × (i < 16) }
-    ensures { result ≡ rest_test img.now g e i }
+fn is_rest_zero(view: View<'_>, e: usize, i: usize) -> bool
+    requires e_bound { (e < slots view.g) × (i < 16) }
+    ensures { result ≡ rest_test view.entry.img.now view.entry.g e i }
 {
-    let segments = g.segments;
-    pack::are_words_zero(img, segments.words() + 16 * e + i, 16 - i)
+    let segments = view.g.segments;
+    pack::are_words_zero(view.img, segments.words() + 16 * e + i, 16 - i)
 }
 
 // Most files are not open. Their last words, 9 to 15, are 0, and two numbers of eight bytes say so.
-fn is_closed(img: &[u8], g: Geometry, e: usize) -> bool
-    requires sized { Sized img.now g }
-    requires e_bound { e < slots g }
-    ensures { result ≡ true → (i : ℕ) → 9 ≤ i → i < 16 → entry_word img.now g e i ≡ 0 }
+fn is_closed(view: View<'_>, e: usize) -> bool
+    requires e_bound { e < slots view.g }
+    ensures { result ≡ true → (i : ℕ) → 9 ≤ i → i < 16 → entry_word view.entry.img.now view.entry.g e i ≡ 0 }
 {
-    let segments = g.segments;
+    let segments = view.g.segments;
     let at = segments.bytes() + 32 * e;
-    if eights::eight_at(img, at + 18) != 0 {
+    if eights::eight_at(view.img, at + 18) != 0 {
         return false;
     }
-    eights::eight_at(img, at + 24) == 0
+    eights::eight_at(view.img, at + 24) == 0
 }
 
 // Each word is read where it is judged.
-fn is_open_right(img: &[u8], g: Geometry, e: usize, kind: usize) -> bool
-    requires sized { Sized img.now g }
-    requires e_bound { e < slots g }
-    ensures { result ≡ open_test img.now g e kind }
+fn is_open_right(view: View<'_>, e: usize, kind: usize) -> bool
+    requires e_bound { e < slots view.g }
+    ensures { result ≡ open_test view.entry.img.now view.entry.g e kind }
 {
-    if is_closed(img, g, e) {
+    if is_closed(view, e) {
         return (kind == 1) | (kind == 2);
     }
-    let writer = pack::entry_word(img, g, e, 9);
+    let writer = view.entry_word(e, 9);
     if !is_writer_right(kind, writer) {
         return false;
     }
-    if !is_few_opens(writer, pack::entry_word(img, g, e, 10)) {
+    if !is_few_opens(writer, view.entry_word(e, 10)) {
         return false;
     }
-    is_rest_zero(img, g, e, 11)
+    is_rest_zero(view, e, 11)
 }
 
 // What is judged of an entry in use beside its name, extension and UIC.
-fn is_held_right(img: &[u8], map: &mut [u8], g: Geometry, e: usize) -> bool
-    requires sized { Sized img.now g }
-    requires e_bound { e < slots g }
-    requires blocks_in_bounds { (g.blocks ≤ length map.old) × SystemTaken map.old g }
-    ensures value { result ≡ held_test img.now g map.old e }
-    ensures map_after { result ≡ true → map.new ≡ mark map.old (blocks_at img.now g e) }
+fn is_held_right(view: View<'_>, map: &mut [u8], e: usize) -> bool
+    requires e_bound { e < slots view.g }
+    requires blocks_in_bounds { (view.g.blocks ≤ length map.old) × SystemTaken map.old view.g }
+    ensures value { result ≡ held_test view.entry.img.now view.entry.g map.old e }
+    ensures map_after { result ≡ true → map.new ≡ mark map.old (blocks_at view.entry.img.now view.entry.g e) }
 {
-    if 255 < pack::entry_word(img, g, e, 4) {
+    if 255 < view.entry_word(e, 4) {
         return false;
     }
-    let kind = pack::entry_word(img, g, e, 5);
-    if !is_open_right(img, g, e, kind) {
+    let kind = view.entry_word(e, 5);
+    if !is_open_right(view, e, kind) {
         return false;
     }
-    let first = BlockNo(pack::entry_word(img, g, e, 6));
-    let count = pack::entry_word(img, g, e, 7);
-    let stored = BlockNo(pack::entry_word(img, g, e, 8));
+    let first = BlockNo(view.entry_word(e, 6));
+    let count = view.entry_word(e, 7);
+    let stored = BlockNo(view.entry_word(e, 8));
     if kind == 1 {
-        return walking::is_run_right(map, g, first, count, stored);
+        return walking::is_run_right(map, view.g, first, count, stored);
     }
-    walking::is_chain_right(img, map, g, first, count, stored)
+    walking::is_chain_right(view, map, first, count, stored)
 }
 
 // What is judged of entry e beside its name, extension and UIC: an empty one is all zero.
-fn is_placed_right(img: &[u8], map: &mut [u8], g: Geometry, e: usize) -> bool
-    requires sized { Sized img.now g }
-    requires e_bound { e < slots g }
-    requires blocks_in_bounds { (g.blocks ≤ length map.old) × SystemTaken map.old g }
-    ensures value { result ≡ placed_test img.now g map.old e }
-    ensures map_after { result ≡ true → map.new ≡ mark map.old (blocks_at img.now g e) }
+fn is_placed_right(view: View<'_>, map: &mut [u8], e: usize) -> bool
+    requires e_bound { e < slots view.g }
+    requires blocks_in_bounds { (view.g.blocks ≤ length map.old) × SystemTaken map.old view.g }
+    ensures value { result ≡ placed_test view.entry.img.now view.entry.g map.old e }
+    ensures map_after { result ≡ true → map.new ≡ mark map.old (blocks_at view.entry.img.now view.entry.g e) }
 {
-    if pack::entry_word(img, g, e, 0) == 0 {
-        return is_rest_zero(img, g, e, 0);
+    if view.entry_word(e, 0) == 0 {
+        return is_rest_zero(view, e, 0);
     }
-    is_held_right(img, map, g, e)
+    is_held_right(view, map, e)
 }
 
 // Name, extension and UIC of entry e, if it is in use, and whether its file differs from those before it.
 fn is_named_right(
-    img: &[u8],
+    view: View<'_>,
     hints: &[u8],
     uics: usize,
     heads: &mut [u16],
     links: &mut [u16],
-    g: Geometry,
     e: usize,
 ) -> bool
-    requires sized { Sized img.now g }
-    requires right_header { RightHeader img.now × (e < slots g) × Listing img.now g heads.old links.old e }
-    requires e_in_bounds { (e < length links.old) × (length links.old < 65536) × (length hints.now ≡ 64) × (uics ≡ uic_count img.now) }
-    ensures value { result ≡ named_test img.now g e }
-    ensures listing { result ≡ true → Listing img.now g heads.new links.new (e + 1) }
+    requires right_header { RightHeader view.img.now × (e < slots view.g) × Listing view.img.now view.g heads.old links.old e }
+    requires e_in_bounds { (e < length links.old) × (length links.old < 65536) × (length hints.now ≡ 64) × (uics ≡ uic_count view.img.now) }
+    ensures value { result ≡ named_test view.entry.img.now view.entry.g e }
+    ensures listing { result ≡ true → Listing view.entry.img.now view.entry.g heads.new links.new (e + 1) }
 {
-    if differing::key_number(img, g, e) % 65536 == 0 {
+    if differing::key_number(view, e) % 65536 == 0 {
         return true;
     }
-    if !is_key_right(img, hints, uics, g, e) {
+    if !is_key_right(view, hints, uics, e) {
         return false;
     }
-    differing::does_differ(img, heads, links, g, e)
+    differing::does_differ(view, heads, links, e)
 }
 
 // Is the last entry of all in use? Then no end is looked for; the answer only says how to look, and any would do.
-fn is_last_used(img: &[u8], g: Geometry, end: usize) -> bool
-    requires sized { Sized img.now g }
-    requires end_value { end ≡ slots g }
+fn is_last_used(view: View<'_>, end: usize) -> bool
+    requires end_value { end ≡ slots view.g }
 {
     if end < 1 {
         return true;
     }
-    pack::entry_word(img, g, end - 1, 0) != 0
+    view.entry_word(end - 1, 0) != 0
 }
 
 // Behind the entries that are to be looked at one by one: the first empty one, if nothing but zeros follows, else the end.
-fn used_end(img: &[u8], g: Geometry) -> usize
-    requires { Sized img.now g }
-    ensures { UsedEnd img.now g result }
+fn used_end(view: View<'_>) -> usize
+    ensures { UsedEnd view.entry.img.now view.entry.g result }
 {
-    let end = pack::slot_count(g);
-    if is_last_used(img, g, end) {
+    let end = view.slot_count();
+    if is_last_used(view, end) {
         return end;
     }
-    let mut e = 0;
-    while e < end {
-        if pack::entry_word(img, g, e, 0) == 0 {
-            let segments = g.segments;
-            if pack::is_stretch_zero(img, segments.words() + 16 * e, 16 * (end - e)) {
+    for e in 0..end {
+        if view.entry_word(e, 0) == 0 {
+            let segments = view.g.segments;
+            if pack::is_stretch_zero(view.img, segments.words() + 16 * e, 16 * (end - e)) {
                 return e;
             }
             return end;
         }
-        e += 1;
     }
     end
 }
 
 // The entries are gone through twice, since what is judged of one is much: first all but the names.
-fn are_bodies_right(img: &[u8], map: &mut [u8], g: Geometry, end: usize) -> bool
-    requires sized { Sized img.now g }
-    requires used_end { UsedEnd img.now g end }
-    requires blocks_in_bounds { (g.blocks ≤ length map.old) × SystemTaken map.old g }
-    ensures value { result ≡ bodies_test img.now g map.old 0 (slots g) }
-    ensures map_after { result ≡ true → map.new ≡ mark_all img.now g map.old 0 (slots g) }
+fn are_bodies_right(view: View<'_>, map: &mut [u8], end: usize) -> bool
+    requires used_end { UsedEnd view.img.now view.g end }
+    requires blocks_in_bounds { (view.g.blocks ≤ length map.old) × SystemTaken map.old view.g }
+    ensures value { result ≡ bodies_test view.entry.img.now view.entry.g map.old 0 (slots view.entry.g) }
+    ensures map_after { result ≡ true → map.new ≡ mark_all view.entry.img.now view.entry.g map.old 0 (slots view.entry.g) }
 {
-    let mut e = 0;
-    while e < end {
-        if !is_placed_right(img, map, g, e) {
+    for e in 0..end {
+        if !is_placed_right(view, map, e) {
             return false;
         }
-        e += 1;
     }
     true
 }
 
 fn are_keys_right(
-    img: &[u8],
+    view: View<'_>,
     hints: &[u8],
     heads: &mut [u16],
     links: &mut [u16],
-    g: Geometry,
     end: usize,
 ) -> bool
-    requires sized { Sized img.now g }
-    requires right_header { RightHeader img.now × UsedEnd img.now g end × Listing img.now g heads.old links.old 0 }
+    requires right_header { RightHeader view.img.now × UsedEnd view.img.now view.g end × Listing view.img.now view.g heads.old links.old 0 }
     requires end_in_bounds { (end ≤ length links.old) × (length links.old < 65536) × (length hints.now ≡ 64) }
-    ensures { result ≡ names_test img.now g 0 (slots g) }
+    ensures { result ≡ names_test view.entry.img.now view.entry.g 0 (slots view.entry.g) }
 {
-    let uics = words::word_at(img, 3);
-    let mut e = 0;
-    while e < end {
-        if !is_named_right(img, hints, uics, heads, links, g, e) {
+    let uics = words::word_at(view.img, 3);
+    for e in 0..end {
+        if !is_named_right(view, hints, uics, heads, links, e) {
             return false;
         }
-        e += 1;
     }
     true
 }
 
 // For few files a few lists will do, and cost less to clear.
-fn are_names_right(img: &[u8], g: Geometry, end: usize) -> bool
-    requires sized { Sized img.now g }
-    requires right_header { RightHeader img.now × UsedEnd img.now g end × (slots g ≤ most_entries) }
-    ensures { result ≡ names_test img.now g 0 (slots g) }
+fn are_names_right(view: View<'_>, end: usize) -> bool
+    requires right_header { RightHeader view.img.now × UsedEnd view.img.now view.g end × (slots view.g ≤ most_entries) }
+    ensures { result ≡ names_test view.entry.img.now view.entry.g 0 (slots view.entry.g) }
 {
     if end < 1 {
         return true;
     }
     let mut hints = [0u8; hinting::HINTS];
-    hinting::set_hints(img, &mut hints);
+    hinting::set_hints(view.img, &mut hints);
     if end <= differing::FEW_FILES {
         let mut heads = [0u16; differing::FEW_LISTS];
         let mut links = [0u16; differing::FEW_FILES];
-        return are_keys_right(img, &hints, &mut heads, &mut links, g, end);
+        return are_keys_right(view, &hints, &mut heads, &mut links, end);
     }
     let mut heads = [0u16; differing::MANY_LISTS];
     let mut links = [0u16; differing::MANY_FILES];
-    are_keys_right(img, &hints, &mut heads, &mut links, g, end)
+    are_keys_right(view, &hints, &mut heads, &mut links, end)
 }
 
-fn are_entries_right(img: &[u8], map: &mut [u8], g: Geometry) -> bool
-    requires sized { Sized img.now g }
-    requires right_header { RightHeader img.now × (slots g ≤ most_entries) }
-    requires blocks_in_bounds { (g.blocks ≤ length map.old) × SystemTaken map.old g }
-    ensures value { result ≡ (scan_test img.now g map.old 0 (slots g) && differ_test img.now g 0 (slots g)) }
-    ensures map_after { result ≡ true → map.new ≡ mark_all img.now g map.old 0 (slots g) }
+fn are_entries_right(view: View<'_>, map: &mut [u8]) -> bool
+    requires right_header { RightHeader view.img.now × (slots view.g ≤ most_entries) }
+    requires blocks_in_bounds { (view.g.blocks ≤ length map.old) × SystemTaken map.old view.g }
+    ensures value { result ≡ (scan_test view.entry.img.now view.entry.g map.old 0 (slots view.entry.g) && differ_test view.entry.img.now view.entry.g 0 (slots view.entry.g)) }
+    ensures map_after { result ≡ true → map.new ≡ mark_all view.entry.img.now view.entry.g map.old 0 (slots view.entry.g) }
 {
-    let end = used_end(img, g);
-    if !are_bodies_right(img, map, g, end) {
+    let end = used_end(view);
+    if !are_bodies_right(view, map, end) {
         return false;
     }
-    are_names_right(img, g, end)
+    are_names_right(view, end)
 }
 
 // Behind the header: the entries, and then the map, which must have a bit for each block that is taken on the lent one.
-fn are_files_right(img: &[u8], map: &mut [u8], g: Geometry) -> bool
-    requires sized { Sized img.now g }
-    requires right_header { RightHeader img.now × (slots g ≤ most_entries) }
-    requires map_value { (map.old ≡ system_map (length map.old) g) × (g.blocks ≤ length map.old) × (length map.old % 16 ≡ 0) }
-    ensures value { result ≡ files_test img.now g }
-    ensures map_after { result ≡ true → map.new ≡ mark_all img.now g map.old 0 (slots g) }
+fn are_files_right(view: View<'_>, map: &mut [u8]) -> bool
+    requires right_header { RightHeader view.img.now × (slots view.g ≤ most_entries) }
+    requires map_value { (map.old ≡ system_map (length map.old) view.g) × (view.g.blocks ≤ length map.old) × (length map.old % 16 ≡ 0) }
+    ensures value { result ≡ files_test view.entry.img.now view.entry.g }
+    ensures map_after { result ≡ true → map.new ≡ mark_all view.entry.img.now view.entry.g map.old 0 (slots view.entry.g) }
 {
-    if !are_entries_right(img, map, g) {
+    if !are_entries_right(view, map) {
         return false;
     }
-    mapping::is_map_right(img, map, g)
+    mapping::is_map_right(view, map)
 }
 
 // On a lent map, which says how often each block is held where the pack is consistent.
@@ -346,29 +306,18 @@ pub fn open_mapped(img: &[u8], map: &mut [u8]) -> Opened
     ensures value { result ≡ opened_of img.now }
     ensures mapped_if { MappedIf map.new img.now }
 {
-    let Header::Right(g) = pack::read_header(img) else {
-        return Opened::Bad;
-    };
+    let g = pack::read_header(img)?;
     set_system(map, g, 1);
-    if !are_files_right(img, map, g) {
-        return Opened::Bad;
+    if !are_files_right(View { img, g }, map) {
+        return None;
     }
     set_system(map, g, 0);
-    Opened::Good(g)
+    Some(g)
 }
 
-// For a request that neither takes blocks nor gives any up, and so needs no map afterwards. A small pack does not pay for the clearing of a large map.
+// For a request that neither takes blocks nor gives any up, and so needs no map afterwards.
 pub fn open_pack(img: &[u8]) -> Opened
     ensures { result ≡ opened_of img.now }
 {
-    if img.len() <= FEW_BYTES {
-        let mut map = [0u8; FEW_BLOCKS];
-        return open_mapped(img, &mut map);
-    }
-    if img.len() <= MANY_BYTES {
-        let mut map = [0u8; MANY_BLOCKS];
-        return open_mapped(img, &mut map);
-    }
-    let mut map = [0u8; pack::MOST_BLOCKS];
-    open_mapped(img, &mut map)
+    lend_map(img, |map| open_mapped(img, map))
 }

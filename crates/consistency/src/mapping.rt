@@ -5,7 +5,7 @@ ghost use Rattle.pack.specs.Map.{HasMap, map_bits};
 ghost use Rattle.consistency.specs.MapTest.{agree_from, map_test, bits_from, mark_on, Marks};
 
 use crate::eights;
-use pack::Geometry;
+use pack::View;
 
 // The eight bits of a byte, from the marks of as many blocks, which are 0 or 1: each is laid beside the one below it, then two beside two, and four
 // beside four.
@@ -42,32 +42,28 @@ pub fn word_of(marks: &[u8], blocks: usize, w: usize) -> usize
 }
 
 // Have the words of the map the bits of these marks?
-fn are_words_right(img: &[u8], marks: &[u8], g: Geometry) -> bool
-    requires sized { Sized img.now g }
-    requires has_map { HasMap g × Marks marks.now g.blocks }
-    ensures { result ≡ agree_from img.now g (mark_on marks.now) 0 (map_bits g) }
+fn are_words_right(view: View<'_>, marks: &[u8]) -> bool
+    requires has_map { HasMap view.g × Marks marks.now view.g.blocks }
+    ensures { result ≡ agree_from view.entry.img.now view.entry.g (mark_on marks.now) 0 (map_bits view.entry.g) }
 {
-    let segments = g.segments;
+    let segments = view.g.segments;
     let words = segments.words();
-    let at = (g.contents + 1) * words;
-    let mut w = 0;
-    while w < words {
-        if words::word_at(img, at + w) != word_of(marks, g.blocks, w) {
+    let at = (view.g.contents + 1) * words;
+    for w in 0..words {
+        if words::word_at(view.img, at + w) != word_of(marks, view.g.blocks, w) {
             return false;
         }
-        w += 1;
     }
     true
 }
 
 // Where the bodies follow the contents there is no map.
-pub fn is_map_right(img: &[u8], marks: &[u8], g: Geometry) -> bool
-    requires sized { Sized img.now g }
-    requires marks { Marks marks.now g.blocks }
-    ensures { result ≡ map_test img.now g (mark_on marks.now) }
+pub fn is_map_right(view: View<'_>, marks: &[u8]) -> bool
+    requires marks { Marks marks.now view.g.blocks }
+    ensures { result ≡ map_test view.entry.img.now view.entry.g (mark_on marks.now) }
 {
-    if !pack::has_map(g) {
+    if !pack::has_map(view.g) {
         return true;
     }
-    are_words_right(img, marks, g)
+    are_words_right(view, marks)
 }

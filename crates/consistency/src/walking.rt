@@ -4,7 +4,7 @@ ghost use Rattle.pack.specs.GeometrySized.{Sized};
 ghost use Rattle.consistency.specs.Walk.{mark, blocks_from, SystemTaken, RunTaken};
 ghost use Rattle.consistency.specs.EntryTest.{run_test, chain_test};
 
-use pack::{BlockNo, Geometry};
+use pack::{BlockNo, Geometry, View};
 
 // Where the system's blocks are taken on the map, a block that is none of the bodies is one that cannot be taken.
 fn take(map: &mut [u8], end: usize, b: BlockNo) -> bool
@@ -24,51 +24,46 @@ fn take(map: &mut [u8], end: usize, b: BlockNo) -> bool
 }
 
 // The last block of a chain.
-fn is_end_right(img: &[u8], map: &mut [u8], g: Geometry, b: BlockNo, stored: BlockNo) -> bool
-    requires sized { Sized img.now g }
-    requires blocks_in_bounds { (g.blocks ≤ length map.old) × SystemTaken map.old g }
-    ensures by_index { (other : ℕ) → result ≡ chain_test img.now g map.old other 1 b.0 stored.0 }
-    ensures map_after { result ≡ true → map.new ≡ mark map.old (blocks_from img.now g 2 1 b.0) }
+fn is_end_right(view: View<'_>, map: &mut [u8], b: BlockNo, stored: BlockNo) -> bool
+    requires blocks_in_bounds { (view.g.blocks ≤ length map.old) × SystemTaken map.old view.g }
+    ensures by_index { (other : ℕ) → result ≡ chain_test view.entry.img.now view.entry.g map.old other 1 b.0 stored.0 }
+    ensures map_after { result ≡ true → map.new ≡ mark map.old (blocks_from view.entry.img.now view.entry.g 2 1 b.0) }
 {
-    if !take(map, g.blocks, b) {
+    if !take(map, view.g.blocks, b) {
         return false;
     }
-    let next = pack::next_block(img, g, 2, b);
-    (b.0 == stored.0) & (next.0 == 0)
+    let next = view.next_block(2, b);
+    (b == stored) & (next.0 == 0)
 }
 
 // The walk over a chain has as many steps as the file has blocks by its entry, so that it ends on a chain that loops; it goes by twos.
 pub fn is_chain_right(
-    img: &[u8],
+    view: View<'_>,
     map: &mut [u8],
-    g: Geometry,
     first: BlockNo,
     count: usize,
     stored: BlockNo,
 ) -> bool
-    requires sized { Sized img.now g }
-    requires blocks_in_bounds { (g.blocks ≤ length map.old) × SystemTaken map.old g }
-    ensures value { result ≡ chain_test img.now g map.old 0 count first.0 stored.0 }
-    ensures map_after { result ≡ true → map.new ≡ mark map.old (blocks_from img.now g 2 count first.0) }
+    requires blocks_in_bounds { (view.g.blocks ≤ length map.old) × SystemTaken map.old view.g }
+    ensures value { result ≡ chain_test view.entry.img.now view.entry.g map.old 0 count first.0 stored.0 }
+    ensures map_after { result ≡ true → map.new ≡ mark map.old (blocks_from view.entry.img.now view.entry.g 2 count first.0) }
 {
-    let mut left = count;
     let mut last = BlockNo(0);
     let mut b = first;
-    while 2 <= left {
-        if !take(map, g.blocks, b) {
+    for _ in 0..count / 2 {
+        if !take(map, view.g.blocks, b) {
             return false;
         }
-        last = pack::next_block(img, g, 2, b);
-        if !take(map, g.blocks, last) {
+        last = view.next_block(2, b);
+        if !take(map, view.g.blocks, last) {
             return false;
         }
-        b = pack::next_block(img, g, 2, last);
-        left -= 2;
+        b = view.next_block(2, last);
     }
-    if left != 0 {
-        return is_end_right(img, map, g, b, stored);
+    if count % 2 != 0 {
+        return is_end_right(view, map, b, stored);
     }
-    (last.0 == stored.0) & (b.0 == 0)
+    (last == stored) & (b.0 == 0)
 }
 
 // The blocks from one to another, which are on the map.
@@ -76,13 +71,11 @@ fn take_run(map: &mut [u8], first: usize, behind: usize) -> bool
     requires { behind ≤ length map.old }
     ensures { RunTaken map.old first behind result map.new }
 {
-    let mut b = first;
-    while b < behind {
+    for b in first..behind {
         if map[b] != 0 {
             return false;
         }
         map[b] = 1;
-        b += 1;
     }
     true
 }

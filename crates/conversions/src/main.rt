@@ -2,119 +2,85 @@
 // and the number, or the characters that the buffer then holds.
 #![tactic(auto)]
 
-use answers::Answer;
+use answers::{Answer, Refusal};
+use numerals::notation::{Decimal, Notation, Octal};
 use std::io;
 use std::io::{Stdout, Write};
 
 // The largest number that a host can pass.
-const LARGEST: usize = 18446744073709551615;
-
-// A number as octal digits, as many as the buffer has.
-fn print_octal(out: &mut Stdout, number: usize, digits: &mut [u8]) -> io::Result<()> {
-    numerals::write_digits(number, 8, digits);
-    out.write_all(digits)
-}
+const LARGEST: usize = usize::MAX;
 
 // A byte as itself where it prints, else as its three octal digits.
 fn print_byte(out: &mut Stdout, byte: u8) -> io::Result<()> {
-    if 32 <= byte {
-        if byte <= 126 {
-            out.write_all(&[byte])?;
-            return Ok(());
-        }
+    match byte {
+        b' '..=b'~' => out.write_all(&[byte]),
+        _ => print!(out; "\\{byte:03o}"),
     }
-    let mut digits = [0u8; 3];
-    out.write_all(b"\\")?;
-    print_octal(out, byte as usize, &mut digits)
-}
-
-fn print_bytes(out: &mut Stdout, bytes: &[u8]) -> io::Result<()> {
-    for byte in bytes {
-        print_byte(out, *byte)?;
-    }
-    Ok(())
 }
 
 fn print_characters(out: &mut Stdout, characters: &[u8]) -> io::Result<()> {
-    out.write_all(b"\"")?;
-    print_bytes(out, characters)?;
-    out.write_all(b"\"")
-}
-
-fn print_code(out: &mut Stdout, code: usize) -> io::Result<()> {
-    let mut digits = [0u8; 2];
-    out.write_all(b": ")?;
-    print_octal(out, code, &mut digits)?;
-    out.write_all(b", ")
+    print!(out; "\"")?;
+    for byte in characters {
+        print_byte(out, *byte)?;
+    }
+    print!(out; "\"")
 }
 
 // A line about characters that make a number.
-fn print_answer(
+fn to_number<F: FnOnce(&[u8]) -> Result<usize, Refusal>>(
     out: &mut Stdout,
-    request: &[u8],
+    request: &str,
     characters: &[u8],
-    answer: Answer,
-) -> io::Result<()> {
-    out.write_all(request)?;
+    convert: F,
+) -> io::Result<()>
+    requires { F.IsAlwaysCallable convert }
+{
+    print!(out; "{request} ")?;
     print_characters(out, characters)?;
-    print_code(out, answer.code)?;
-    print!(out; "{}", answer.number)?;
-    out.write_all(b"\n")
+    let Answer { code, number } = Answer::from(convert(characters));
+    println!(out; ": {code:02o}, {number}")
 }
 
-// A line about a number that makes characters, up to the buffer as it was lent.
-fn print_request(out: &mut Stdout, request: &[u8], number: usize, buffer: &[u8]) -> io::Result<()> {
-    out.write_all(request)?;
-    print!(out; "{number}")?;
-    out.write_all(b" into ")?;
-    print_characters(out, buffer)
-}
-
-// The rest of that line.
-fn print_written(out: &mut Stdout, code: usize, buffer: &[u8]) -> io::Result<()> {
-    print_code(out, code)?;
+// A line about a number that makes characters in a buffer, as it was lent and as it comes back.
+fn to_characters<F: FnOnce(usize, &mut [u8]) -> Result<(), Refusal>>(
+    out: &mut Stdout,
+    request: &str,
+    number: usize,
+    buffer: &mut [u8],
+    convert: F,
+) -> io::Result<()>
+    requires { F.IsAlwaysCallable convert }
+{
+    print!(out; "{request} {number} into ")?;
     print_characters(out, buffer)?;
-    out.write_all(b"\n")
+    let code = answers::code(convert(number, buffer));
+    print!(out; ": {code:02o}, ")?;
+    print_characters(out, buffer)?;
+    println!(out)
 }
 
 fn radpk(out: &mut Stdout, characters: &[u8]) -> io::Result<()> {
-    print_answer(out, b"RADPK ", characters, radix::radpk::radpk(characters))
+    to_number(out, "RADPK", characters, radix::radpk::radpk)
 }
 
 fn radup(out: &mut Stdout, word: usize, buffer: &mut [u8]) -> io::Result<()> {
-    print_request(out, b"RADUP ", word, buffer)?;
-    let code = radix::radup::radup(word, buffer);
-    print_written(out, code, buffer)
+    to_characters(out, "RADUP", word, buffer, radix::radup::radup)
 }
 
 fn d2bin(out: &mut Stdout, characters: &[u8]) -> io::Result<()> {
-    print_answer(
-        out,
-        b"D2BIN ",
-        characters,
-        numerals::decimal::d2bin(characters),
-    )
+    to_number(out, "D2BIN", characters, Decimal::to_number)
 }
 
 fn bin2d(out: &mut Stdout, number: usize, buffer: &mut [u8]) -> io::Result<()> {
-    print_request(out, b"BIN2D ", number, buffer)?;
-    let code = numerals::decimal::bin2d(number, buffer);
-    print_written(out, code, buffer)
+    to_characters(out, "BIN2D", number, buffer, Decimal::to_characters)
 }
 
 fn o2bin(out: &mut Stdout, characters: &[u8]) -> io::Result<()> {
-    print_answer(
-        out,
-        b"O2BIN ",
-        characters,
-        numerals::octal::o2bin(characters),
-    )
+    to_number(out, "O2BIN", characters, Octal::to_number)
 }
 
 fn bin2o(out: &mut Stdout, number: usize, buffer: &mut [u8]) -> io::Result<()> {
-    print_request(out, b"BIN2O ", number, buffer)?;
-    let code = numerals::octal::bin2o(number, buffer);
-    print_written(out, code, buffer)
+    to_characters(out, "BIN2O", number, buffer, Octal::to_characters)
 }
 
 fn examples(out: &mut Stdout) -> io::Result<()> {

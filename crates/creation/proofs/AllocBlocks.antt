@@ -3,7 +3,7 @@ use Prim.Native.Nat.{ℕ, ◌+◌, ◌*◌, ◌-◌, ◌/◌, ◌%◌, ◌≤◌
 use mathlib.Core.Path.{◌≡◌, sym, ap}
 use native.Mathlib.Omega.{arith}
 use native.Mathlib.Decide.{ℕ_discrete, dec_le}
-use native.Mathlib.Nat.{div-add-mod', div-eq_of_lt-le, mod-lt, mul-le-mul_right, mul-le-mul_left}
+use native.Mathlib.Nat.{div-add-mod', div-eq_of_lt-le, mod-lt, mul-le-mul_right}
 use borrow.Author.Tests.{lt-ltb, le-ltb}
 use Rattle.pack.specs.declared.Geometry.{Geometry}
 use Rattle.creation.specs.Rounding.{blocks_for}
@@ -33,11 +33,6 @@ module _ (g : Geometry) (segments : ℕ) where
       rw (lt-ltb 0 (segments % g.segments.0) some)
 
   module _ (known : 0 < g.segments.0) where
-    -- a block begun is no more than a segment for each block: the sum of the code fits
-    pub begun_fits : (segments % g.segments.0 ≡ 0 → ⊥) → segments / g.segments.0 + 1 ≤ segments
-    begun_fits never =
-        omega (arith, never, div-add-mod' segments g.segments.0, mul-le-mul_left (segments / g.segments.0) known)
-
     -- "N/4 blocks rounded up": as many blocks have the segments, and no whole block more than they need
     rounded : (segments ≤ blocks_for g segments * g.segments.0) × (blocks_for g segments * g.segments.0 < segments + g.segments.0)
     rounded = by (ℕ_discrete (segments % g.segments.0) 0)

@@ -35,10 +35,8 @@ use Rattle.creation.specs.Creating.{new_file, entry_for, created}
 use Rattle.creation.specs.AllocRows.{alloc_rows}
 use Rattle.creation.specs.Rounding.{blocks_for, length_for}
 use Rattle.creation.specs.Alloc.{start_for, alloc, extent_from}
-use Rattle.creation.specs.AllocStage.{allocating_of}
+use Rattle.creation.specs.AllocStage.{Allocating, Extent, Refused, allocating_of}
 use Rattle.creation.specs.AllocMap.{alloc_map}
-use Rattle.creation.specs.declared.alloc.Allocating.{Allocating}
-use Rattle.creation.specs.declared.alloc.Allocating.TheVariants.{Extent, Refused}
 use Rattle.creation.proofs.AllocBlocks.{blocks_some}
 use Rattle.creation.proofs.CreatingStage.{creating_coded, Creatable, creatable, Allowed, Forbidden}
 use Rattle.creation.proofs.CreatingWritten.{created_at, writable, sized_at, inside_at}

@@ -3,13 +3,14 @@ use Prim.Native.Nat.{ℕ, ◌≤◌, ◌<◌}
 use mathlib.Core.Path.{◌≡◌, refl, sym, ap, ◌∙◌}
 use mathlib.Core.Bool.{Bool, true, false, not}
 use mathlib.Core.List.{List}
-use mathlib.Core.Option.{Option, none}
+use mathlib.Core.Logic.{◌⊎◌, inl, inr}
+use mathlib.Core.Option.{Option, none, some}
 use native.Mathlib.Omega.{arith}
 use native.Mathlib.Decide.{ℕ_discrete}
 use lib.Dec.{eqb, ltb}
 use borrow.Author.Tests.{eq-eqb, ne_eqb, eqb-true, lt-ltb, le-ltb, ltb-false, not-false}
 use Rattle.answers.specs.Refusals.{first_of, on_success, table_order, in_order}
-use Rattle.answers.specs.Missing.{missing}
+use Rattle.answers.specs.Missing.{missing, value_in}
 use Rattle.answers.proofs.Refusals.{none_given, coded, success_is, refusal_is}
 use Rattle.answers.proofs.Missing.{present, absent}
 use Rattle.pack.specs.declared.Geometry.{Geometry}
@@ -19,22 +20,26 @@ use Rattle.pack.specs.GeometrySized.{Sized}
 use Rattle.pack.specs.Consistent.{Consistent}
 use Rattle.pack.specs.HeaderTest.{listed}
 use Rattle.pack.proofs.HeaderRules.{header_sized}
-use Rattle.consistency.specs.declared.Opened.TheVariants.{Good}
+use Rattle.std.specs.Prelude.{Some, None, is_some}
+use Rattle.std.specs.declared.option.Option.{Option as Answered}
 use Rattle.consistency.specs.ConsistentTest.{consistent, opened_of}
 use Rattle.consistency.proofs.ConsistentTestIff.{consistent_iff, opened_good}
 use Rattle.consistency.proofs.ConsistentTestOpened.{consistent_good}
-use Rattle.asking.specs.declared.Found.{Found}
-use Rattle.asking.specs.declared.Found.TheVariants as F
 use Rattle.asking.specs.KeysTest.{legal_key, found, find_from}
-use Rattle.asking.specs.AskedStage.{found_in}
 use Rattle.asking.proofs.AskedStage.{found_at}
 use Rattle.creation.specs.CreatingLowest.{lowest_empty, empty_from}
 use Rattle.creation.specs.CreatingRows.{creating_rows}
 use Rattle.creation.specs.Creating.{LowestEmpty, entry_for}
-use Rattle.creation.specs.CreatingStage.{creating_of}
-use Rattle.creation.specs.declared.creating.Creating.{Creating}
-use Rattle.creation.specs.declared.creating.Creating.TheVariants.{At, Refused}
+use Rattle.creation.specs.CreatingStage.{Creating, At, Refused, creating_of}
 use Rattle.creation.proofs.CreatingLowest.{empty_lowest, lowest_at}
+
+-- what the test of a search that may find nothing says of what there is
+pub missing_tested : (answer : Answered ℕ) {o : Option ℕ} {there : Bool} → value_in answer ≡ o → there ≡ is_some answer → missing o ≡ not there
+missing_tested answer found tested = sym (ap missing found) ∙ by answer ∙ sym (ap not tested)
+  where
+    by : (a : Answered ℕ) → missing (value_in a) ≡ not (is_some a)
+    by (Some i) = refl
+    by None = refl
 
 module _ (img : List ℕ) (key : Key) (caller protect : ℕ) (wrong : Bool) where
   -- 40, 15, 41, 13, 2, 6 and 12 stand in the order of the table
@@ -51,7 +56,7 @@ module _ (img : List ℕ) (key : Key) (caller protect : ℕ) (wrong : Bool) wher
   unfolding creating_of creating_rows first_of on_success
   creating_40 h = rw h
 
-  module _ {g : Geometry} (good : opened_of img ≡ Good g) where
+  module _ {g : Geometry} (good : opened_of img ≡ Some g) where
     c : consistent img ≡ true
     c = sym (consistent_good img (opened_of img) g refl good)
 
@@ -60,49 +65,42 @@ module _ (img : List ℕ) (key : Key) (caller protect : ℕ) (wrong : Bool) wher
     creating_15 h = rw (c, h)
 
     module _ (l : legal_key key ≡ true) where
-      pub creating_wrong : wrong ≡ true → Refused 0o41 ≡ creating_of img key caller protect wrong
+      pub creating_41 : (wrong ≡ true) ⊎ ((wrong ≡ false) × (255 < protect)) → Refused 0o41 ≡ creating_of img key caller protect wrong
       unfolding creating_of creating_rows first_of on_success
-      creating_wrong h = rw (c, l, h)
+      creating_41 (inl is) = rw (c, l, is)
+      creating_41 (inr over) = rw (c, l, over.0, lt-ltb 255 protect over.1)
 
-      module _ (w : wrong ≡ false) where
-        pub creating_protect : 255 < protect → Refused 0o41 ≡ creating_of img key caller protect wrong
+      module _ (w : wrong ≡ false) (p : protect ≤ 255) where
+        pub creating_13 : listed img key.uic ≡ false → Refused 0o13 ≡ creating_of img key caller protect wrong
         unfolding creating_of creating_rows first_of on_success
-        creating_protect h = rw (c, l, w, lt-ltb 255 protect h)
+        creating_13 h = rw (c, l, w, le-ltb 255 protect p, h)
 
-        module _ (p : protect ≤ 255) where
-          pub creating_13 : listed img key.uic ≡ false → Refused 0o13 ≡ creating_of img key caller protect wrong
+        module _ (u : listed img key.uic ≡ true) where
+          sought : found img key ≡ find_from img g key 0 (slots g)
+          sought = found_at img key g _ (opened_good img g good).1 refl
+
+          pub creating_2 : missing (find_from img g key 0 (slots g)) ≡ false → Refused 0o2 ≡ creating_of img key caller protect wrong
           unfolding creating_of creating_rows first_of on_success
-          creating_13 h = rw (c, l, w, le-ltb 255 protect p, h)
+          creating_2 there = rw (c, l, w, le-ltb 255 protect p, u, sought, there)
 
-          module _ (u : listed img key.uic ≡ true) (r : Found) (sought : found_in r ≡ find_from img g key 0 (slots g)) where
-            there : {o : Option ℕ} → found_in r ≡ o → found img key ≡ o
-            there {o} is = found_at img key g o (opened_good img g good).1 (sym is ∙ sought)
-
-            pub creating_2 : {e : ℕ} → r ≡ F.At e → Refused 0o2 ≡ creating_of img key caller protect wrong
+          module _ (nothing : missing (find_from img g key 0 (slots g)) ≡ true) where
+            pub creating_6 : (key.uic ≡ caller → ⊥) → Refused 0o6 ≡ creating_of img key caller protect wrong
             unfolding creating_of creating_rows first_of on_success
-            creating_2 is = rw (c, l, w, le-ltb 255 protect p, u, there (ap found_in is))
+            creating_6 h = rw (c, l, w, le-ltb 255 protect p, u, sought, nothing, ne_eqb key.uic caller h)
 
-            module _ (nothing : r ≡ F.Nothing) where
-              f : found img key ≡ none
-              f = there (ap found_in nothing)
+            module _ (o : key.uic ≡ caller) {e : Option ℕ} (empty : e ≡ empty_from img g 0 (slots g)) where
+              lowest : lowest_empty img ≡ e
+              lowest = lowest_at img g e (opened_good img g good).1 empty
 
-              pub creating_6 : (key.uic ≡ caller → ⊥) → Refused 0o6 ≡ creating_of img key caller protect wrong
+              pub creating_12 : e ≡ none → Refused 0o12 ≡ creating_of img key caller protect wrong
               unfolding creating_of creating_rows first_of on_success
-              creating_6 h = rw (c, l, w, le-ltb 255 protect p, u, f, ne_eqb key.uic caller h)
+              creating_12 is = rw (c, l, w, le-ltb 255 protect p, u, sought, nothing, eq-eqb key.uic caller o, lowest ∙ is)
 
-              module _ (o : key.uic ≡ caller) (s : Found) (empty : found_in s ≡ empty_from img g 0 (slots g)) where
-                lowest : {e : Option ℕ} → found_in s ≡ e → lowest_empty img ≡ e
-                lowest {e} is = lowest_at img g e (opened_good img g good).1 (sym is ∙ empty)
-
-                pub creating_12 : s ≡ F.Nothing → Refused 0o12 ≡ creating_of img key caller protect wrong
-                unfolding creating_of creating_rows first_of on_success
-                creating_12 is = rw (c, l, w, le-ltb 255 protect p, u, f, eq-eqb key.uic caller o, lowest (ap found_in is))
-
-                pub creating_at : {e : ℕ} → s ≡ F.At e → At g e ≡ creating_of img key caller protect wrong
-                unfolding creating_of creating_rows first_of on_success
-                creating_at {e} is =
-                    rw (c, l, w, le-ltb 255 protect p, u, f, eq-eqb key.uic caller o, lowest (ap found_in is))
-                    (ap (λ (x : Geometry). At x e) (sym (opened_good img g good).1))
+              pub creating_at : {i : ℕ} → e ≡ some i → At g i ≡ creating_of img key caller protect wrong
+              unfolding creating_of creating_rows first_of on_success
+              creating_at {i} is =
+                  rw (c, l, w, le-ltb 255 protect p, u, sought, nothing, eq-eqb key.uic caller o, lowest ∙ is)
+                  (ap (λ (x : Geometry). At x i) (sym (opened_good img g good).1))
 
   -- what there is where nothing speaks against the new file
   pub record Creatable : Type 0 where

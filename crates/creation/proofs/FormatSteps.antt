@@ -3,20 +3,14 @@ use Prim.Native.Nat.{ℕ, ◌+◌, ◌-◌, ◌≤◌}
 use mathlib.Core.Path.{◌≡◌, sym, ap, ◌∙◌}
 use mathlib.Core.List.{List, ◌++◌, append_assoc}
 use native.Mathlib.Omega.{arith}
-use lib.ListN.{length, take, drop, replicate, length-replicate, replicate-append-replicate}
-use lib.Seq.{length-take-le, sets-eq, drop-append-add, drop-drop, drop_at}
+use lib.ListN.{length, drop, replicate, length-replicate, replicate-append-replicate}
+use lib.Seq.{sets-eq, drop-append-add, drop-drop, drop_at}
 use borrow.Rule.Slice.PartMut.{put_mid}
 use Rattle.words.specs.Word.{set_word, bytes_of}
 use Rattle.words.proofs.WordSlices.{part_back}
 use Rattle.creation.specs.Formattable.{uics_in}
 use Rattle.creation.specs.Format.{system_bytes, empty_pack}
 use Rattle.creation.specs.FormatSteps.{headed}
-
-pub cleared_is : (image part : List ℕ) (end system : ℕ) → end ≡ system → system ≤ length image → part ≡ replicate (length (take end image)) 0
-    → part ++ drop end image ≡ replicate system 0 ++ drop system image
-cleared_is image part end system is inside cleared =
-    let long : length (take end image) ≡ system = length-take-le end image (omega arith) ∙ is in
-    rw (cleared, long, is)
 
 -- words 0 to 3 and the UICs
 abbrev header_bytes : ℕ → ℕ → ℕ → ℕ → List ℕ

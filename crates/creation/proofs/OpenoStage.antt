@@ -14,11 +14,9 @@ use Rattle.asking.proofs.Outcome.{done_answer, refused_answer}
 use Rattle.pack.specs.EntryWords.{words_of, set_entry_words}
 use Rattle.pack.specs.EntryFields.{WordFields}
 use Rattle.creation.specs.Creating.{new_file}
-use Rattle.creation.specs.CreatingStage.{creating_of}
+use Rattle.creation.specs.CreatingStage.{Creating, At, Refused, creating_of}
 use Rattle.creation.specs.OpenoRows.{openo_rows}
 use Rattle.creation.specs.Openo.{openo, empty_output}
-use Rattle.creation.specs.declared.creating.Creating.{Creating}
-use Rattle.creation.specs.declared.creating.Creating.TheVariants.{At, Refused}
 use Rattle.creation.proofs.CreatingStage.{creating_ordered, creatable, allowed, forbidden}
 use Rattle.creation.proofs.CreatingWritten.{created_at, writable, sized_at, inside_at}
 

@@ -1,58 +1,43 @@
 // ALLOC: a new contiguous file, all zero, in the free run with the highest start.
 ghost use Rattle.std.specs.Prelude.{◌≡◌, [], ◌∷◌, ◌<◌};
+ghost use Rattle.answers.specs.Refusals.{code_in};
 ghost use Rattle.consistency.specs.ConsistentTest.{opened_of};
-ghost use Rattle.consistency.specs.Mapped.{Lent, MappedIf};
+ghost use Rattle.consistency.specs.Mapped.{MappedIf};
+ghost use Rattle.asking.specs.Outcome.{block_number};
 ghost use Rattle.creation.specs.Rounding.{blocks_for};
 ghost use Rattle.creation.specs.Alloc.{alloc};
-ghost use Rattle.creation.specs.AllocStage.{allocating_of};
+ghost use Rattle.creation.specs.AllocStage.{allocating_in, allocating_of};
 ghost use Rattle.creation.specs.AllocMap.{alloc_map};
 
-use crate::creating::{Creating, Shape};
-use answers::Answer;
+use crate::creating::{self, Shape, Slot};
+use answers::Refusal;
 use consistency::Opened;
 use pack::{BlockNo, Geometry, Key, Segments};
-use room::{Blocks, Run};
+use room::Blocks;
 
-// The pack's measures, the entry of the new file, its first block and its length; or a refusal's code.
+// What the new file gets: an entry, its first block and its length.
 #[derive(Clone, Copy)]
-enum Allocating {
-    Extent(Geometry, usize, BlockNo, Blocks),
-    Refused(usize),
+pub struct Extent {
+    pub slot: Slot,
+    pub start: BlockNo,
+    pub count: Blocks,
 }
 
-pub fn alloc(img: &mut [u8], key: Key, caller: usize, protect: usize, segments: Segments) -> Answer
-    ensures code_value { result.code ≡ (alloc img.old key caller protect segments.0).code }
-    ensures number_value { (result.number ∷ []) ≡ (alloc img.old key caller protect segments.0).numbers }
-    ensures img_after { img.new ≡ (alloc img.old key caller protect segments.0).image }
-{
-    if img.len() <= consistency::FEW_BYTES {
-        let mut map = [0u8; consistency::FEW_BLOCKS];
-        return alloc_lent(img, &mut map, key, caller, protect, segments);
-    }
-    if img.len() <= consistency::MANY_BYTES {
-        let mut map = [0u8; consistency::MANY_BLOCKS];
-        return alloc_lent(img, &mut map, key, caller, protect, segments);
-    }
-    let mut map = [0u8; pack::MOST_BLOCKS];
-    alloc_lent(img, &mut map, key, caller, protect, segments)
-}
-
-// On a lent map.
-fn alloc_lent(
+pub fn alloc(
     img: &mut [u8],
-    map: &mut [u8],
     key: Key,
     caller: usize,
     protect: usize,
     segments: Segments,
-) -> Answer
-    requires { Lent map.old img.old }
-    ensures code_value { result.code ≡ (alloc img.old key caller protect segments.0).code }
-    ensures number_value { (result.number ∷ []) ≡ (alloc img.old key caller protect segments.0).numbers }
+) -> Result<BlockNo, Refusal>
+    ensures code_value { code_in result ≡ (alloc img.old key caller protect segments.0).code }
+    ensures number_value { (block_number result ∷ []) ≡ (alloc img.old key caller protect segments.0).numbers }
     ensures img_after { img.new ≡ (alloc img.old key caller protect segments.0).image }
 {
-    let opened = consistency::open_mapped(img, map);
-    alloc_opened(img, map, opened, key, caller, protect, segments)
+    consistency::lend_map_mut(img, |img, map| {
+        let opened = consistency::open_mapped(img, map);
+        alloc_opened(img, map, opened, key, caller, protect, segments)
+    })
 }
 
 // In a pack that was opened: the map that its opening filled is kept up.
@@ -64,33 +49,27 @@ pub fn alloc_opened(
     caller: usize,
     protect: usize,
     segments: Segments,
-) -> Answer
+) -> Result<BlockNo, Refusal>
     requires opened_value { opened ≡ opened_of img.old }
     requires mapped_if { MappedIf map.old img.old }
-    ensures code_value { result.code ≡ (alloc img.old key caller protect segments.0).code }
-    ensures number_value { (result.number ∷ []) ≡ (alloc img.old key caller protect segments.0).numbers }
+    ensures code_value { code_in result ≡ (alloc img.old key caller protect segments.0).code }
+    ensures number_value { (block_number result ∷ []) ≡ (alloc img.old key caller protect segments.0).numbers }
     ensures img_after { img.new ≡ (alloc img.old key caller protect segments.0).image }
     ensures map_after { map.new ≡ alloc_map map.old img.old key caller protect segments.0 }
 {
-    match decide_alloc(img, map, opened, key, caller, protect, segments) {
-        Allocating::Refused(code) => Answer { code, number: 0 },
-        Allocating::Extent(g, e, start, count) => {
-            let last = BlockNo(start.0 + count.0 - 1);
-            let shape = Shape {
-                kind: 1,
-                first: start,
-                length: count.0,
-                last,
-                writer: 0,
-            };
-            crate::creating::enter(img, g, e, key, protect, shape);
-            room::take_run(img, map, g, start, count);
-            Answer {
-                code: 0,
-                number: start.0,
-            }
-        }
-    }
+    let Extent { slot, start, count } = decide_alloc(
+        img, map, opened, key, caller, protect, segments,
+    )?;
+    let shape = Shape {
+        kind: 1,
+        first: start,
+        length: count.0,
+        last: BlockNo(start.0 + count.0 - 1),
+        writer: 0,
+    };
+    creating::enter(img, slot, key, protect, shape);
+    room::take_run(img, map, slot.geometry, start, count);
+    Ok(start)
 }
 
 fn decide_alloc(
@@ -101,21 +80,17 @@ fn decide_alloc(
     caller: usize,
     protect: usize,
     segments: Segments,
-) -> Allocating
+) -> Result<Extent, Refusal>
     requires opened_value { opened ≡ opened_of img.now }
     requires mapped_if { MappedIf map.now img.now }
-    ensures { result ≡ allocating_of img.now key caller protect segments.0 }
+    ensures { allocating_in result ≡ allocating_of img.now key caller protect segments.0 }
 {
-    match crate::creating::decide_creating(img, opened, key, caller, protect, segments.0 == 0) {
-        Creating::Refused(code) => Allocating::Refused(code),
-        Creating::At(g, e) => {
-            let count = blocks_for(segments, g);
-            let Run::Start(start) = room::highest_run(map, g, count) else {
-                return Allocating::Refused(0o42);
-            };
-            Allocating::Extent(g, e, start, count)
-        }
-    }
+    let slot = creating::decide_creating(img, opened, key, caller, protect, segments.0 == 0)?;
+    let count = blocks_for(segments, slot.geometry);
+    let Some(start) = room::highest_run(map, slot.geometry, count) else {
+        return Err(Refusal::NoRoom);
+    };
+    Ok(Extent { slot, start, count })
 }
 
 // The one rounding step from segments to blocks. No sum is made of the segments, so that any number of them may come.

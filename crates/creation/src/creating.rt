@@ -1,25 +1,25 @@
 // What ALLOC and OPENO share: whether a file may be made and which entry it gets, and the words of its entry.
 ghost use Rattle.std.specs.Prelude.{◌≡◌, ℕ, ◌<◌};
+ghost use Rattle.answers.specs.Missing.{value_in};
 ghost use Rattle.pack.specs.GeometrySized.{Sized};
 ghost use Rattle.pack.specs.Geometry.{slots};
 ghost use Rattle.pack.specs.Entry.{RightEntry};
 ghost use Rattle.consistency.specs.ConsistentTest.{opened_of};
-ghost use Rattle.asking.specs.AskedStage.{found_in};
 ghost use Rattle.pack.specs.EntryWords.{words_of, set_entry_words};
 ghost use Rattle.pack.specs.EntryFields.{WordFields};
 ghost use Rattle.creation.specs.CreatingLowest.{empty_from};
 ghost use Rattle.creation.specs.Creating.{new_file};
-ghost use Rattle.creation.specs.CreatingStage.{creating_of};
+ghost use Rattle.creation.specs.CreatingStage.{creating_in, creating_of};
 
-use asking::Found;
+use answers::Refusal;
 use consistency::Opened;
-use pack::{BlockNo, Entry, Geometry, Key};
+use pack::{BlockNo, Entry, Geometry, Key, View};
 
-// The pack's measures and the entry of the new file, or a refusal's code.
+// Where a new file's entry goes: the pack's measures and the number of the entry.
 #[derive(Clone, Copy)]
-pub enum Creating {
-    At(Geometry, usize),
-    Refused(usize),
+pub struct Slot {
+    pub geometry: Geometry,
+    pub number: usize,
 }
 
 // What a new file has besides its key and its protect code.
@@ -40,82 +40,70 @@ pub fn decide_creating(
     caller: usize,
     protect: usize,
     wrong: bool,
-) -> Creating
+) -> Result<Slot, Refusal>
     requires { opened ≡ opened_of img.now }
-    ensures { result ≡ creating_of img.now key caller protect wrong }
+    ensures { creating_in result ≡ creating_of img.now key caller protect wrong }
 {
-    let Opened::Good(g) = opened else {
-        return Creating::Refused(0o40);
+    let Some(geometry) = opened else {
+        return Err(Refusal::Inconsistent);
     };
     if !asking::is_legal(key) {
-        return Creating::Refused(0o15);
+        return Err(Refusal::IllegalName);
     }
-    if wrong {
-        return Creating::Refused(0o41);
-    }
-    if 255 < protect {
-        return Creating::Refused(0o41);
+    if wrong || 255 < protect {
+        return Err(Refusal::WrongArgument);
     }
     if !pack::is_listed(img, key.uic) {
-        return Creating::Refused(0o13);
+        return Err(Refusal::UnlistedUic);
     }
-    let Found::Nothing = asking::find(img, g, key) else {
-        return Creating::Refused(0o2);
-    };
+    let view = View { img, g: geometry };
+    if asking::find(view, key).is_some() {
+        return Err(Refusal::ExistsOrAbsent);
+    }
     if key.uic != caller {
-        return Creating::Refused(0o6);
+        return Err(Refusal::RightLacking);
     }
-    let Found::At(e) = lowest_empty(img, g) else {
-        return Creating::Refused(0o12);
+    let Some(number) = lowest_empty(view) else {
+        return Err(Refusal::DirectoryFull);
     };
-    Creating::At(g, e)
+    Ok(Slot { geometry, number })
 }
 
 // A name is never 0, so where all entries are right the first word alone says whether one is empty. Two are looked at in a turn, as in a search for a file.
-fn lowest_empty(img: &[u8], g: Geometry) -> Found
-    requires sized { Sized img.now g }
-    requires by_index { (e : ℕ) → e < slots g → RightEntry img.now g e }
-    ensures { found_in result ≡ empty_from img.now g 0 (slots g) }
+fn lowest_empty(view: View<'_>) -> Option<usize>
+    requires by_index { (e : ℕ) → e < slots view.g → RightEntry view.img.now view.g e }
+    ensures { value_in result ≡ empty_from view.entry.img.now view.entry.g 0 (slots view.entry.g) }
 {
-    let total = pack::slot_count(g);
-    let mut e = 0;
-    while e < total {
-        if pack::entry_word(img, g, e, 0) == 0 {
-            return Found::At(e);
+    for e in (0..view.slot_count()).step_by(2) {
+        if view.entry_word(e, 0) == 0 {
+            return Some(e);
         }
         let next = e + 1;
-        if pack::entry_word(img, g, next, 0) == 0 {
-            return Found::At(next);
+        if view.entry_word(next, 0) == 0 {
+            return Some(next);
         }
-        e += 2;
     }
-    Found::Nothing
+    None
 }
 
 // The new file's entry, which no reader has open.
-pub fn enter(img: &mut [u8], g: Geometry, e: usize, key: Key, protect: usize, shape: Shape)
-    requires sized { Sized img.old g }
-    requires e_bound { (e < slots g) × WordFields (new_file key protect shape) }
-    ensures { img.new ≡ set_entry_words img.old g e 0 (words_of (new_file key protect shape)) }
+pub fn enter(img: &mut [u8], slot: Slot, key: Key, protect: usize, shape: Shape)
+    requires sized { Sized img.old slot.geometry }
+    requires e_bound { (slot.number < slots slot.geometry) × WordFields (new_file key protect shape) }
+    ensures { img.new ≡ set_entry_words img.old slot.geometry slot.number 0 (words_of (new_file key protect shape)) }
 {
-    let first = shape.first;
-    let last = shape.last;
-    pack::write_entry(
-        img,
-        g,
-        e,
-        Entry {
-            name1: key.name1,
-            name2: key.name2,
-            extension: key.extension,
-            uic: key.uic,
-            protect,
-            kind: shape.kind,
-            first,
-            length: shape.length,
-            last,
-            writer: shape.writer,
-            readers: 0,
-        },
-    );
+    let entry = Entry {
+        name1: key.name1,
+        name2: key.name2,
+        extension: key.extension,
+        uic: key.uic,
+        protect,
+        kind: shape.kind,
+        first: shape.first,
+        length: shape.length,
+        last: shape.last,
+        writer: shape.writer,
+        readers: 0,
+    };
+    pack::write_entry(img, slot.geometry, slot.number, entry);
 }

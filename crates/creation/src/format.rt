@@ -1,5 +1,6 @@
 // Format: an empty pack in the lent image; where it has a map, the system's blocks are marked on it.
 ghost use Rattle.std.specs.Prelude.{◌≡◌, ◌++◌, ◌≤◌, length, drop, replicate};
+ghost use Rattle.answers.specs.Refusals.{code_in};
 ghost use Rattle.pack.specs.Form.{most_contents_of, bodies_of};
 ghost use Rattle.pack.specs.GeometrySized.{Sized};
 ghost use Rattle.pack.specs.Map.{bits_set};
@@ -9,20 +10,27 @@ ghost use Rattle.creation.specs.Formattable.{Formattable};
 ghost use Rattle.creation.specs.Format.{system_bytes, measures_of, format};
 ghost use Rattle.creation.specs.FormatSteps.{headed};
 
+use answers::Refusal;
 use pack::{BlockNo, Geometry};
 use room::Blocks;
 
-pub fn format(image: &mut [u8], form: usize, blocks: usize, contents: usize, uics: &[u8]) -> usize
-    ensures value { result ≡ (format image.old form blocks contents uics.now).code }
+pub fn format(
+    image: &mut [u8],
+    form: usize,
+    blocks: usize,
+    contents: usize,
+    uics: &[u8],
+) -> Result<(), Refusal>
+    ensures value { code_in result ≡ (format image.old form blocks contents uics.now).code }
     ensures image_after { image.new ≡ (format image.old form blocks contents uics.now).image }
 {
     if !is_formattable(image.len(), form, blocks, contents, uics) {
-        return 0o41;
+        return Err(Refusal::WrongArgument);
     }
     clear_system(image, form, contents);
     write_header(image, form, blocks, contents, uics);
     mark_system(image, form, blocks, contents);
-    0
+    Ok(())
 }
 
 // Any number may come in: a product is only made of measures that were found right.
@@ -47,7 +55,7 @@ fn clear_system(image: &mut [u8], form: usize, contents: usize)
     let segments = pack::segments_of(form);
     let bodies = pack::bodies_of(form, contents);
     let end = bodies.0 * segments.bytes();
-    words::clear(&mut image[..end]);
+    image[..end].fill(0);
 }
 
 fn write_header(image: &mut [u8], form: usize, blocks: usize, contents: usize, uics: &[u8])
@@ -59,7 +67,7 @@ fn write_header(image: &mut [u8], form: usize, blocks: usize, contents: usize, u
     words::set_word(image, 2, contents);
     words::set_word(image, 3, uics.len() / 2);
     let behind = 8 + uics.len();
-    words::fill(&mut image[8..behind], uics);
+    image[8..behind].copy_from_slice(uics);
 }
 
 // The blocks before the bodies have their bits on the map, where there is one.

@@ -1,14 +1,16 @@
 // OPENO: a new linked file without a block, open for output.
 ghost use Rattle.std.specs.Prelude.{◌≡◌};
+ghost use Rattle.answers.specs.Refusals.{code_in};
 ghost use Rattle.consistency.specs.ConsistentTest.{opened_of};
 ghost use Rattle.creation.specs.Openo.{openo};
 
-use crate::creating::{Creating, Shape};
+use crate::creating::{self, Shape};
+use answers::Refusal;
 use consistency::Opened;
 use pack::{BlockNo, Key};
 
-pub fn openo(img: &mut [u8], key: Key, caller: usize, protect: usize) -> usize
-    ensures value { result ≡ (openo img.old key caller protect).code }
+pub fn openo(img: &mut [u8], key: Key, caller: usize, protect: usize) -> Result<(), Refusal>
+    ensures value { code_in result ≡ (openo img.old key caller protect).code }
     ensures img_after { img.new ≡ (openo img.old key caller protect).image }
 {
     let opened = consistency::open_pack(img);
@@ -22,23 +24,19 @@ pub fn openo_opened(
     key: Key,
     caller: usize,
     protect: usize,
-) -> usize
+) -> Result<(), Refusal>
     requires { opened ≡ opened_of img.old }
-    ensures value { result ≡ (openo img.old key caller protect).code }
+    ensures value { code_in result ≡ (openo img.old key caller protect).code }
     ensures img_after { img.new ≡ (openo img.old key caller protect).image }
 {
-    match crate::creating::decide_creating(img, opened, key, caller, protect, false) {
-        Creating::Refused(code) => code,
-        Creating::At(g, e) => {
-            let shape = Shape {
-                kind: 2,
-                first: BlockNo(0),
-                length: 0,
-                last: BlockNo(0),
-                writer: 2,
-            };
-            crate::creating::enter(img, g, e, key, protect, shape);
-            0
-        }
-    }
+    let slot = creating::decide_creating(img, opened, key, caller, protect, false)?;
+    let shape = Shape {
+        kind: 2,
+        first: BlockNo(0),
+        length: 0,
+        last: BlockNo(0),
+        writer: 2,
+    };
+    creating::enter(img, slot, key, protect, shape);
+    Ok(())
 }

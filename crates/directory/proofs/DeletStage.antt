@@ -5,8 +5,8 @@ use mathlib.Core.Bool.{true, false}
 use mathlib.Core.List.{List}
 use lib.ListN.{length}
 use Rattle.answers.specs.Refusals.{first_of, table_order, in_order}
-use Rattle.answers.specs.declared.Verdict.{Verdict}
-use Rattle.answers.specs.declared.Verdict.TheVariants.{Clear, Refused as Stopped}
+use Rattle.answers.specs.Stage.{Verdict}
+use Rattle.answers.specs.Stage.{Clear, Refused as Stopped}
 use Rattle.answers.specs.Stage.{verdict_of}
 use Rattle.answers.proofs.Refusals.{success_is, refusal_is}
 use Rattle.pack.specs.declared.Geometry.{Geometry}
@@ -22,8 +22,8 @@ use Rattle.pack.proofs.GeometryRoom.{sized_same}
 use Rattle.consistency.specs.Mapped.{MappedIf}
 use Rattle.consistency.proofs.ConsistentTestIff.{consistent_iff}
 use Rattle.asking.specs.declared.Right.TheVariants.{Delete}
-use Rattle.asking.specs.declared.Asked.{Asked}
-use Rattle.asking.specs.declared.Asked.TheVariants.{File, Refused}
+use Rattle.asking.specs.AskedStage.{Asked}
+use Rattle.asking.specs.AskedStage.{File, Refused}
 use Rattle.asking.specs.AskedStage.{file_rows, asked_of, stage_of}
 use Rattle.asking.specs.Asked.{entry_no, file_of}
 use Rattle.asking.proofs.AskedStage.{Given, stage_clear, stage_is_refused, stage_is_file, writing_refused, writing_done}

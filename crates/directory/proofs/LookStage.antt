@@ -7,8 +7,8 @@ use Rattle.answers.specs.Refusals.{table_order, in_order}
 use Rattle.pack.specs.declared.Geometry.{Geometry}
 use Rattle.pack.specs.declared.Entry.{Entry}
 use Rattle.pack.specs.declared.Key.{Key}
-use Rattle.asking.specs.declared.Asked.{Asked}
-use Rattle.asking.specs.declared.Asked.TheVariants.{File, Refused}
+use Rattle.asking.specs.AskedStage.{Asked}
+use Rattle.asking.specs.AskedStage.{File, Refused}
 use Rattle.asking.specs.AskedStage.{file_rows, asked_of}
 use Rattle.asking.proofs.AskedStage.{file_ordered, asked_is_file, asked_is_refused, asked_entry}
 use Rattle.asking.proofs.Outcome.{settled_refused, settled_success}

@@ -5,8 +5,8 @@ use mathlib.Core.Bool.{Bool, true, false, not}
 use mathlib.Core.List.{List, ◌++◌}
 use native.Mathlib.Omega.{arith}
 use Rattle.answers.specs.Refusals.{Row, first_of}
-use Rattle.answers.specs.declared.Verdict.{Verdict}
-use Rattle.answers.specs.declared.Verdict.TheVariants.{Clear, Refused as Stopped}
+use Rattle.answers.specs.Stage.{Verdict}
+use Rattle.answers.specs.Stage.{Clear, Refused as Stopped}
 use Rattle.answers.specs.Stage.{verdict_of}
 use Rattle.answers.proofs.Refusals.{refuse, pass, clear, coded, behind_refused, behind_clear}
 use Rattle.answers.proofs.Stage.{makes_clear, makes_refused, told_clear, told_refused}
@@ -14,28 +14,21 @@ use Rattle.pack.specs.declared.Geometry.{Geometry}
 use Rattle.pack.specs.declared.Entry.{Entry}
 use Rattle.pack.specs.declared.Key.{Key}
 use Rattle.asking.specs.declared.Right.{Right}
-use Rattle.asking.specs.declared.Grant.{Grant}
-use Rattle.asking.specs.declared.Grant.TheVariants.{Granted, Denied}
-use Rattle.asking.specs.declared.Asked.{Asked}
-use Rattle.asking.specs.declared.Asked.TheVariants.{File, Refused}
+use Rattle.asking.specs.AskedStage.{Asked}
+use Rattle.asking.specs.AskedStage.{File, Refused}
 use Rattle.asking.specs.RightsTest.{may}
 use Rattle.asking.specs.OpensTest.{is_open}
 use Rattle.asking.specs.Asked.{file_of}
-use Rattle.asking.specs.AskedStage.{stage_of, granted}
+use Rattle.asking.specs.AskedStage.{stage_of}
 use Rattle.asking.proofs.AskedStage.{Given, stage_refuses, stage_gives, stage_is_refused, stage_is_file}
 use Rattle.directory.specs.PermitRows.{permit_rows}
 
-module _ (right : Right) (caller : ℕ) (x : Entry) (grant : Grant) (says : granted grant ≡ may right caller x.uic x.protect) where
-  pub permit_denied : grant ≡ Denied → Stopped 0o6 ≡ verdict_of (permit_rows right caller x)
-  permit_denied denied = makes_refused _ (sym (refuse _ (ap not (sym says ∙ ap granted denied)))) (λ zero. omega (arith, zero))
+module _ (right : Right) (caller : ℕ) (x : Entry) (given : may right caller x.uic x.protect ≡ true) (busy : Bool) (is : busy ≡ is_open x) where
+  pub permit_open : busy ≡ true → Stopped 0o14 ≡ verdict_of (permit_rows right caller x)
+  permit_open opened = makes_refused _ (sym (pass _ _ (ap not given) ∙ refuse _ (sym is ∙ opened))) (λ zero. omega (arith, zero))
 
-  module _ (given : grant ≡ Granted) (busy : Bool) (is : busy ≡ is_open x) where
-    pub permit_open : busy ≡ true → Stopped 0o14 ≡ verdict_of (permit_rows right caller x)
-    permit_open opened =
-        makes_refused _ (sym (pass _ _ (ap not (sym says ∙ ap granted given)) ∙ refuse _ (sym is ∙ opened))) (λ zero. omega (arith, zero))
-
-    pub permit_clear : busy ≡ false → Clear ≡ verdict_of (permit_rows right caller x)
-    permit_clear closed = makes_clear _ (sym (pass _ _ (ap not (sym says ∙ ap granted given)) ∙ (pass _ _ (sym is ∙ closed) ∙ clear)))
+  pub permit_clear : busy ≡ false → Clear ≡ verdict_of (permit_rows right caller x)
+  permit_clear closed = makes_clear _ (sym (pass _ _ (ap not given) ∙ (pass _ _ (sym is ∙ closed) ∙ clear)))
 
 -- behind rows of which none has code 0
 module _

@@ -8,9 +8,9 @@ use native.Mathlib.Omega.{arith}
 use lib.Dec.{ltb}
 use borrow.Author.Tests.{ltb-false, not-false}
 use Rattle.answers.specs.Refusals.{Row, row, first_of, table_order, in_order}
-use Rattle.answers.specs.Missing.{missing, or_else}
-use Rattle.answers.specs.declared.Verdict.{Verdict}
-use Rattle.answers.specs.declared.Verdict.TheVariants.{Clear, Refused as Stopped}
+use Rattle.answers.specs.Missing.{missing, or_else, value_in}
+use Rattle.answers.specs.Stage.{Verdict}
+use Rattle.answers.specs.Stage.{Clear, Refused as Stopped}
 use Rattle.answers.specs.Stage.{verdict_of}
 use Rattle.answers.proofs.Refusals.{refuse, pass, clear, none_given, behind_refused, behind_clear}
 use Rattle.answers.proofs.Stage.{makes_clear, makes_refused, told_clear, told_refused}
@@ -22,18 +22,17 @@ use Rattle.pack.specs.Geometry.{geometry_of, slots}
 use Rattle.pack.specs.GeometrySized.{Sized}
 use Rattle.pack.specs.Entry.{entry_of}
 use Rattle.pack.specs.Consistent.{Consistent}
-use Rattle.consistency.specs.declared.Opened.{Opened}
-use Rattle.consistency.specs.declared.Opened.TheVariants.{Good, Bad}
+use Rattle.consistency.specs.ConsistentTest.{Opened}
+use Rattle.std.specs.Prelude.{Some, None}
+use Rattle.std.specs.declared.option.Option.{Option as Answered}
 use Rattle.consistency.specs.ConsistentTest.{consistent, opened_of}
 use Rattle.consistency.proofs.ConsistentTestIff.{consistent_iff, opened_good, opened_bad}
 use Rattle.consistency.proofs.ConsistentTestOpened.{consistent_good}
-use Rattle.asking.specs.declared.Found.{Found}
-use Rattle.asking.specs.declared.Found.TheVariants.{At, Nothing}
 use Rattle.asking.specs.declared.Right.TheVariants.{Write}
-use Rattle.asking.specs.declared.Asked.{Asked}
-use Rattle.asking.specs.declared.Asked.TheVariants.{File, Refused}
+use Rattle.asking.specs.AskedStage.{Asked}
+use Rattle.asking.specs.AskedStage.{File, Refused}
 use Rattle.asking.specs.KeysTest.{legal_key, find_from, found}
-use Rattle.asking.specs.AskedStage.{found_in, stage_of}
+use Rattle.asking.specs.AskedStage.{stage_of}
 use Rattle.pack.specs.EntryWords.{set_entry_word, set_entry_words}
 use Rattle.asking.proofs.Keys.{found_keyed}
 use Rattle.asking.proofs.AskedStage.{found_at, stage_refuses, stage_gives, stage_is_file, writing_refused, writing_done, number_found, file_found_law}
@@ -75,11 +74,11 @@ module _ (old new : Key) (wrong : Bool) where
         names_clear is = makes_clear rows (sym (behind_new ∙ (pass _ _ is ∙ clear)))
 
 -- what the calls of the next stage ask
-pub pack_sized : (img : List ℕ) (opened : Opened) (g : Geometry) → opened ≡ opened_of img → opened ≡ Good g → Sized img g
+pub pack_sized : (img : List ℕ) (opened : Opened) (g : Geometry) → opened ≡ opened_of img → opened ≡ Some g → Sized img g
 pack_sized img opened g is good = (opened_good img g (sym is ∙ good)).2
 
-pub entry_inside : (img : List ℕ) (g : Geometry) (key : Key) (at : Found) (e : ℕ) → found_in at ≡ find_from img g key 0 (slots g) → at ≡ At e → e < slots g
-entry_inside img g key at e is told = omega (arith, (found_keyed img g key 0 (slots g) e (sym is ∙ ap found_in told)).high)
+pub entry_inside : (img : List ℕ) (g : Geometry) (key : Key) (at : Answered ℕ) (e : ℕ) → value_in at ≡ find_from img g key 0 (slots g) → at ≡ Some e → e < slots g
+entry_inside img g key at e is told = omega (arith, (found_keyed img g key 0 (slots g) e (sym is ∙ ap value_in told)).high)
 
 -- the file of the old name
 module _ (img : List ℕ) (old new : Key) (wrong : Bool) where
@@ -90,10 +89,10 @@ module _ (img : List ℕ) (old new : Key) (wrong : Bool) where
   refuses first never = stage_refuses (old_rows img old new wrong) img old (record { first = first; not_zero = never })
 
   module _ (opened : Opened) (is_opened : opened ≡ opened_of img) where
-    pub inconsistent : opened ≡ Bad → Refuses 0o40
+    pub inconsistent : opened ≡ None → Refuses 0o40
     inconsistent bad = refuses (refuse _ (ap not (opened_bad img (sym is_opened ∙ bad)))) (λ zero. omega (arith, zero))
 
-    module _ (g : Geometry) (good : opened ≡ Good g) (verdict : Verdict) (judged : verdict ≡ verdict_of (name_rows old new wrong)) where
+    module _ (g : Geometry) (good : opened ≡ Some g) (verdict : Verdict) (judged : verdict ≡ verdict_of (name_rows old new wrong)) where
       abbrev sought : List Row
       sought = row (missing (found img old)) 0o2 ∷ (row (not (missing (found img new))) 0o2 ∷ [])
 
@@ -105,34 +104,34 @@ module _ (img : List ℕ) (old new : Key) (wrong : Bool) where
           let r = told_refused (name_rows old new wrong) verdict judged code told in
           refuses (behind_40 ∙ behind_refused sought (name_rows old new wrong) r.first r.never) r.never
 
-      module _ (right : verdict ≡ Clear) (at_old : Found) (is-old : found_in at_old ≡ find_from img g old 0 (slots g)) where
+      module _ (right : verdict ≡ Clear) (at_old : Answered ℕ) (is-old : value_in at_old ≡ find_from img g old 0 (slots g)) where
         behind_names : first_of (old_rows img old new wrong) ≡ first_of sought
         behind_names = behind_40 ∙ behind_clear sought (name_rows old new wrong) refl (told_clear (name_rows old new wrong) verdict judged right)
 
         measures : geometry_of img ≡ g
         measures = (opened_good img g (sym is_opened ∙ good)).1
 
-        pub old_absent : at_old ≡ Nothing → Refuses 0o2
+        pub old_absent : at_old ≡ None → Refuses 0o2
         old_absent nothing =
-            refuses (behind_names ∙ refuse _ (ap missing (found_at img old g _ measures is-old ∙ ap found_in nothing))) (λ zero. omega (arith, zero))
+            refuses (behind_names ∙ refuse _ (ap missing (found_at img old g _ measures is-old ∙ ap value_in nothing))) (λ zero. omega (arith, zero))
 
-        module _ (e : ℕ) (at : at_old ≡ At e) (at_new : Found) (is-new : found_in at_new ≡ find_from img g new 0 (slots g)) where
+        module _ (e : ℕ) (at : at_old ≡ Some e) (at_new : Answered ℕ) (is-new : value_in at_new ≡ find_from img g new 0 (slots g)) where
           there : found img old ≡ some e
-          there = found_at img old g _ measures is-old ∙ ap found_in at
+          there = found_at img old g _ measures is-old ∙ ap value_in at
 
-          behind_old_name : first_of (old_rows img old new wrong) ≡ first_of (row (not (missing (found_in at_new))) 0o2 ∷ [])
+          behind_old_name : first_of (old_rows img old new wrong) ≡ first_of (row (not (missing (value_in at_new))) 0o2 ∷ [])
           behind_old_name =
               behind_names
               ∙ (pass _ _ (ap missing there) ∙ ap (λ (o : Option ℕ). first_of (row (not (missing o)) 0o2 ∷ [])) (found_at img new g _ measures is-new))
 
-          pub new_exists : (f : ℕ) → at_new ≡ At f → Refuses 0o2
-          new_exists f also = refuses (behind_old_name ∙ refuse _ (ap (λ (o : Found). not (missing (found_in o))) also)) (λ zero. omega (arith, zero))
+          pub new_exists : (f : ℕ) → at_new ≡ Some f → Refuses 0o2
+          new_exists f also = refuses (behind_old_name ∙ refuse _ (ap (λ (o : Answered ℕ). not (missing (value_in o))) also)) (λ zero. omega (arith, zero))
 
-          pub old_asked : at_new ≡ Nothing → (x : Entry) → x ≡ entry_of img g e → File g e x ≡ stage_of (old_rows img old new wrong) img old
+          pub old_asked : at_new ≡ None → (x : Entry) → x ≡ entry_of img g e → File g e x ≡ stage_of (old_rows img old new wrong) img old
           old_asked nothing x entry =
               stage_gives (old_rows img old new wrong) img old
               (record {
-                clear = behind_old_name ∙ (pass _ _ (ap (λ (o : Found). not (missing (found_in o))) nothing) ∙ clear);
+                clear = behind_old_name ∙ (pass _ _ (ap (λ (o : Answered ℕ). not (missing (value_in o))) nothing) ∙ clear);
                 measures = measures;
                 number = number_found img old there;
                 file = file_found_law img old g e measures there ∙ sym entry;

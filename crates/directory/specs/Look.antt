@@ -1,5 +1,7 @@
 -- LOOK.
-use Rattle.std.specs.Prelude.{ℕ, List, [], ◌∷◌}
+use Rattle.std.specs.Prelude.{ℕ, List, [], ◌∷◌, Result, Ok, Err}
+use Rattle.answers.specs.declared.Refusal.{Refusal}
+use Rattle.answers.specs.Refusals.{code_of}
 use Rattle.pack.specs.declared.Entry.{Entry}
 use Rattle.pack.specs.declared.Key.{Key}
 use Rattle.asking.specs.Outcome.{Outcome, settled}
@@ -13,6 +15,12 @@ look_numbers x = x.kind ∷ (x.first.0 ∷ (x.length ∷ (x.protect ∷ (x.write
 
 unfoldable pub look : List ℕ → Key → Outcome
 look img key = settled (look_rows img key) img [] (record { code = 0; numbers = look_numbers (file_of img key); image = img; buffer = [] })
+
+-- code and numbers, as a host gets them
+abbrev pub look_answer : Result Entry Refusal → LookAnswer
+look_answer (Ok x) =
+    record { code = 0; kind = x.kind; first = x.first.0; length = x.length; protect = x.protect; writer = x.writer; readers = x.readers }
+look_answer (Err refusal) = record { code = code_of refusal; kind = 0; first = 0; length = 0; protect = 0; writer = 0; readers = 0 }
 
 -- what an answer says
 abbrev pub look_outcome : List ℕ → LookAnswer → Outcome

@@ -2,56 +2,35 @@
 ghost use Rattle.std.specs.Prelude.{◌≡◌};
 ghost use Rattle.consistency.specs.ConsistentTest.{opened_of};
 ghost use Rattle.consistency.specs.Mapped.{Lent, MappedIf};
-ghost use Rattle.asking.specs.AskedStage.{stage_of};
+ghost use Rattle.answers.specs.Refusals.{code_in};
+ghost use Rattle.asking.specs.AskedStage.{asked_in, stage_of};
 ghost use Rattle.directory.specs.DeletRows.{delet_rows};
 ghost use Rattle.directory.specs.Delet.{delet};
 ghost use Rattle.directory.specs.DeletMap.{delet_map};
 
 use crate::permit;
-use answers::Verdict;
-use asking::{Asked, Right};
+use answers::Refusal;
+use asking::{Found, Right};
 use consistency::Opened;
-use pack::Key;
+use pack::{Key, View};
 
-fn decide_delet(img: &[u8], opened: Opened, key: Key, caller: usize) -> Asked
+fn decide_delet(img: &[u8], opened: Opened, key: Key, caller: usize) -> Result<Found, Refusal>
     requires { opened ≡ opened_of img.now }
-    ensures { result ≡ stage_of (delet_rows img.now key caller) img.now key }
+    ensures { asked_in result ≡ stage_of (delet_rows img.now key caller) img.now key }
 {
-    let asked = asking::ask_file(img, opened, key, false);
-    let Asked::File(_, _, x) = asked else {
-        return asked;
-    };
-    if let Verdict::Refused(code) = permit::judge_permit(Right::Delete, caller, x) {
-        return Asked::Refused(code);
-    }
-    asked
+    let found = asking::ask_file(img, opened, key, false)?;
+    permit::judge_permit(Right::Delete, caller, found.entry)?;
+    Ok(found)
 }
 
-// A small pack does not pay for the clearing of a large map.
-pub fn delet(img: &mut [u8], key: Key, caller: usize) -> usize
-    ensures value { result ≡ (delet img.old key caller).code }
+pub fn delet(img: &mut [u8], key: Key, caller: usize) -> Result<(), Refusal>
+    ensures value { code_in result ≡ (delet img.old key caller).code }
     ensures img_after { img.new ≡ (delet img.old key caller).image }
 {
-    if img.len() <= consistency::FEW_BYTES {
-        let mut map = [0u8; consistency::FEW_BLOCKS];
-        return delet_lent(img, &mut map, key, caller);
-    }
-    if img.len() <= consistency::MANY_BYTES {
-        let mut map = [0u8; consistency::MANY_BLOCKS];
-        return delet_lent(img, &mut map, key, caller);
-    }
-    let mut map = [0u8; pack::MOST_BLOCKS];
-    delet_lent(img, &mut map, key, caller)
-}
-
-// On a lent map.
-fn delet_lent(img: &mut [u8], map: &mut [u8], key: Key, caller: usize) -> usize
-    requires { Lent map.old img.old }
-    ensures value { result ≡ (delet img.old key caller).code }
-    ensures img_after { img.new ≡ (delet img.old key caller).image }
-{
-    let opened = consistency::open_mapped(img, map);
-    delet_opened(img, map, opened, key, caller)
+    consistency::lend_map_mut(img, |img, map| {
+        let opened = consistency::open_mapped(img, map);
+        delet_opened(img, map, opened, key, caller)
+    })
 }
 
 // In a pack that was opened, the blocks of the file are given up on the map of its opening and on its own.
@@ -61,20 +40,23 @@ pub fn delet_opened(
     opened: Opened,
     key: Key,
     caller: usize,
-) -> usize
+) -> Result<(), Refusal>
     requires opened_value { opened ≡ opened_of img.old }
     requires mapped_if { MappedIf map.old img.old }
-    ensures value { result ≡ (delet img.old key caller).code }
+    ensures value { code_in result ≡ (delet img.old key caller).code }
     ensures img_after { img.new ≡ (delet img.old key caller).image }
     ensures map_after { map.new ≡ delet_map map.old img.old key caller }
 {
-    match decide_delet(img, opened, key, caller) {
-        Asked::Refused(code) => code,
-        Asked::File(g, e, x) => {
-            room::give_up(img, map, g, x);
-            room::clear_bits(img, g, x);
-            pack::clear_entry(img, g, e);
-            0
-        }
-    }
+    let found = decide_delet(img, opened, key, caller)?;
+    room::give_up(
+        View {
+            img,
+            g: found.geometry,
+        },
+        map,
+        found.entry,
+    );
+    room::clear_bits(img, found.geometry, found.entry);
+    pack::clear_entry(img, found.geometry, found.number);
+    Ok(())
 }

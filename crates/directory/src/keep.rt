@@ -1,15 +1,18 @@
 // KEEP.
 ghost use Rattle.std.specs.Prelude.{◌≡◌, ◌≤◌};
 ghost use Rattle.consistency.specs.ConsistentTest.{opened_of};
-ghost use Rattle.asking.specs.AskedStage.{stage_of};
+ghost use Rattle.answers.specs.Refusals.{code_in};
+ghost use Rattle.asking.specs.AskedStage.{asked_in, stage_of};
 ghost use Rattle.directory.specs.KeepRows.{keep_rows};
 ghost use Rattle.directory.specs.Keep.{kept_code, keep};
 
-use asking::Asked;
+use answers::Refusal;
+use asking::Found;
 use consistency::Opened;
 use pack::Key;
 
 // The protect code with bit 7 set.
+#[tactic(auto, unfolding(crate::specs::Keep::kept_code))]
 fn kept_code(protect: usize) -> usize
     requires { protect ≤ 255 }
     ensures { result ≡ kept_code protect }
@@ -20,22 +23,19 @@ fn kept_code(protect: usize) -> usize
     protect
 }
 
-fn decide_keep(img: &[u8], opened: Opened, key: Key, caller: usize) -> Asked
+fn decide_keep(img: &[u8], opened: Opened, key: Key, caller: usize) -> Result<Found, Refusal>
     requires { opened ≡ opened_of img.now }
-    ensures { result ≡ stage_of (keep_rows img.now key caller) img.now key }
+    ensures { asked_in result ≡ stage_of (keep_rows img.now key caller) img.now key }
 {
-    let asked = asking::ask_file(img, opened, key, false);
-    let Asked::File(_, _, x) = asked else {
-        return asked;
-    };
-    if caller != x.uic {
-        return Asked::Refused(0o6);
+    let found = asking::ask_file(img, opened, key, false)?;
+    if caller != found.entry.uic {
+        return Err(Refusal::RightLacking);
     }
-    asked
+    Ok(found)
 }
 
-pub fn keep(img: &mut [u8], key: Key, caller: usize) -> usize
-    ensures value { result ≡ (keep img.old key caller).code }
+pub fn keep(img: &mut [u8], key: Key, caller: usize) -> Result<(), Refusal>
+    ensures value { code_in result ≡ (keep img.old key caller).code }
     ensures img_after { img.new ≡ (keep img.old key caller).image }
 {
     let opened = consistency::open_pack(img);
@@ -43,16 +43,13 @@ pub fn keep(img: &mut [u8], key: Key, caller: usize) -> usize
 }
 
 // In a pack that was opened.
-pub fn keep_opened(img: &mut [u8], opened: Opened, key: Key, caller: usize) -> usize
+pub fn keep_opened(img: &mut [u8], opened: Opened, key: Key, caller: usize) -> Result<(), Refusal>
     requires { opened ≡ opened_of img.old }
-    ensures value { result ≡ (keep img.old key caller).code }
+    ensures value { code_in result ≡ (keep img.old key caller).code }
     ensures img_after { img.new ≡ (keep img.old key caller).image }
 {
-    match decide_keep(img, opened, key, caller) {
-        Asked::Refused(code) => code,
-        Asked::File(g, e, x) => {
-            pack::set_entry_word(img, g, e, 4, kept_code(x.protect));
-            0
-        }
-    }
+    let found = decide_keep(img, opened, key, caller)?;
+    let protect = kept_code(found.entry.protect);
+    pack::set_entry_word(img, found.geometry, found.number, 4, protect);
+    Ok(())
 }

@@ -2,53 +2,53 @@
 ghost use Rattle.std.specs.Prelude.{◌≡◌, ◌<◌};
 ghost use Rattle.pack.specs.GeometrySized.{Sized};
 ghost use Rattle.pack.specs.Geometry.{slots};
-ghost use Rattle.answers.specs.Stage.{verdict_of};
+ghost use Rattle.answers.specs.Refusals.{code_in};
+ghost use Rattle.answers.specs.Stage.{verdict_in, verdict_of};
 ghost use Rattle.consistency.specs.ConsistentTest.{opened_of};
-ghost use Rattle.asking.specs.AskedStage.{stage_of};
+ghost use Rattle.asking.specs.AskedStage.{asked_in, stage_of};
 ghost use Rattle.directory.specs.RenamRows.{name_rows, old_rows, renam_rows};
 ghost use Rattle.directory.specs.Renam.{renamed, renam};
 
 use crate::permit;
-use answers::Verdict;
-use asking::{Asked, Found, Right};
+use answers::Refusal;
+use asking::{Found, Right};
 use consistency::Opened;
-use pack::{Geometry, Key};
+use pack::{Geometry, Key, View};
 
 // Both names are judged before an argument, and that before either is looked for.
-fn judge_names(old: Key, new: Key, wrong: bool) -> Verdict
-    ensures { result ≡ verdict_of (name_rows old new wrong) }
+fn judge_names(old: Key, new: Key, wrong: bool) -> Result<(), Refusal>
+    ensures { verdict_in result ≡ verdict_of (name_rows old new wrong) }
 {
-    if !asking::is_legal(old) {
-        return Verdict::Refused(0o15);
-    }
-    if !asking::is_legal(new) {
-        return Verdict::Refused(0o15);
+    if !asking::is_legal(old) || !asking::is_legal(new) {
+        return Err(Refusal::IllegalName);
     }
     if wrong {
-        return Verdict::Refused(0o41);
+        return Err(Refusal::WrongArgument);
     }
-    Verdict::Clear
+    Ok(())
 }
 
 // The file of the old name, where there is none of the new one.
-fn ask_old(img: &[u8], opened: Opened, old: Key, new: Key, wrong: bool) -> Asked
+fn ask_old(img: &[u8], opened: Opened, old: Key, new: Key, wrong: bool) -> Result<Found, Refusal>
     requires { opened ≡ opened_of img.now }
-    ensures { result ≡ stage_of (old_rows img.now old new wrong) img.now old }
+    ensures { asked_in result ≡ stage_of (old_rows img.now old new wrong) img.now old }
 {
-    let Opened::Good(g) = opened else {
-        return Asked::Refused(0o40);
+    let Some(geometry) = opened else {
+        return Err(Refusal::Inconsistent);
     };
-    if let Verdict::Refused(code) = judge_names(old, new, wrong) {
-        return Asked::Refused(code);
-    }
-    let Found::At(e) = asking::find(img, g, old) else {
-        return Asked::Refused(0o2);
+    judge_names(old, new, wrong)?;
+    let view = View { img, g: geometry };
+    let Some(number) = asking::find(view, old) else {
+        return Err(Refusal::ExistsOrAbsent);
     };
-    let Found::Nothing = asking::find(img, g, new) else {
-        return Asked::Refused(0o2);
+    let None = asking::find(view, new) else {
+        return Err(Refusal::ExistsOrAbsent);
     };
-    let x = pack::read_entry(img, g, e);
-    Asked::File(g, e, x)
+    Ok(Found {
+        geometry,
+        number,
+        entry: view.read_entry(number),
+    })
 }
 
 fn decide_renam(
@@ -58,18 +58,13 @@ fn decide_renam(
     new: Key,
     protect: usize,
     caller: usize,
-) -> Asked
+) -> Result<Found, Refusal>
     requires { opened ≡ opened_of img.now }
-    ensures { result ≡ stage_of (renam_rows img.now old new protect caller) img.now old }
+    ensures { asked_in result ≡ stage_of (renam_rows img.now old new protect caller) img.now old }
 {
-    let asked = ask_old(img, opened, old, new, 255 < protect);
-    let Asked::File(_, _, x) = asked else {
-        return asked;
-    };
-    if let Verdict::Refused(code) = permit::judge_permit(Right::Write, caller, x) {
-        return Asked::Refused(code);
-    }
-    asked
+    let found = ask_old(img, opened, old, new, 255 < protect)?;
+    permit::judge_permit(Right::Write, caller, found.entry)?;
+    Ok(found)
 }
 
 fn write_name(img: &mut [u8], g: Geometry, e: usize, new: Key, protect: usize)
@@ -84,8 +79,14 @@ fn write_name(img: &mut [u8], g: Geometry, e: usize, new: Key, protect: usize)
     pack::set_entry_word(img, g, e, 4, protect);
 }
 
-pub fn renam(img: &mut [u8], old: Key, new: Key, protect: usize, caller: usize) -> usize
-    ensures value { result ≡ (renam img.old old new protect caller).code }
+pub fn renam(
+    img: &mut [u8],
+    old: Key,
+    new: Key,
+    protect: usize,
+    caller: usize,
+) -> Result<(), Refusal>
+    ensures value { code_in result ≡ (renam img.old old new protect caller).code }
     ensures img_after { img.new ≡ (renam img.old old new protect caller).image }
 {
     let opened = consistency::open_pack(img);
@@ -100,16 +101,12 @@ pub fn renam_opened(
     new: Key,
     protect: usize,
     caller: usize,
-) -> usize
+) -> Result<(), Refusal>
     requires { opened ≡ opened_of img.old }
-    ensures value { result ≡ (renam img.old old new protect caller).code }
+    ensures value { code_in result ≡ (renam img.old old new protect caller).code }
     ensures img_after { img.new ≡ (renam img.old old new protect caller).image }
 {
-    match decide_renam(img, opened, old, new, protect, caller) {
-        Asked::Refused(code) => code,
-        Asked::File(g, e, _) => {
-            write_name(img, g, e, new, protect);
-            0
-        }
-    }
+    let found = decide_renam(img, opened, old, new, protect, caller)?;
+    write_name(img, found.geometry, found.number, new, protect);
+    Ok(())
 }

@@ -16,6 +16,7 @@ pub mod FaultMembers
 pub mod ReportSmall
 pub mod ReportOrder
 pub mod FirstSought
+pub mod FaultNamed
 pub mod LookedHeader
 pub mod LookedFields
 pub mod LookedEntry

@@ -1,26 +1,26 @@
 -- The look at an entry, return by return: one that is empty, and the words, the name and the file of one in use.
 use Prim.Native.Nat.{ℕ, ◌+◌, ◌-◌, ◌*◌, ◌≤◌, ◌<◌}
 use mathlib.Core.Path.{◌≡◌, refl, sym, ap, subst, ◌∙◌}
-use mathlib.Core.Bool.{Bool, true}
+use mathlib.Core.Bool.{Bool, true, false}
 use mathlib.Core.List.{List, []}
 use mathlib.Core.Logic.{◌⊎◌, inr, ◌↔◌}
 use native.Mathlib.Omega.{arith}
-use lib.ListN.{length}
+use Rattle.std.specs.Prelude.{Option, Some, is_some}
 use Rattle.words.specs.Word.{word_at}
 use Rattle.radix.proofs.Names.{name_not_zero}
 use Rattle.pack.specs.declared.Entry.{Entry}
 use Rattle.pack.specs.declared.Geometry.{Geometry}
-use Rattle.pack.specs.Geometry.{geometry_of, slots, block_words, entry_at}
+use Rattle.pack.specs.Geometry.{geometry_of, block_words, entry_at}
 use Rattle.pack.specs.GeometrySized.{Sized}
 use Rattle.pack.specs.HeaderTest.{zeros}
 use Rattle.pack.specs.Entry.{entry_word, entry_of, Empty}
 use Rattle.pack.proofs.HeaderRules.{header_sized}
 use Rattle.pack.proofs.HeaderTestWords.{zeros_at, zeros_all}
-use Rattle.consistency.proofs.EntryTestWhole.{entry_whole}
 use Rattle.faults.specs.declared.ReportAnswer.{ReportAnswer}
-use Rattle.faults.specs.Rules.{Rule, entry, name, Holds, RightField}
+use Rattle.faults.specs.Rules.{entry, name, Holds, RightField}
 use Rattle.faults.specs.Report.{file_order, entry_order, reported, nothing_wrong, Reported}
-use Rattle.faults.specs.Looking.{FirstWrong, FieldRight, OtherKey, Measures, Here}
+use Rattle.faults.specs.Looking.{FirstWrong, Sought, FieldRight, OtherKey, Measures, Here}
+use Rattle.faults.proofs.FirstSought.{found_some, found_none}
 use Rattle.faults.proofs.ReportedParts.{all_reported}
 use Rattle.faults.proofs.RulesEntry.{entry_here}
 use Rattle.faults.proofs.RulesEntryRight.{sure, empty_unnamed}
@@ -30,10 +30,6 @@ pub measures_sized : {img : List ℕ} {g : Geometry} → Measures img g → Size
 measures_sized {img} m = subst (Sized img) m.is (header_sized img m.header)
 
 -- is it empty?
-module _ {img : List ℕ} {g : Geometry} (s : Sized img g) (e : ℕ) (inside : e < slots g) {words : ℕ} (size : words ≡ block_words g) where
-  pub entry_stands : 2 * (words + 16 * e + 16) ≤ length img
-  entry_stands = omega (arith, entry_whole s e inside, size)
-
 module _ (img : List ℕ) (g : Geometry) (e : ℕ) {words : ℕ} (size : words ≡ block_words g) {r : Bool} (is : r ≡ zeros img (words + 16 * e) 16) where
   tested : r ≡ zeros img (entry_at g e) 16
   tested = rw size at is
@@ -68,46 +64,47 @@ module _ {img : List ℕ} {g : Geometry} {e : ℕ} {x : Entry} (h : Here img g e
   fails : {w : ℕ} → (RightField img e w x → ⊥) → Holds img (entry e w) → ⊥
   fails {w} wrong right = wrong (subst (RightField img e w) (sym here_entry) (sure here_used right))
 
-  pub told_low : {w : ℕ} → FirstWrong (FieldRight img e x) 0 4 w → w < 4 → Reported img (entry_order img e) (reported img (entry e w))
-  told_low {w} first less = entry_low img e w less (λ v before. holds (first.before v (omega arith) before)) (fails (first.wrong less))
+  pub told_low : {w : ℕ} → Sought (FieldRight img e x) 0 4 (Some w) → Reported img (entry_order img e) (reported img (entry e w))
+  told_low {w} (first, less) = entry_low img e w less (λ v before. holds (first.before v (omega arith) before)) (fails (first.wrong less))
 
-  module _ {k : ℕ} (key : FirstWrong (FieldRight img e x) 0 4 k) (legal : 4 ≤ k) where
+  module _ (key : FirstWrong (FieldRight img e x) 0 4 4) where
     low : (v : ℕ) → v < 4 → Holds img (entry e v)
-    low v less = holds (key.before v (omega arith) (omega arith))
+    low v less = holds (key.before v (omega arith) less)
 
     named : (entry_here img e).name1 ≡ 0 → ⊥
     named is = name_not_zero _ _ ((key.before 1 (omega arith) (omega arith)).name refl) (ap (λ (y : Entry). y.name1) here_entry ∙ is)
 
-    module _ {f : ℕ} (others : FirstWrong (OtherKey img g e) 0 e f) where
-      others_here : FirstWrong (OtherKey img (geometry_of img) e) 0 e f
-      others_here = subst (λ (k : Geometry). FirstWrong (OtherKey img k e) 0 e f) (sym h.measures.is) others
+    -- an earlier entry was sought that has its name
+    module _ (found : Option ℕ) (sought : Sought (OtherKey img g e) 0 e found) where
+      here_key : {f : ℕ} → FirstWrong (OtherKey img g e) 0 e f → FirstWrong (OtherKey img (geometry_of img) e) 0 e f
+      here_key {f} = subst (λ (k : Geometry). FirstWrong (OtherKey img k e) 0 e f) (sym h.measures.is)
 
-      pub told_name : f < e → Reported img (entry_order img e) (reported img (name e))
-      told_name less = entry_name img e low (λ apart. others_here.wrong less (λ same.
-          sure here_used apart f less (λ empty. named (sym same.name1 ∙ empty_unnamed img (geometry_of img) f empty)) same))
+      pub told_name : is_some found ≡ true → Reported img (entry_order img e) (reported img (name e))
+      told_name some = by (found_some found sought some)
+        where
+          by : (f : ℕ) × FirstWrong (OtherKey img g e) 0 e f × (f < e) → Reported img (entry_order img e) (reported img (name e))
+          by (f, first, less) = entry_name img e low (λ apart. (here_key first).wrong less (λ same.
+              sure here_used apart f less (λ empty. named (sym same.name1 ∙ empty_unnamed img (geometry_of img) f empty)) same))
 
-      module _ (alone : e ≤ f) where
+      module _ (alone : is_some found ≡ false) where
         apart : Holds img (name e)
-        apart = inr (λ i less used same. others_here.before i (omega arith) (omega arith) same)
+        apart = inr (λ i less used same. (here_key (found_none found sought alone)).before i (omega arith) less same)
 
-        pub told_middle : {w : ℕ} → FirstWrong (FieldRight img e x) 4 6 w → w < 6 → Reported img (entry_order img e) (reported img (entry e w))
-        told_middle {w} first less = entry_middle img e low apart w first.low less (λ v above before. holds (first.before v above before)) (fails (first.wrong less))
+        pub told_middle : {w : ℕ} → Sought (FieldRight img e x) 4 6 (Some w) → Reported img (entry_order img e) (reported img (entry e w))
+        told_middle {w} (first, less) = entry_middle img e low apart w first.low less (λ v above before. holds (first.before v above before)) (fails (first.wrong less))
 
-        module _ {m : ℕ} (kind : FirstWrong (FieldRight img e x) 4 6 m) (known : 6 ≤ m) where
+        module _ (kind : FirstWrong (FieldRight img e x) 4 6 6) where
           middle : (v : ℕ) → 4 ≤ v → v < 6 → Holds img (entry e v)
-          middle v above less = holds (kind.before v above (omega arith))
+          middle v above less = holds (kind.before v above less)
 
-          pub told_high : {w : ℕ} → FirstWrong (FieldRight img e x) 9 16 w → w < 16 → Reported img (entry_order img e) (reported img (entry e w))
-          told_high {w} first less =
+          pub told_high : {w : ℕ} → Sought (FieldRight img e x) 9 16 (Some w) → Reported img (entry_order img e) (reported img (entry e w))
+          told_high {w} (first, less) =
               entry_high img e low apart middle w first.low less (λ v above before. holds (first.before v above before)) (fails (first.wrong less))
 
-          pub told_file : {w : ℕ} → FirstWrong (FieldRight img e x) 9 16 w → 16 ≤ w → {answer : ReportAnswer}
+          pub told_file : FirstWrong (FieldRight img e x) 9 16 16 → {answer : ReportAnswer}
               → Reported img (file_order e (entry_here img e)) answer → Reported img (entry_order img e) answer
-          told_file behind done report = entry_file img e low apart middle (λ v above less. holds (behind.before v above (omega arith))) report
+          told_file behind report = entry_file img e low apart middle (λ v above less. holds (behind.before v above less)) report
 
 -- the kind of a file that was looked at
-pub known_kind : {x : Entry} {m : ℕ} → ((img : List ℕ) (e : ℕ) → FirstWrong (FieldRight img e x) 4 6 m) → 6 ≤ m → (x.kind ≡ 1) ⊎ (x.kind ≡ 2)
-known_kind kind known = ((kind [] 0).before 5 (omega arith) (omega arith)).kind refl
-
-pub told_as : {img : List ℕ} {rules : List Rule} {answer answer' : ReportAnswer} → answer ≡ answer' → Reported img rules answer' → Reported img rules answer
-told_as {img} {rules} is report = subst (Reported img rules) (sym is) report
+pub known_kind : {x : Entry} → ((img : List ℕ) (e : ℕ) → FirstWrong (FieldRight img e x) 4 6 6) → (x.kind ≡ 1) ⊎ (x.kind ≡ 2)
+known_kind kind = ((kind [] 0).before 5 (omega arith) (omega arith)).kind refl

@@ -1,12 +1,11 @@
--- The look at the words of an entry in use but 6 to 8, return by return.
+-- The look at words 0 to 3 and 9 to 15 of an entry in use, return by return, and at the entries before it.
 use Prim.Native.Nat.{ℕ, ◌+◌, ◌≤◌, ◌<◌}
 use mathlib.Core.Path.{◌≡◌, refl, sym, ap, ◌∙◌}
 use mathlib.Core.Bool.{Bool, true, false, cond, not, ◌&&◌}
 use mathlib.Core.List.{List}
-use mathlib.Core.Logic.{◌⊎◌, inl, inr}
 use native.Mathlib.Omega.{arith}
 use lib.Dec.{eqb, ltb}
-use borrow.Author.Tests.{eqb-true, leb-true, le-leb}
+use borrow.Author.Tests.{leb-true, le-leb}
 use Rattle.answers.proofs.RefusalsTests.{and_left, and_right, and_both, true_not_false}
 use Rattle.radix.specs.Characters.{character_of, table}
 use Rattle.radix.specs.Packing.{first_code, third_code, characters_of}
@@ -127,58 +126,6 @@ module _ (img : List ℕ) (x : Entry) (e : ℕ) where
               before = λ i low less. key_field less (λ at. begins) (λ at. name) (λ at. extension) (λ at. (listed_iff img x.uic).0 l);
               wrong = λ inside. absurd (omega arith);
             }
-
-  -- words 4 and 5
-  kind_field : {w : ℕ} → 4 ≤ w → w < 6 → x.protect ≤ 255 → (w ≡ 5 → (x.kind ≡ 1) ⊎ (x.kind ≡ 2)) → RightField img e w x
-  kind_field low few protect kind =
-      record {
-        begins = λ at. absurd (omega (arith, at));
-        name = λ at. absurd (omega (arith, at));
-        extension = λ at. absurd (omega (arith, at));
-        uic = λ at. absurd (omega (arith, at));
-        protect = λ at. protect;
-        kind = kind;
-        writer = λ at. absurd (omega (arith, at));
-        opens = λ at. absurd (omega (arith, at));
-        rest = λ low. absurd (omega arith);
-      }
-
-  pub kind_protect : 255 < x.protect → FirstWrong (FieldRight img e x) 4 6 4
-  kind_protect large =
-      record {
-        low = omega arith;
-        high = omega arith;
-        before = λ i low less. absurd (omega arith);
-        wrong = λ inside right. omega (arith, right.protect refl, large);
-      }
-
-  module _ (protect : x.protect ≤ 255) where
-    pub kind_other : (not (eqb x.kind 1) && not (eqb x.kind 2)) ≡ true → FirstWrong (FieldRight img e x) 4 6 5
-    kind_other wrong =
-        record {
-          low = omega arith;
-          high = omega arith;
-          before = λ i low less. kind_field low (omega arith) protect (later less (omega arith));
-          wrong = λ inside right. never (right.kind refl);
-        }
-      where
-        never : (x.kind ≡ 1) ⊎ (x.kind ≡ 2) → ⊥
-        never (inl is) = true_not_false (sym (and_left (not (eqb x.kind 1)) _ wrong) ∙ ap (λ (k : ℕ). not (eqb k 1)) is)
-        never (inr is) = true_not_false (sym (and_right (not (eqb x.kind 1)) _ wrong) ∙ ap (λ (k : ℕ). not (eqb k 2)) is)
-
-    pub kind_right : (not (eqb x.kind 1) && not (eqb x.kind 2)) ≡ false → FirstWrong (FieldRight img e x) 4 6 6
-    kind_right known =
-        record {
-          low = omega arith;
-          high = omega arith;
-          before = λ i low less. kind_field low less protect (λ at. by (eqb x.kind 1) (eqb x.kind 2) refl refl known);
-          wrong = λ inside. absurd (omega arith);
-        }
-      where
-        by : (a b : Bool) → eqb x.kind 1 ≡ a → eqb x.kind 2 ≡ b → (not a && not b) ≡ false → (x.kind ≡ 1) ⊎ (x.kind ≡ 2)
-        by true b first second is = inl (eqb-true x.kind 1 first)
-        by false true first second is = inr (eqb-true x.kind 2 second)
-        by false false first second is = true_not_false is
 
   -- words 9 and 10
   opens_field : {w : ℕ} → 9 ≤ w → w < 11 → WriterRight x.kind x.writer → (w ≡ 10 → x.readers + one (ltb 0 x.writer) ≤ 62) → RightField img e w x

@@ -1,14 +1,13 @@
--- The look at the file of an entry in use, return by return: an extent, a chain without blocks, the links of a chain and its end.
+-- The look at the file of an entry in use, return by return: an extent as it was sought, a chain without blocks, the links of a chain and its end.
 use Prim.Native.Nat.{ℕ, ◌+◌, ◌-◌, ◌≤◌, ◌<◌}
 use mathlib.Core.Path.{◌≡◌, refl, sym, ap, subst, ◌∙◌}
-use mathlib.Core.Bool.{Bool, true, false, ◌&&◌, ◌||◌}
+use mathlib.Core.Bool.{Bool, true, false}
 use mathlib.Core.List.{List}
-use mathlib.Core.Logic.{◌⊎◌, inl, inr, ◌↔◌}
+use mathlib.Core.Logic.{inr, ◌↔◌}
 use native.Mathlib.Omega.{arith}
-use lib.Dec.{leb, ltb}
 use lib.ListN.{get_or}
-use borrow.Author.Tests.{leb-true, ltb-true, le-leb, lt-ltb}
-use Rattle.answers.proofs.RefusalsTests.{and_left, and_right, and_both, true_not_false}
+use Rattle.answers.proofs.RefusalsTests.{true_not_false}
+use Rattle.std.specs.Prelude.{Some}
 use Rattle.pack.specs.declared.Entry.{Entry}
 use Rattle.pack.specs.declared.Geometry.{Geometry}
 use Rattle.pack.specs.Geometry.{geometry_of}
@@ -17,73 +16,17 @@ use Rattle.pack.specs.Entry.{entry_of, Empty}
 use Rattle.faults.specs.declared.ReportAnswer.{ReportAnswer}
 use Rattle.faults.specs.Rules.{extent, link, loop, end, Holds, RightExtent, RightChain, Body, chain_at}
 use Rattle.faults.specs.Report.{each, file_order, reported, nothing_wrong, Reported, consistent, fault, right}
-use Rattle.faults.specs.Looking.{FirstWrong, ExtentRight, Here, Last}
+use Rattle.faults.specs.Looking.{FirstWrong, Sought, ExtentRight, Here, Last}
 use Rattle.faults.proofs.ReportedParts.{hold_each, all_reported, reported_append, reported_each}
 use Rattle.faults.proofs.ReportedRuns.{hold_links}
 use Rattle.faults.proofs.RulesEntry.{entry_here, extent_order, end_order, order_contiguous, order_linked}
 use Rattle.faults.proofs.RulesEntryRight.{sure}
 use Rattle.faults.proofs.ReportOrder.{chain_six, chain_link_wrong, chain_loop, chain_eight, chain_hold}
-use Rattle.faults.proofs.FirstSought.{either_less, neither_less}
 use Rattle.faults.proofs.LookedEntry.{here_used, here_in}
 use Rattle.faults.proofs.LookedLinks.{Walked, next_place, walked_next}
 
-pub body_iff : (g : Geometry) (b : ℕ) → ((leb g.bodies.0 b && ltb b g.blocks) ≡ true) ↔ Body g b
-body_iff g b = (
-  λ is. (leb-true _ _ (and_left (leb g.bodies.0 b) _ is), ltb-true _ _ (and_right (leb g.bodies.0 b) _ is)),
-  λ body. and_both (le-leb _ _ body.0) (lt-ltb _ _ body.1),
-)
-
 pub no_body : {r : Bool} {A : Type 0} → (r ≡ true) ↔ A → r ≡ false → A → ⊥
 no_body iff wrong holds = true_not_false (sym (iff.1 holds) ∙ wrong)
-
--- words 6 to 8 of an extent
-module _ (g : Geometry) (x : Entry) where
-  extent_word : {w : ℕ} → (w ≡ 6 → Body g x.first.0) → (w ≡ 7 → (1 ≤ x.length) × (x.first.0 + x.length ≤ g.blocks))
-      → (w ≡ 8 → x.last.0 + 1 ≡ x.first.0 + x.length) → RightExtent g w x
-  extent_word first length last = record { first = first; length = length; last = last }
-
-  later : {A : Type 0} {w k v : ℕ} → w < k → k ≤ v → w ≡ v → A
-  later less most is = absurd (omega (arith, less, most, is))
-
-  pub extent_first : (Body g x.first.0 → ⊥) → FirstWrong (ExtentRight g x) 6 9 6
-  extent_first wrong =
-      record { low = omega arith; high = omega arith; before = λ i low less. absurd (omega arith); wrong = λ inside good. wrong (good.first refl) }
-
-  module _ (body : Body g x.first.0) {behind : ℕ} (is : behind ≡ x.first.0 + x.length) where
-    pub extent_length : (ltb x.length 1 || ltb g.blocks behind) ≡ true → FirstWrong (ExtentRight g x) 6 9 7
-    extent_length long =
-        record {
-          low = omega arith;
-          high = omega arith;
-          before = λ i low less. extent_word (λ at. body) (later less (omega arith)) (later less (omega arith));
-          wrong = λ inside good. by (good.length refl) (either_less x.length 1 g.blocks behind long);
-        }
-      where
-        by : (1 ≤ x.length) × (x.first.0 + x.length ≤ g.blocks) → (x.length < 1) ⊎ (g.blocks < behind) → ⊥
-        by good (inl few) = omega (arith, good.0, few)
-        by good (inr many) = omega (arith, good.1, many, is)
-
-    module _ (fits : (ltb x.length 1 || ltb g.blocks behind) ≡ false) where
-      length_right : (1 ≤ x.length) × (x.first.0 + x.length ≤ g.blocks)
-      length_right = let h = neither_less x.length 1 g.blocks behind fits in (h.0, omega (arith, h.1, is))
-
-      pub extent_last : (x.last.0 + 1 ≡ behind → ⊥) → FirstWrong (ExtentRight g x) 6 9 8
-      extent_last other =
-          record {
-            low = omega arith;
-            high = omega arith;
-            before = λ i low less. extent_word (λ at. body) (λ at. length_right) (later less (omega arith));
-            wrong = λ inside good. other (good.last refl ∙ sym is);
-          }
-
-      pub extent_right : x.last.0 + 1 ≡ behind → FirstWrong (ExtentRight g x) 6 9 9
-      extent_right there =
-          record {
-            low = omega arith;
-            high = omega arith;
-            before = λ i low less. extent_word (λ at. body) (λ at. length_right) (λ at. there ∙ is);
-            wrong = λ inside. absurd (omega arith);
-          }
 
 extents : (e : ℕ) → each (λ w. extent e w) 6 3 ≡ extent_order e
 unfolding each
@@ -105,14 +48,14 @@ module _ (img : List ℕ) (e : ℕ) (used : Empty img (geometry_of img) e → �
     extent_holds : {w : ℕ} → RightExtent G w X → Holds img (extent e w)
     extent_holds good = inr (λ one. good, λ two. absurd (omega (arith, two, is)))
 
-    extent_told : {w : ℕ} → FirstWrong (ExtentRight G X) 6 9 w → w < 9 → File (reported img (extent e w))
-    extent_told {w} first less =
+    extent_told : {w : ℕ} → Sought (ExtentRight G X) 6 9 (Some w) → File (reported img (extent e w))
+    extent_told {w} (first, less) =
         rw (order_contiguous e X is, ← extents e)
         (reported_each (λ w. extent e w) 6 3 w first.low (omega arith) (λ j low before. extent_holds (first.before j low before))
         (λ holds. first.wrong less ((sure used holds).0 is)))
 
-    extent_fine : {w : ℕ} → FirstWrong (ExtentRight G X) 6 9 w → 9 ≤ w → File nothing_wrong
-    extent_fine {w} first done =
+    extent_fine : FirstWrong (ExtentRight G X) 6 9 9 → File nothing_wrong
+    extent_fine first =
         rw (order_contiguous e X is, ← extents e)
         (all_reported (hold_each (λ w. extent e w) 6 3 (λ i low high. extent_holds (first.before i low (omega arith)))))
 
@@ -235,11 +178,11 @@ module _ {img : List ℕ} {g : Geometry} {e : ℕ} {x : Entry} (h : Here img g e
     contiguous : (entry_here img e).kind ≡ 1
     contiguous = here_in h (λ g x. x.kind ≡ 1) is
 
-    pub told_extent : {w : ℕ} → FirstWrong (ExtentRight g x) 6 9 w → w < 9 → Told (reported img (extent e w))
-    told_extent {w} first less = extent_told img e (here_used h) contiguous (here_in h (λ g x. FirstWrong (ExtentRight g x) 6 9 w) first) less
+    pub told_extent : {w : ℕ} → Sought (ExtentRight g x) 6 9 (Some w) → Told (reported img (extent e w))
+    told_extent {w} found = extent_told img e (here_used h) contiguous (here_in h (λ g x. Sought (ExtentRight g x) 6 9 (Some w)) found)
 
-    pub fine_extent : {w : ℕ} → FirstWrong (ExtentRight g x) 6 9 w → 9 ≤ w → Told nothing_wrong
-    fine_extent {w} first done = extent_fine img e (here_used h) contiguous (here_in h (λ g x. FirstWrong (ExtentRight g x) 6 9 w) first) done
+    pub fine_extent : FirstWrong (ExtentRight g x) 6 9 9 → Told nothing_wrong
+    fine_extent first = extent_fine img e (here_used h) contiguous (here_in h (λ g x. FirstWrong (ExtentRight g x) 6 9 9) first)
 
   module _ (is : x.kind ≡ 2) where
     linked : (entry_here img e).kind ≡ 2

@@ -14,7 +14,6 @@ use Rattle.frame.proofs.FileChainWays.{after_append}
 use Rattle.consistency.specs.ConsistentTest.{empty_map}
 use Rattle.consistency.proofs.ConsistentTestIff.{empty_zero}
 use Rattle.faults.specs.Rules.{Body, chain_at}
-use Rattle.faults.specs.Looking.{Last}
 use Rattle.faults.proofs.RulesChain.{Stands}
 
 -- at place p stands block b, and all is right before it
@@ -71,8 +70,8 @@ module _ {img : List ℕ} {g : Geometry} {x : Entry} where
     behind : chain_at img x (p + 1) ≡ next
     behind = walked_next is walked link
 
-    pub walked_on : p + 1 < x.length → Body g next → get_or marks next 0 ≡ 0 → Walked img g x (set marks next 1) (p + 1) next
-    walked_on more body free =
+    one_on : p + 1 < x.length → Body g next → get_or marks next 0 ≡ 0 → Walked img g x (set marks next 1) (p + 1) next
+    one_on more body free =
         record {
           is = behind;
           within = more;
@@ -111,7 +110,5 @@ module _ {img : List ℕ} {g : Geometry} {x : Entry} where
           | no apart ↦ omega (arith, less, apart)
         ]
 
--- at the last place
-pub walked_last : {img : List ℕ} {g : Geometry} {x : Entry} {marks : List ℕ} {p b : ℕ} → x.kind ≡ 2 → Walked img g x marks p b → x.length ≤ p + 1 → Last img g x b
-walked_last {img} {g} {x} {marks} {p} {b} linked walked done =
-    record { linked = linked; place = p; long = omega (arith, walked.within, done); is = walked.is; body = walked.body }
+    pub walked_on : {place : ℕ} → place ≡ p + 1 → place < x.length → Body g next → get_or marks next 0 ≡ 0 → Walked img g x (set marks next 1) place next
+    walked_on at more body free = subst (λ (n : ℕ). Walked img g x (set marks next 1) n next) (sym at) (one_on (omega (arith, at, more)) body free)

@@ -1,14 +1,15 @@
--- The look at the map: the bit of a block as it is read, what it must be by how often the block is counted, and the first that is wrong.
+-- The look at the map: the bit of a block as it is read and compared with what it must be, and the first that is wrong.
 use Prim.Native.Nat.{ℕ, ◌+◌, ◌*◌, ◌/◌, ◌%◌, ◌^◌, ◌≤◌, ◌<◌}
-use mathlib.Core.Path.{◌≡◌, refl, sym, ap, subst, ◌∙◌}
-use mathlib.Core.Bool.{false}
+use mathlib.Core.Path.{◌≡◌, sym, ap, subst, ◌∙◌}
+use mathlib.Core.Bool.{true, false}
 use mathlib.Core.List.{List}
-use mathlib.Core.Logic.{◌⊎◌, inl, inr, ◌↔◌}
+use mathlib.Core.Logic.{inl, inr, ◌↔◌}
 use native.Mathlib.Omega.{arith}
 use native.Mathlib.Decide.{ℕ_discrete, dec_lt}
-use lib.Dec.{ltb}
+use lib.Dec.{eqb, ltb}
 use lib.ListN.{length, get_or}
-use borrow.Author.Tests.{ltb-false}
+use borrow.Author.Tests.{eqb-true, eq-eqb, ltb-false}
+use Rattle.std.specs.Prelude.{Some}
 use Rattle.words.specs.Word.{word_at}
 use Rattle.pack.specs.declared.Geometry.{Geometry}
 use Rattle.pack.specs.GeometrySized.{Sized}
@@ -18,7 +19,7 @@ use Rattle.pack.specs.Consistent.{held}
 use Rattle.pack.proofs.MapSet.{map_room}
 use Rattle.faults.specs.Rules.{map, Taken, Holds}
 use Rattle.faults.specs.Report.{nothing_wrong, Reported}
-use Rattle.faults.specs.Looking.{FirstWrong, AllRight}
+use Rattle.faults.specs.Looking.{FirstWrong, Sought, AllRight}
 use Rattle.faults.specs.Counting.{Counted, none, Due, system, counted, BitRight}
 use Rattle.faults.proofs.ReportedParts.{hold_each, all_reported, reported_each}
 use Rattle.faults.proofs.RulesEntryRight.{entry_fine}
@@ -33,22 +34,6 @@ module _ (img : List ℕ) (g : Geometry) (b : ℕ) {words : ℕ} (many : words �
   unfolding map_bit
   bit_read read =
       ap (λ (n : ℕ). (n / 2 ^ (b % 16)) % 2) (read ∙ ap (λ (n : ℕ). word_at img ((g.contents + 1) * n + b / 16)) many)
-
--- what the bit of a block must be
-module _ {counts : List ℕ} {g : Geometry} {b : ℕ} where
-  pub due_system : b < g.bodies.0 → ◌≡◌ {A = ℕ} 1 1 ↔ Due counts g b
-  due_system own = (λ is. system own, λ so. refl)
-
-  pub due_held : b < g.blocks → (get_or counts b 0 ≡ 0 → ⊥) → ◌≡◌ {A = ℕ} 1 1 ↔ Due counts g b
-  due_held inside some = (λ is. counted inside (omega (arith, some)), λ so. refl)
-
-  pub due_free : g.bodies.0 ≤ b → (g.blocks ≤ b) ⊎ (get_or counts b 0 ≡ 0) → ◌≡◌ {A = ℕ} 0 1 ↔ Due counts g b
-  due_free other free = (λ is. absurd (omega (arith, is)), λ so. absurd (by free so))
-    where
-      by : (g.blocks ≤ b) ⊎ (get_or counts b 0 ≡ 0) → Due counts g b → ⊥
-      by free (system own) = omega (arith, other, own)
-      by (inl beyond) (counted inside some) = omega (arith, beyond, inside)
-      by (inr nil) (counted inside some) = omega (arith, nil, some)
 
 -- one bit read and compared
 bit_small : (img : List ℕ) (g : Geometry) (b : ℕ) → map_bit img g b ≤ 1
@@ -66,6 +51,12 @@ module _ (img : List ℕ) (g : Geometry) (counts : List ℕ) (b : ℕ) {bit due 
       by (yes is) one = other (omega (arith, read, right.1 (must.1.0 is), is))
       by (no not) (yes one) = not (must.1.1 (right.0 one))
       by (no not) (no zero) = other (omega (arith, read, zero, not, must.0, bit_small img g b))
+
+  pub bit_iff : (eqb bit due ≡ true) ↔ BitRight img g counts b
+  bit_iff = (
+    λ same. bit_right (eqb-true bit due same),
+    λ right. elim (ℕ_discrete bit due) [ yes same ↦ eq-eqb bit due same | no other ↦ absurd (bit_wrong other right) ],
+  )
 
 -- where every entry is right and its blocks are counted
 module _ {img : List ℕ} {g : Geometry} (all : AllRight img g) where
@@ -123,13 +114,13 @@ module _ {img : List ℕ} {g : Geometry} (all : AllRight img g) where
           let h = rule there_here in
           wrong (subst (λ (k : Geometry). BitRight img k counts b) all.measures.is (λ one. taken_due b (h.0 one), λ due. h.1 (due_taken b due)))
 
-      -- the first bit that is wrong
-      module _ {end b : ℕ} (first : FirstWrong (BitRight img g counts) 0 end b) where
-        pub map_none : map_bits g ≤ end → end ≤ b → Reported img (map_order img) nothing_wrong
-        map_none all-bits done =
-            all_reported (hold_each map 0 (map_bits (geometry_of img)) (λ z low high. holds z (first.before z low (omega (arith, high, bits_is, all-bits, done)))))
+      -- no bit is wrong, or this is the first
+      pub map_none : {end : ℕ} → FirstWrong (BitRight img g counts) 0 end end → map_bits g ≤ end → Reported img (map_order img) nothing_wrong
+      map_none first all-bits =
+          all_reported (hold_each map 0 (map_bits (geometry_of img)) (λ z low high. holds z (first.before z low (omega (arith, high, bits_is, all-bits)))))
 
-        pub map_told : end ≤ map_bits g → b < end → Reported img (map_order img) (record { rule = 10; entry = 0; word = 0; block = b })
-        map_told few inside =
-            reported_each map 0 (map_bits (geometry_of img)) b (omega arith) (omega (arith, inside, bits_is, few))
-            (λ z low less. holds z (first.before z low less)) (fails b (first.wrong inside))
+      pub map_told : {end b : ℕ} → Sought (BitRight img g counts) 0 end (Some b) → end ≤ map_bits g
+          → Reported img (map_order img) (record { rule = 10; entry = 0; word = 0; block = b })
+      map_told {end} {b} (first, inside) few =
+          reported_each map 0 (map_bits (geometry_of img)) b (omega arith) (omega (arith, inside, bits_is, few))
+          (λ z low less. holds z (first.before z low less)) (fails b (first.wrong inside))

@@ -8,6 +8,7 @@ use native.Mathlib.Omega.{arith}
 use native.Mathlib.Decide.{ℕ_discrete, dec_lt}
 use lib.ListN.{length, get_or, set, length-set}
 use lib.Seq.{get_or-set_same, get_or-set_other}
+use Rattle.std.specs.Prelude.{Some}
 use Rattle.answers.proofs.RefusalsTests.{down, true_not_false}
 use Rattle.pack.specs.declared.Entry.{Entry}
 use Rattle.pack.specs.declared.Geometry.{Geometry}
@@ -22,23 +23,11 @@ use Rattle.pack.proofs.ConsistentHeld.{right_bodies}
 use Rattle.faults.specs.Rules.{shared, Body}
 use Rattle.faults.specs.Second.{second_from, second}
 use Rattle.faults.specs.Report.{each, nothing_wrong, Reported}
-use Rattle.faults.specs.Looking.{FirstWrong, AllRight}
+use Rattle.faults.specs.Looking.{FirstWrong, Sought, AllRight}
 use Rattle.faults.specs.Counting.{Capped, Counted, CountsFile, files_from, none}
 use Rattle.faults.proofs.ReportedParts.{hold_each, all_reported, reported_each}
 use Rattle.faults.proofs.RulesEntryRight.{entry_fine}
 use Rattle.faults.proofs.SecondSought.{second_here, second_first, second_past}
-
--- one more of a number that is told up to 2
-pub capped_one : {told number : ℕ} → Capped told number → told ≡ 0 → Capped 1 (number + 1)
-capped_one c nil = record { none = λ is. absurd (omega (arith, is)); one = λ is. omega (arith, c.none nil); more = λ some. absurd (omega arith) }
-
-pub capped_more : {told number : ℕ} → Capped told number → (told ≡ 0 → ⊥) → Capped 2 (number + 1)
-capped_more {told} {number} c some =
-    record { none = λ is. absurd (omega (arith, is)); one = λ is. absurd (omega (arith, is)); more = λ two. at (ℕ_discrete told 1) }
-  where
-    at : Dec (told ≡ 1) → 2 ≤ number + 1
-    at (yes is) = omega (arith, c.one is)
-    at (no other) = omega (arith, c.more (omega (arith, some, other)))
 
 -- the blocks of a file from b on, as many as are left: each is a body, and what is counted with them
 pub record Counting (img : List ℕ) (g : Geometry) (kind : ℕ) (before : List ℕ) (whole first : ℕ) (counts : List ℕ) (left b : ℕ) : Type 0 where
@@ -48,9 +37,12 @@ pub record Counting (img : List ℕ) (g : Geometry) (kind : ℕ) (before : List 
       → Counted counts (λ c. count c (chain (next_of img g kind) left b) + rest c) goal
 
 pub counting_start : (img : List ℕ) (g : Geometry) (x : Entry) (counts : List ℕ) → ((b : ℕ) → 0 < count b (blocks_of img g x) → Body g b)
-    → Counting img g x.kind counts x.length x.first.0 counts x.length x.first.0
+    → Counting img g x.kind counts x.length x.first.0 counts (x.length - 0) x.first.0
 unfolding blocks_of
-counting_start img g x counts bodies = record { long = refl; bodies = bodies; counted = λ rest goal counted. counted }
+counting_start img g x counts bodies =
+    let all : x.length ≡ x.length - 0 = omega arith in
+    subst (λ (n : ℕ). Counting img g x.kind counts x.length x.first.0 counts n x.first.0) all
+    (record { long = refl; bodies = bodies; counted = λ rest goal counted. counted })
 
 module _ {img : List ℕ} {g : Geometry} {kind : ℕ} {before : List ℕ} {whole first : ℕ} {counts : List ℕ} {left b : ℕ}
     (counting : Counting img g kind before whole first counts left b) where
@@ -66,8 +58,8 @@ module _ {img : List ℕ} {g : Geometry} {kind : ℕ} {before : List ℕ} {whole
 
   module _ (some : 0 < left) (room : b < length counts) {value : ℕ} (told : (number : ℕ) → Capped (get_or counts b 0) number → Capped value (number + 1))
       {next : ℕ} (is : next ≡ next_of img g kind b) where
-    pub counting_next : Counting img g kind before whole first (set counts b value) (left - 1) next
-    counting_next =
+    counting_less : Counting img g kind before whole first (set counts b value) (left - 1) next
+    counting_less =
         record {
           long = length-set counts b value ∙ counting.long;
           bodies = λ c there. counting.bodies c (omega (arith, more some c, count_split c b behind, there, same c));
@@ -101,6 +93,11 @@ module _ {img : List ℕ} {g : Geometry} {kind : ℕ} {before : List ℕ} {whole
                 let number : c.so_far z ≡ c.so_far z + count z (b ∷ []) = omega (arith, count_other z b [] other, count_nil z) in
                 subst (λ (n : ℕ). Capped n (c.so_far z + count z (b ∷ []))) value-is (subst (Capped (get_or counts z 0)) number (c.told z))
 
+    pub counting_next : {fewer : ℕ} → left ≡ fewer + 1 → Counting img g kind before whole first (set counts b value) fewer next
+    counting_next {fewer} one =
+        let less : left - 1 ≡ fewer = omega (arith, one) in
+        subst (λ (n : ℕ). Counting img g kind before whole first (set counts b value) n next) less counting_less
+
   pub counting_end : left ≤ 0 → (rest goal : ℕ → ℕ) → Counted before (λ c. count c (chain (next_of img g kind) whole first) + rest c) goal → Counted counts rest goal
   unfolding chain
   counting_end done rest goal from = let c = counting.counted rest goal from in record { so_far = c.so_far; told = c.told; whole = λ z. omega (arith, c.whole z, none_left z) }
@@ -114,9 +111,11 @@ pub record Seeking (img : List ℕ) (g : Geometry) (kind sought whole first left
   pub same : count sought (chain (next_of img g kind) whole first) ≡ count sought (chain (next_of img g kind) left b)
 
 pub seeking_start : (img : List ℕ) (g : Geometry) (x : Entry) (sought : ℕ) → ((b : ℕ) → 0 < count b (blocks_of img g x) → Body g b)
-    → Seeking img g x.kind sought x.length x.first.0 x.length x.first.0
+    → Seeking img g x.kind sought x.length x.first.0 (x.length - 0) x.first.0
 unfolding blocks_of
-seeking_start img g x sought bodies = record { bodies = bodies; same = refl }
+seeking_start img g x sought bodies =
+    let all : x.length ≡ x.length - 0 = omega arith in
+    subst (λ (n : ℕ). Seeking img g x.kind sought x.length x.first.0 n x.first.0) all (record { bodies = bodies; same = refl })
 
 module _ {img : List ℕ} {g : Geometry} {kind sought whole first left b : ℕ} (seeking : Seeking img g kind sought whole first left b) where
   abbrev then : List ℕ
@@ -132,8 +131,8 @@ module _ {img : List ℕ} {g : Geometry} {kind sought whole first left b : ℕ} 
   pub seeking_found : 0 < left → b ≡ sought → (true ≡ true) ↔ (0 < count sought (chain (next_of img g kind) whole first))
   seeking_found some is = (λ yes-it-is. omega (arith, seeking.same, here some sought, count_same sought b then (sym is)), λ there. refl)
 
-  pub seeking_next : 0 < left → (b ≡ sought → ⊥) → {next : ℕ} → next ≡ next_of img g kind b → Seeking img g kind sought whole first (left - 1) next
-  seeking_next some other {next} is =
+  seeking_less : 0 < left → (b ≡ sought → ⊥) → {next : ℕ} → next ≡ next_of img g kind b → Seeking img g kind sought whole first (left - 1) next
+  seeking_less some other {next} is =
       record {
         bodies = λ c there. seeking.bodies c (omega (arith, here some c, count_split c b then, there, rest c));
         same = omega (arith, seeking.same, here some sought, count_other sought b then (λ same. other (sym same)), rest sought);
@@ -141,6 +140,12 @@ module _ {img : List ℕ} {g : Geometry} {kind sought whole first left b : ℕ} 
     where
       rest : (c : ℕ) → count c (chain (next_of img g kind) (left - 1) next) ≡ count c then
       rest c = ap (λ (z : ℕ). count c (chain (next_of img g kind) (left - 1) z)) is
+
+  pub seeking_next : 0 < left → (b ≡ sought → ⊥) → {next : ℕ} → next ≡ next_of img g kind b → {fewer : ℕ} → left ≡ fewer + 1
+      → Seeking img g kind sought whole first fewer next
+  seeking_next some other {next} is {fewer} one =
+      let less : left - 1 ≡ fewer = omega (arith, one) in
+      subst (λ (n : ℕ). Seeking img g kind sought whole first n next) less (seeking_less some other is)
 
   pub seeking_end : left ≤ 0 → (false ≡ true) ↔ (0 < count sought (chain (next_of img g kind) whole first))
   unfolding chain
@@ -203,7 +208,7 @@ module _ {img : List ℕ} {g : Geometry} (all : AllRight img g) where
       }
 
   -- the first block that is counted twice
-  module _ {counts : List ℕ} (c : Counted counts none (held img)) {b : ℕ} (first : FirstWrong (λ z. get_or counts z 0 ≤ 1) 0 g.blocks b) where
+  module _ {counts : List ℕ} (c : Counted counts none (held img)) where
     blocks_is : (geometry_of img).blocks ≡ g.blocks
     blocks_is = ap (λ (h : Geometry). h.blocks) all.measures.is
 
@@ -219,12 +224,13 @@ module _ {img : List ℕ} {g : Geometry} (all : AllRight img g) where
       | no small ↦ omega (arith, small)
     ]
 
-    pub shared_none : g.blocks ≤ b → Reported img (each shared 0 (geometry_of img).blocks) nothing_wrong
-    shared_none done =
-        all_reported (hold_each shared 0 (geometry_of img).blocks (λ z low high. few z (first.before z low (omega (arith, high, blocks_is, done)))))
+    pub shared_none : FirstWrong (λ z. get_or counts z 0 ≤ 1) 0 g.blocks g.blocks → Reported img (each shared 0 (geometry_of img).blocks) nothing_wrong
+    shared_none first =
+        all_reported (hold_each shared 0 (geometry_of img).blocks (λ z low high. few z (first.before z low (omega (arith, high, blocks_is)))))
 
-    pub shared_told : b < g.blocks → {e : ℕ} → e ≡ second img b → Reported img (each shared 0 (geometry_of img).blocks) (record { rule = 9; entry = e; word = 0; block = b })
-    shared_told inside is =
+    pub shared_told : {b : ℕ} → Sought (λ z. get_or counts z 0 ≤ 1) 0 g.blocks (Some b) → {e : ℕ} → e ≡ second img b
+        → Reported img (each shared 0 (geometry_of img).blocks) (record { rule = 9; entry = e; word = 0; block = b })
+    shared_told {b} (first, inside) is =
         subst (λ (n : ℕ). Reported img (each shared 0 (geometry_of img).blocks) (record { rule = 9; entry = n; word = 0; block = b })) (sym is)
         (reported_each shared 0 (geometry_of img).blocks b (omega arith) (omega (arith, inside, blocks_is))
         (λ z low less. few z (first.before z low less)) (λ once. first.wrong inside (many b once)))

@@ -5,15 +5,13 @@ use mathlib.Core.Bool.{Bool, true, false, cond}
 use mathlib.Core.List.{List}
 use native.Mathlib.Omega.{arith}
 use native.Mathlib.Decide.{ℕ_discrete}
+use Rattle.answers.proofs.RefusalsTests.{true_not_false}
 use Rattle.pack.specs.declared.Geometry.{Geometry}
-use Rattle.pack.specs.declared.Header.{Header}
-use Rattle.pack.specs.declared.Header.TheVariants.{Right, Wrong}
 use Rattle.pack.specs.Geometry.{geometry_of, slots}
 use Rattle.pack.specs.Header.{RightHeader}
 use Rattle.pack.specs.HeaderTest.{header_test, header_of}
 use Rattle.pack.proofs.HeaderTestWhole.{header_iff}
-use Rattle.consistency.specs.declared.Opened.{Opened}
-use Rattle.consistency.specs.declared.Opened.TheVariants.{Good}
+use Rattle.std.specs.Prelude.{Option, Some, None, is_some}
 use Rattle.consistency.specs.ConsistentTest.{opened_of}
 use Rattle.consistency.proofs.ConsistentTestIff.{opened_good}
 use Rattle.faults.specs.declared.ReportAnswer.{ReportAnswer}
@@ -30,9 +28,6 @@ use Rattle.faults.proofs.ReportOrder.{report_blocks}
 -- entry by entry: those below e are right
 abbrev pub RightBelow : List ℕ → ℕ → Type 0
 RightBelow img e = (f : ℕ) → f < e → AllHold img (entry_order img f)
-
-pub right_none : {img : List ℕ} → RightBelow img 0
-right_none f less = absurd (omega arith)
 
 pub right_on : {img : List ℕ} {e : ℕ} → RightBelow img e → {answer : ReportAnswer} → Reported img (entry_order img e) answer → answer.rule ≡ 0 → RightBelow img (e + 1)
 right_on {img} {e} before report nothing f less =
@@ -74,23 +69,27 @@ module _ {img : List ℕ} {g : Geometry} (m : Measures img g) where
     report_behind rest = report_blocks m.header all_right.entries rest
 
 -- the header as it was read
-by_right : (test : Bool) (g h : Geometry) → cond test (Right g) Wrong ≡ Right h → (test ≡ true) × (g ≡ h)
+by_right : (test : Bool) (g h : Geometry) → cond test (Some g) None ≡ Some h → (test ≡ true) × (g ≡ h)
 by_right true g h is = (cc, cc)
 by_right false g h is = (cc, cc)
 
-by_wrong : (test : Bool) (g : Geometry) → cond test (Right g) Wrong ≡ Wrong → test ≡ true → ⊥
+by_wrong : (test : Bool) (g : Geometry) → cond test (Some g) None ≡ None → test ≡ true → ⊥
 by_wrong true g is holds = let z : ◌≡◌ {A = ℕ} 0 1 = cc in omega arith
 by_wrong false g is holds = let z : ◌≡◌ {A = ℕ} 0 1 = cc in omega arith
 
-module _ (img : List ℕ) {r : Header} (is : r ≡ header_of img) where
-  pub read_wrong : r ≡ Wrong → RightHeader img → ⊥
+module _ (img : List ℕ) {r : Option Geometry} (is : r ≡ header_of img) where
+  pub read_wrong : r ≡ None → RightHeader img → ⊥
   unfolding header_of
   read_wrong wrong right_header = by_wrong (header_test img) (geometry_of img) (sym is ∙ wrong) ((header_iff img).1 right_header)
 
-  pub read_right : {g : Geometry} → r ≡ Right g → Measures img g
+  pub read_right : {g : Geometry} → r ≡ Some g → Measures img g
   unfolding header_of
   read_right {g} fine = let h = by_right (header_test img) (geometry_of img) g (sym is ∙ fine) in record { header = (header_iff img).0 h.0; is = h.1 }
 
 -- a consistent image
-pub report_good : (img : List ℕ) {r : Opened} → r ≡ opened_of img → {g : Geometry} → r ≡ Good g → Report img nothing_wrong
-report_good img is {g} good = (report_consistent img).1 (opened_good img g (sym is ∙ good)).0
+pub report_good : (img : List ℕ) {r : Option Geometry} → r ≡ opened_of img → is_some r ≡ true → Report img nothing_wrong
+report_good img {r} is good = by r is good
+  where
+    by : (r : Option Geometry) → r ≡ opened_of img → is_some r ≡ true → Report img nothing_wrong
+    by (Some g) is good = (report_consistent img).1 (opened_good img g (sym is)).0
+    by None is never = true_not_false (sym never)

@@ -2,6 +2,7 @@
 pub mod Rules
 pub mod Second
 pub mod Report
+pub mod Named
 pub mod FirstFault
 pub mod FaultThere
 pub mod Looking

@@ -1,5 +1,5 @@
 -- Means: what the code that looks for the first fault says of a number that it sought, and what it knows where it stands.
-use Rattle.std.specs.Prelude.{ℕ, ◌+◌, ◌≤◌, ◌<◌, ◌≡◌, List}
+use Rattle.std.specs.Prelude.{ℕ, ◌+◌, ◌≤◌, ◌<◌, ◌≡◌, List, Option, Some, None}
 use Rattle.pack.specs.declared.Geometry.{Geometry}
 use Rattle.pack.specs.declared.Entry.{Entry}
 use Rattle.pack.specs.Geometry.{geometry_of, slots}
@@ -16,6 +16,11 @@ pub record FirstWrong (Right : ℕ → Type 0) (from end at : ℕ) : Type 0 wher
   pub high : at ≤ end
   pub before : (i : ℕ) → from ≤ i → i < at → Right i
   pub wrong : at < end → Right at → ⊥
+
+-- where the code looks for it: the number that it found, or none
+abbrev pub Sought : (ℕ → Type 0) → ℕ → ℕ → Option ℕ → Type 0
+Sought Right from end (Some at) = FirstWrong Right from end at × (at < end)
+Sought Right from end None = FirstWrong Right from end end
 
 -- what is sought: among the words of an entry, the words of an extent, the entries before one
 abbrev pub FieldRight : List ℕ → ℕ → Entry → ℕ → Type 0

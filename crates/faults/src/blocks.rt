@@ -3,39 +3,30 @@ ghost use Rattle.std.specs.Prelude.{◌≡◌, ◌++◌, ◌≤◌, length, repl
 ghost use Rattle.pack.specs.Geometry.{geometry_of};
 ghost use Rattle.pack.specs.Map.{map_bits};
 ghost use Rattle.faults.specs.Rules.{shared, map};
+ghost use Rattle.faults.specs.Named.{report_in};
 ghost use Rattle.faults.specs.Report.{each, Reported};
 ghost use Rattle.faults.specs.Looking.{AllRight};
 
-use crate::ReportAnswer;
+use crate::Fault;
+use crate::lending::lend_counts;
 use crate::maps::look_map;
 use crate::shared::{count_files, look_shared};
-use pack::Geometry;
-
-// The most blocks of a pack without a map: one of so many does not pay for the clearing of a larger array.
-pub const UNMAPPED_BLOCKS: usize = 1024;
+use pack::View;
 
 // With a lent array for how often each block is held.
-fn look_counted(img: &[u8], counts: &mut [u8], g: Geometry) -> ReportAnswer
-    requires all_right { AllRight img.now g }
-    requires counts_value { (counts.old ≡ replicate (length counts.old) 0) × (g.blocks ≤ length counts.old) }
-    ensures { Reported img.now (each shared 0 (geometry_of img.now).blocks ++ each map 0 (map_bits (geometry_of img.now))) result }
+fn look_counted(view: View<'_>, counts: &mut [u8]) -> Result<(), Fault>
+    requires all_right { AllRight view.img.now view.g }
+    requires counts_value { (counts.old ≡ replicate (length counts.old) 0) × (view.g.blocks ≤ length counts.old) }
+    ensures { Reported view.entry.img.now (each shared 0 (geometry_of view.entry.img.now).blocks ++ each map 0 (map_bits (geometry_of view.entry.img.now))) (report_in result) }
 {
-    count_files(img, counts, g);
-    let told = look_shared(img, counts, g);
-    if told.rule != 0 {
-        return told;
-    }
-    look_map(img, counts, g)
+    count_files(view, counts);
+    look_shared(view, counts)?;
+    look_map(view, counts)
 }
 
-pub fn look_blocks(img: &[u8], g: Geometry) -> ReportAnswer
-    requires { AllRight img.now g }
-    ensures { Reported img.now (each shared 0 (geometry_of img.now).blocks ++ each map 0 (map_bits (geometry_of img.now))) result }
+pub fn look_blocks(view: View<'_>) -> Result<(), Fault>
+    requires { AllRight view.img.now view.g }
+    ensures { Reported view.entry.img.now (each shared 0 (geometry_of view.entry.img.now).blocks ++ each map 0 (map_bits (geometry_of view.entry.img.now))) (report_in result) }
 {
-    if g.blocks <= UNMAPPED_BLOCKS {
-        let mut counts = [0u8; UNMAPPED_BLOCKS];
-        return look_counted(img, &mut counts, g);
-    }
-    let mut counts = [0u8; pack::MOST_BLOCKS];
-    look_counted(img, &mut counts, g)
+    lend_counts(view, |view, counts| look_counted(view, counts))
 }

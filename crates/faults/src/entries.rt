@@ -1,97 +1,61 @@
 // Entry by entry: its words by number with its name, then its file.
 ghost use Rattle.std.specs.Prelude.{◌≡◌, true, ◌↔◌, ◌<◌};
 ghost use Rattle.pack.specs.Geometry.{geometry_of, slots};
-ghost use Rattle.pack.specs.GeometrySized.{Sized};
 ghost use Rattle.pack.specs.Entry.{Empty};
 ghost use Rattle.pack.specs.EntryFields.{WordFields};
+ghost use Rattle.faults.specs.Named.{report_in};
 ghost use Rattle.faults.specs.Report.{entry_order, entries_order, Reported};
 ghost use Rattle.faults.specs.Looking.{Measures, Here};
 
-use crate::ReportAnswer;
+use crate::Fault;
 use crate::fields::{same_before, wrong_behind, wrong_key, wrong_kind};
 use crate::files::look_file;
-use pack::{Entry, Geometry};
+use pack::{Entry, View};
 
-fn is_empty(img: &[u8], g: Geometry, e: usize) -> bool
-    requires { Sized img.now g × (e < slots g) }
-    ensures { (result ≡ true) ↔ Empty img.now g e }
+fn is_empty(view: View<'_>, e: usize) -> bool
+    requires { e < slots view.g }
+    ensures { (result ≡ true) ↔ Empty view.entry.img.now view.entry.g e }
 {
-    let segments = g.segments;
-    pack::are_words_zero(img, segments.words() + 16 * e, 16)
-}
-
-fn wrong_field(e: usize, word: usize) -> ReportAnswer
-    ensures { result ≡ record { rule = 3; entry = e; word = word; block = 0 } }
-{
-    ReportAnswer {
-        rule: 3,
-        entry: e,
-        word,
-        block: 0,
-    }
+    let segments = view.g.segments;
+    pack::are_words_zero(view.img, segments.words() + 16 * e, 16)
 }
 
 // Of an entry in use.
-fn look_used(img: &[u8], g: Geometry, e: usize, x: Entry) -> ReportAnswer
-    requires { Here img.now g e x × WordFields x }
-    ensures { Reported img.now (entry_order img.now e) result }
+fn look_used(view: View<'_>, e: usize, x: Entry) -> Result<(), Fault>
+    requires { Here view.img.now view.g e x × WordFields x }
+    ensures { Reported view.entry.img.now (entry_order view.entry.img.now e) (report_in result) }
 {
-    let key = wrong_key(img, x);
-    if key < 4 {
-        return wrong_field(e, key);
+    if let Some(word) = wrong_key(view.img, x) {
+        return Err(Fault::Field { entry: e, word });
     }
-    let earlier = same_before(img, g, e);
-    if earlier < e {
-        return ReportAnswer {
-            rule: 4,
-            entry: e,
-            word: 3,
-            block: 0,
-        };
+    if same_before(view, e).is_some() {
+        return Err(Fault::SameName { entry: e });
     }
-    let kind = wrong_kind(x);
-    if kind < 6 {
-        return wrong_field(e, kind);
+    if let Some(word) = wrong_kind(x) {
+        return Err(Fault::Field { entry: e, word });
     }
-    let behind = wrong_behind(img, g, e, x);
-    if behind < 16 {
-        return wrong_field(e, behind);
+    if let Some(word) = wrong_behind(view, e, x) {
+        return Err(Fault::Field { entry: e, word });
     }
-    look_file(img, g, e, x)
+    look_file(view, e, x)
 }
 
-fn look_entry(img: &[u8], g: Geometry, e: usize) -> ReportAnswer
-    requires { Measures img.now g × (e < slots g) }
-    ensures { Reported img.now (entry_order img.now e) result }
+fn look_entry(view: View<'_>, e: usize) -> Result<(), Fault>
+    requires { Measures view.img.now view.g × (e < slots view.g) }
+    ensures { Reported view.entry.img.now (entry_order view.entry.img.now e) (report_in result) }
 {
-    if is_empty(img, g, e) {
-        return ReportAnswer {
-            rule: 0,
-            entry: 0,
-            word: 0,
-            block: 0,
-        };
+    if is_empty(view, e) {
+        return Ok(());
     }
-    look_used(img, g, e, pack::read_entry(img, g, e))
+    look_used(view, e, view.read_entry(e))
 }
 
-pub fn look_entries(img: &[u8], g: Geometry) -> ReportAnswer
-    requires { Measures img.now g }
-    ensures { Reported img.now (entries_order img.now 0 (slots (geometry_of img.now))) result }
+pub fn look_entries(view: View<'_>) -> Result<(), Fault>
+    requires { Measures view.img.now view.g }
+    ensures { Reported view.entry.img.now (entries_order view.entry.img.now 0 (slots (geometry_of view.entry.img.now))) (report_in result) }
 {
-    let end = pack::slot_count(g);
-    let mut e = 0;
-    while e < end {
-        let told = look_entry(img, g, e);
-        if told.rule != 0 {
-            return told;
-        }
-        e += 1;
+    for e in 0..view.slot_count() {
+        look_entry(view, e)?;
     }
-    ReportAnswer {
-        rule: 0,
-        entry: 0,
-        word: 0,
-        block: 0,
-    }
+    Ok(())
 }

@@ -4,10 +4,11 @@ ghost use Rattle.words.specs.Word.{word_at};
 ghost use Rattle.pack.specs.Geometry.{segment_words};
 ghost use Rattle.pack.specs.Header.{uic_count, RightHeader};
 ghost use Rattle.faults.specs.Rules.{stated_segments, RightSize, RightWord};
+ghost use Rattle.faults.specs.Named.{numbers_of};
 ghost use Rattle.faults.specs.Report.{Report};
-ghost use Rattle.faults.specs.Looking.{FirstWrong};
+ghost use Rattle.faults.specs.Looking.{Sought};
 
-use crate::ReportAnswer;
+use crate::Fault;
 use pack::Segments;
 
 // The segments in a block by word 0, and those of form 1 where that is no form.
@@ -21,107 +22,87 @@ fn stated(form: usize) -> Segments
     segments
 }
 
-// The first wrong one of words 0 to 3, or 4.
-fn wrong_measure(img: &[u8]) -> usize
+// The first wrong one of words 0 to 3.
+fn wrong_measure(img: &[u8]) -> Option<usize>
     requires { 8 ≤ length img.now }
-    ensures { FirstWrong (RightWord img.now) 0 4 result }
+    ensures { Sought (RightWord img.now) 0 4 result }
 {
     let form = words::word_at(img, 0);
     let blocks = words::word_at(img, 1);
     let contents = words::word_at(img, 2);
     let segments = pack::segments_of(form);
     if segments.0 == 0 {
-        return 0;
+        return Some(0);
     }
     if (blocks < 16) | (pack::most_blocks(form) < blocks) {
-        return 1;
+        return Some(1);
     }
     if (contents < 1) | (pack::most_contents(form) < contents) {
-        return 2;
+        return Some(2);
     }
     let bodies = pack::bodies_of(form, contents);
     if blocks <= bodies.0 {
-        return 2;
+        return Some(2);
     }
     if pack::most_uics(form) < words::word_at(img, 3) {
-        return 3;
+        return Some(3);
     }
-    4
+    None
 }
 
-// The first wrong word of the list of UICs, or the word behind it: of two equal ones the later is wrong.
-fn wrong_uic(img: &[u8], end: usize) -> usize
+// The first wrong word of the list of UICs: of two equal ones the later is wrong.
+fn wrong_uic(img: &[u8], end: usize) -> Option<usize>
     requires { (2 * end ≤ length img.now) × (end ≡ 4 + uic_count img.now) }
-    ensures { FirstWrong (RightWord img.now) 4 end result }
+    ensures { Sought (RightWord img.now) 4 end result }
 {
-    let mut w = 4;
-    while w < end {
+    for w in 4..end {
         let uic = words::word_at(img, w);
         if uic == 0 {
-            return w;
+            return Some(w);
         }
         if pack::is_among(img, uic, 4, w - 4) {
-            return w;
+            return Some(w);
         }
-        w += 1;
     }
-    w
+    None
 }
 
-// The first word behind the list that is not 0, or `end`.
-fn wrong_rest(img: &[u8], from: usize, end: usize) -> usize
+// The first word behind the list that is not 0.
+fn wrong_rest(img: &[u8], from: usize, end: usize) -> Option<usize>
     requires { (from ≤ end) × (2 * end ≤ length img.now) × (from ≡ 4 + uic_count img.now) }
-    ensures { FirstWrong (RightWord img.now) from end result }
+    ensures { Sought (RightWord img.now) from end result }
 {
-    let mut w = from;
-    while w < end {
-        if words::word_at(img, w) != 0 {
-            return w;
-        }
-        w += 1;
-    }
-    w
+    (from..end).find(|w| words::word_at(img, *w) != 0)
 }
 
-// The first wrong word of block 0, or the words of a block.
-fn wrong_word(img: &[u8], end: usize) -> usize
+// The first wrong word of block 0.
+fn wrong_word(img: &[u8], end: usize) -> Option<usize>
     requires { RightSize img.now × (end ≡ segment_words (stated_segments (word_at img.now 0))) }
-    ensures { FirstWrong (RightWord img.now) 0 end result }
+    ensures { Sought (RightWord img.now) 0 end result }
 {
-    let measure = wrong_measure(img);
-    if measure < 4 {
-        return measure;
+    if let Some(word) = wrong_measure(img) {
+        return Some(word);
     }
     let behind = 4 + words::word_at(img, 3);
-    let uic = wrong_uic(img, behind);
-    if uic < behind {
-        return uic;
+    if let Some(word) = wrong_uic(img, behind) {
+        return Some(word);
     }
     wrong_rest(img, behind, end)
 }
 
-// Of an image whose header is not right.
-pub fn look_header(img: &[u8]) -> ReportAnswer
+// Of an image whose header is not right: where its size is, a word of block 0 is wrong.
+pub fn look_header(img: &[u8]) -> Fault
     requires { RightHeader img.now → ⊥ }
-    ensures { Report img.now result }
+    ensures { Report img.now (numbers_of result) }
 {
-    let size = ReportAnswer {
-        rule: 1,
-        entry: 0,
-        word: 0,
-        block: 0,
-    };
     if img.len() < 4 {
-        return size;
+        return Fault::Size;
     }
     let segments = stated(words::word_at(img, 0));
     if img.len() != words::word_at(img, 1) * segments.bytes() {
-        return size;
+        return Fault::Size;
     }
-    ReportAnswer {
-        rule: 2,
-        entry: 0,
-        word: wrong_word(img, segments.words()),
-        block: 0,
+    Fault::Header {
+        word: wrong_word(img, segments.words()).unwrap(),
     }
 }

@@ -35,13 +35,6 @@ module _ (img : List ℕ) (g : Geometry) (e : ℕ) {x : Entry} (read : x ≡ ent
         let gone = deleted_by img g e (bits ∙ ap (λ (y : Entry). bits_set img g (blocks_of img g y) 0) read) written in
         rw (← read, ← says, is) (refl, gone)
 
-    pub entry_left : answer ≡ false → (0 ≡ one (is_scratch caller (entry_of img g e))) × (img ≡ cond (is_scratch caller (entry_of img g e)) (deleted img g e) img)
-    entry_left not = rw (← read, ← says, not) (refl, refl)
-
-one_small : (test : Bool) → one test ≤ 1
-one_small true = omega arith
-one_small false = omega arith
-
 -- `number` files are removed from an image, and it is now `img`, with the entries from e on still to be looked at
 pub record Remaining (img₀ : List ℕ) (g : Geometry) (caller number : ℕ) (img : List ℕ) (e : ℕ) : Type 0 where
   pub long : length img ≡ length img₀
@@ -66,10 +59,6 @@ remaining_start {img} {g} caller right measures =
 module _ {img₀ : List ℕ} {g : Geometry} {caller number : ℕ} {img : List ℕ} {e : ℕ} (r : Remaining img₀ g caller number img e) where
   pub remaining_sized : Sized img g
   remaining_sized = subst (Sized img) (sym r.stated) (header_sized img r.right.header)
-
-  -- no more files than entries
-  pub remaining_small : {answer : ℕ} → answer ≡ one (is_scratch caller (entry_of img g e)) → number + answer ≤ e + 1
-  remaining_small told = omega (arith, told, one_small (is_scratch caller (entry_of img g e)), r.few)
 
   module _ (inside : e < slots g) where
     pub remaining_bodies : (z : ℕ) → 0 < count z (blocks_at img g e) → (g.bodies.0 ≤ z) × (z < g.blocks)

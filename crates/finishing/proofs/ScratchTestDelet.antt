@@ -15,10 +15,9 @@ use Rattle.pack.specs.Entry.{entry_of, Empty, Used, RightEntry}
 use Rattle.pack.specs.Consistent.{Consistent}
 use Rattle.pack.proofs.KeySame.{equal_same}
 use Rattle.consistency.proofs.ConsistentTestIff.{consistent_iff}
-use Rattle.answers.specs.declared.Verdict.TheVariants.{Clear}
-use Rattle.asking.specs.declared.Asked.TheVariants.{File}
+use Rattle.answers.specs.Stage.{Clear}
+use Rattle.asking.specs.AskedStage.{File}
 use Rattle.asking.specs.declared.Right.TheVariants.{Delete}
-use Rattle.asking.specs.declared.Grant.TheVariants.{Granted}
 use Rattle.asking.specs.KeysTest.{legal_key, found}
 use Rattle.asking.specs.AskedStage.{asked_of, stage_of}
 use Rattle.asking.proofs.Keys.{legal_iff, found_iff}
@@ -73,7 +72,7 @@ module _ {img : List ℕ} {g : Geometry} (stated : g ≡ geometry_of img) (right
     decided : File g e (entry_of img g e) ≡ stage_of (delet_rows img key caller) img key
     decided =
         decide_passed img key caller _ asked g e (entry_of img g e) refl Clear
-        (permit_clear Delete caller (entry_of img g e) Granted (sym passes.granted) refl _ refl passes.closed) refl
+        (permit_clear Delete caller (entry_of img g e) passes.granted _ refl passes.closed) refl
 
     done : (0 ≡ (delet img key caller).code) × (deleted img g e ≡ (delet img key caller).image)
     done = deleting_cleared img key caller _ decided g e (entry_of img g e) refl (deleted img g e) refl

@@ -1,10 +1,10 @@
--- The test of a scratch file, taken apart and put together; and what each of its answers in the code comes to.
+-- The test of a scratch file, taken apart and put together.
 use Prim.Native.Nat.{ℕ, ◌/◌, ◌%◌}
 use mathlib.Core.Path.{◌≡◌, ap}
-use mathlib.Core.Bool.{Bool, true, false, not}
+use mathlib.Core.Bool.{true, false, not}
 use lib.Dec.{eqb}
 use borrow.Author.Tests.{eq-eqb, ne_eqb, eqb-true, eqb-false, not-true}
-use Rattle.answers.proofs.RefusalsTests.{and_left, and_right, and_both, go_on, stop}
+use Rattle.answers.proofs.RefusalsTests.{and_left, and_right, and_both, stop}
 use Rattle.pack.specs.declared.Entry.{Entry}
 use Rattle.asking.specs.declared.Right.TheVariants.{Delete}
 use Rattle.asking.specs.RightsTest.{may}
@@ -40,28 +40,6 @@ module _ (caller : ℕ) (x : Entry) where
       and_both (ap not (ne_eqb x.name1 0 p.named))
       (and_both (eq-eqb x.uic caller p.own) (and_both (eq-eqb _ 0 p.unkept) (and_both (ap not p.closed) p.granted)))
 
-  -- the code's answers, rung by rung
   pub no_file : x.name1 ≡ 0 → false ≡ is_scratch caller x
   unfolding is_scratch
   no_file is = stop _ _ (ap not (eq-eqb x.name1 0 is))
-
-  module _ (named : x.name1 ≡ 0 → ⊥) where
-    pub not_own : (x.uic ≡ caller → ⊥) → false ≡ is_scratch caller x
-    unfolding is_scratch
-    not_own other = go_on (ap not (ne_eqb x.name1 0 named)) (stop _ _ (ne_eqb x.uic caller other))
-
-    module _ (own : x.uic ≡ caller) where
-      pub is_kept : ((x.protect / 128) % 2 ≡ 0 → ⊥) → false ≡ is_scratch caller x
-      unfolding is_scratch
-      is_kept kept = go_on (ap not (ne_eqb x.name1 0 named)) (go_on (eq-eqb x.uic caller own) (stop _ _ (ne_eqb _ 0 kept)))
-
-      module _ (unkept : (x.protect / 128) % 2 ≡ 0) where
-        pub is_opened : is_open x ≡ true → false ≡ is_scratch caller x
-        unfolding is_scratch
-        is_opened opened =
-            go_on (ap not (ne_eqb x.name1 0 named)) (go_on (eq-eqb x.uic caller own) (go_on (eq-eqb _ 0 unkept) (stop _ _ (ap not opened))))
-
-        pub by_right : is_open x ≡ false → {answer : Bool} → answer ≡ may Delete caller x.uic x.protect → answer ≡ is_scratch caller x
-        unfolding is_scratch
-        by_right closed says =
-            go_on (ap not (ne_eqb x.name1 0 named)) (go_on (eq-eqb x.uic caller own) (go_on (eq-eqb _ 0 unkept) (go_on (ap not closed) says)))

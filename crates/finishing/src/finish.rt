@@ -1,5 +1,6 @@
 // Finish. The image is judged once and its entries are walked once: clearing one leaves the image consistent and all behind it as they were.
 ghost use Rattle.std.specs.Prelude.{◌≡◌, cond, [], ◌∷◌, ℕ, ◌≤◌, ◌<◌, length};
+ghost use Rattle.answers.specs.Refusals.{code_in, number_in};
 ghost use Rattle.pack.specs.GeometrySized.{Sized};
 ghost use Rattle.pack.specs.Geometry.{geometry_of, slots};
 ghost use Rattle.pack.specs.File.{one, count};
@@ -10,28 +11,21 @@ ghost use Rattle.directory.specs.Delet.{deleted};
 ghost use Rattle.finishing.specs.ScratchTest.{is_scratch, scratch_keys};
 ghost use Rattle.finishing.specs.Finish.{deleted_all, finish};
 
-use answers::Answer;
+use answers::Refusal;
 use asking::Right;
 use consistency::Opened;
-use pack::{Entry, Geometry};
+use pack::{Entry, Geometry, View};
 
 // An empty entry has UIC 0, and so may a caller: the name tells it.
+#[tactic(auto, unfolding(crate::specs::ScratchTest::is_scratch))]
 fn is_scratch(x: Entry, caller: usize) -> bool
     ensures { result ≡ is_scratch caller x }
 {
-    if x.name1 == 0 {
-        return false;
-    }
-    if x.uic != caller {
-        return false;
-    }
-    if x.protect / 128 % 2 != 0 {
-        return false;
-    }
-    if asking::is_open(x) {
-        return false;
-    }
-    asking::has_right(Right::Delete, caller, x.uic, x.protect)
+    x.name1 != 0
+        && x.uic == caller
+        && x.protect / 128 % 2 == 0
+        && !asking::is_open(x)
+        && asking::has_right(Right::Delete, caller, x.uic, x.protect)
 }
 
 // How many files it removed, 0 or 1.
@@ -41,7 +35,7 @@ fn clear_scratch(img: &mut [u8], g: Geometry, e: usize, caller: usize) -> usize
     ensures value { result ≡ one (is_scratch caller (entry_of img.old g e)) }
     ensures img_after { img.new ≡ cond (is_scratch caller (entry_of img.old g e)) (deleted img.old g e) img.old }
 {
-    let x = pack::read_entry(img, g, e);
+    let x = View { img, g }.read_entry(e);
     if is_scratch(x, caller) {
         room::clear_bits(img, g, x);
         pack::clear_entry(img, g, e);
@@ -56,19 +50,17 @@ fn clear_all(img: &mut [u8], g: Geometry, caller: usize) -> usize
     ensures value { result ≡ length (scratch_keys img.old caller) }
     ensures img_after { img.new ≡ deleted_all img.old caller (scratch_keys img.old caller) }
 {
-    let total = pack::slot_count(g);
     let mut number = 0;
-    let mut e = 0;
-    while e < total {
+    let total = View { img, g }.slot_count();
+    for e in 0..total {
         number += clear_scratch(img, g, e, caller);
-        e += 1;
     }
     number
 }
 
-pub fn finish(img: &mut [u8], caller: usize) -> Answer
-    ensures code_value { result.code ≡ (finish img.old caller).code }
-    ensures number_value { (result.number ∷ []) ≡ (finish img.old caller).numbers }
+pub fn finish(img: &mut [u8], caller: usize) -> Result<usize, Refusal>
+    ensures code_value { code_in result ≡ (finish img.old caller).code }
+    ensures number_value { (number_in result ∷ []) ≡ (finish img.old caller).numbers }
     ensures img_after { img.new ≡ (finish img.old caller).image }
 {
     let opened = consistency::open_pack(img);
@@ -76,20 +68,14 @@ pub fn finish(img: &mut [u8], caller: usize) -> Answer
 }
 
 // In a pack that was opened.
-pub fn finish_opened(img: &mut [u8], opened: Opened, caller: usize) -> Answer
+pub fn finish_opened(img: &mut [u8], opened: Opened, caller: usize) -> Result<usize, Refusal>
     requires { opened ≡ opened_of img.old }
-    ensures code_value { result.code ≡ (finish img.old caller).code }
-    ensures number_value { (result.number ∷ []) ≡ (finish img.old caller).numbers }
+    ensures code_value { code_in result ≡ (finish img.old caller).code }
+    ensures number_value { (number_in result ∷ []) ≡ (finish img.old caller).numbers }
     ensures img_after { img.new ≡ (finish img.old caller).image }
 {
-    let Opened::Good(g) = opened else {
-        return Answer {
-            code: 0o40,
-            number: 0,
-        };
+    let Some(g) = opened else {
+        return Err(Refusal::Inconsistent);
     };
-    Answer {
-        code: 0,
-        number: clear_all(img, g, caller),
-    }
+    Ok(clear_all(img, g, caller))
 }

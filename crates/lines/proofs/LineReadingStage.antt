@@ -15,26 +15,25 @@ use Rattle.pack.specs.Geometry.{geometry_of, payload_bytes}
 use Rattle.pack.specs.GeometrySized.{most_segments, Sized}
 use Rattle.pack.specs.File.{blocks_of, count}
 use Rattle.asking.specs.declared.Right.TheVariants.{Read}
-use Rattle.asking.specs.declared.Asked.{Asked}
-use Rattle.asking.specs.declared.Asked.TheVariants.{File, Refused}
+use Rattle.asking.specs.AskedStage.{Asked}
+use Rattle.asking.specs.AskedStage.{File, Refused}
 use Rattle.asking.specs.Outcome.{Outcome, Unchanged}
 use Rattle.asking.specs.Asked.{entry_no, file_of}
 use Rattle.asking.specs.AccessStage.{accessed_of}
 use Rattle.asking.proofs.AccessStage.{Reached, reached_file}
 use Rattle.asking.proofs.Outcome.{code_is, refusal_keeps, image_by}
 use Rattle.bodies.specs.Payloads.{payloads_of}
-use Rattle.stream.specs.declared.Spot.{Spot}
-use Rattle.stream.specs.Spot.{most_bytes, bytes_from}
+use Rattle.stream.specs.Spot.{most_bytes}
 use Rattle.stream.specs.BytesReading.{bytes_behind}
 use Rattle.stream.proofs.BytesReadingStage.{reading_ordered, reading_clear, reading_unasked, reading_counted, few_bytes, bytes_left}
 use Rattle.stream.proofs.BytesReadingStage.{reading_beyond, reading_given, reading_located, bytes_here, bytes_few}
 use Rattle.lines.specs.declared.LineMode.{LineMode}
-use Rattle.lines.specs.declared.line_read.Reader.{Reader}
+use Rattle.lines.specs.declared.line_read.LineRead.{LineRead}
 use Rattle.lines.specs.LineRead.{line_found}
 use Rattle.lines.specs.LineSteps.{LineState, read_from, at_end, state_left}
 use Rattle.lines.specs.LineReadingRows.{wrong_reading, line_read_rows}
 use Rattle.lines.specs.LineReading.{mode_of, found_outcome, line_read}
-use Rattle.lines.specs.Reader.{state_of}
+use Rattle.lines.specs.Reader.{state_ended}
 use Rattle.lines.proofs.LineReadProgress.{passed_most}
 use Rattle.lines.proofs.LineStepsFound.{steps_found}
 
@@ -103,25 +102,25 @@ module _ {img : List ℕ} {key : Key} {caller mode position : ℕ} {buffer : Lis
       line_located = reading_located file.reached position inside
 
       -- what `read_payloads` asks, and what is answered when it has read
-      module _ (spot : Spot) (stands : bytes_from img g spot ≡ drop position (payloads_of img g (blocks_of img g x))) where
-        pub line_ready : (0 < length buffer) × (length (bytes_from img g spot) ≤ most_bytes)
-        line_ready = (some_room mode buffer file.reached.file.argument, bytes_few file.reached position spot stands)
+      module _ (here : List ℕ) (stands : here ≡ drop position (payloads_of img g (blocks_of img g x))) where
+        pub line_ready : (0 < length buffer) × (length (here) ≤ most_bytes)
+        line_ready = (some_room mode buffer file.reached.file.argument, bytes_few file.reached position here stands)
 
-        module _ (after : List ℕ) (r : Reader) {kind : LineMode} (means : kind ≡ mode_of mode)
-            (read : state_of after r ≡ at_end (length buffer) (read_from kind (length buffer) buffer 0 0 (bytes_from img g spot))) where
-          found : state_of after r ≡ state_left buffer (line_found (mode_of mode) (length buffer) (bytes_behind img key position))
+        module _ (after : List ℕ) (r : LineRead) {kind : LineMode} (means : kind ≡ mode_of mode)
+            (read : state_ended after r ≡ at_end (length buffer) (read_from kind (length buffer) buffer 0 0 (here))) where
+          found : state_ended after r ≡ state_left buffer (line_found (mode_of mode) (length buffer) (bytes_behind img key position))
           found =
               read
-              ∙ ap (λ (m : LineMode). at_end (length buffer) (read_from m (length buffer) buffer 0 0 (bytes_from img g spot))) means
-              ∙ ap (λ (s : List ℕ). at_end (length buffer) (read_from (mode_of mode) (length buffer) buffer 0 0 s)) (bytes_here file.reached position spot stands)
+              ∙ ap (λ (m : LineMode). at_end (length buffer) (read_from m (length buffer) buffer 0 0 (here))) means
+              ∙ ap (λ (s : List ℕ). at_end (length buffer) (read_from (mode_of mode) (length buffer) buffer 0 0 s)) (bytes_here file.reached position here stands)
               ∙ steps_found (mode_of mode) (length buffer) buffer (bytes_behind img key position) refl line_ready.0
 
-          pub line_fits : position + r.passed ≤ most_bytes
+          pub line_fits : position + r.position ≤ most_bytes
           line_fits =
               let passed = passed_most (mode_of mode) (length buffer) (bytes_behind img key position) in
               omega (arith, ap (λ (s : LineState). s.passed) found, passed, bytes_left file.reached position, few_bytes file.reached, inside)
 
-          pub line_done : Answers img key caller mode position buffer 0 (r.count ∷ (r.status ∷ ((position + r.passed) ∷ []))) after
+          pub line_done : Answers img key caller mode position buffer 0 (r.count ∷ (r.status ∷ ((position + r.position) ∷ []))) after
           line_done =
               let a = answers_of img key caller mode position buffer (line_read_given inside) in (
                 a.0,

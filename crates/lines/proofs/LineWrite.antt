@@ -53,14 +53,6 @@ pub put_next : (text : List ℕ) (i : ℕ) → i < length text → put_all (drop
 unfolding put_all
 put_next text i inside = rw (add-one i, drop-cons text i 0)
 
--- the characters up to another place
-pub put_part : (text : List ℕ) (i end : ℕ) → i ≤ end → put_all (drop i text) ≡ put_all (take (end - i) (drop i text)) ++ put_all (drop end text)
-put_part text i end from =
-    let on : i + (end - i) ≡ end = omega arith in
-    ap put_all (sym (take-append-drop (end - i) (drop i text)))
-    ∙ put_append (take (end - i) (drop i text)) (drop (end - i) (drop i text))
-    ∙ ap (λ (s : List ℕ). put_all (take (end - i) (drop i text)) ++ put_all s) (drop-drop (end - i) i text ∙ ap (λ (n : ℕ). drop n text) on)
-
 -- where as many bytes are put as there are characters, nothing is put after any
 put_short : (x : ℕ) → length (put_of x) ≡ 1 → put_of x ≡ x ∷ []
 put_short x short = by (eqb x 9) (eqb x 12) short

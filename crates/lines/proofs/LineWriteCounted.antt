@@ -1,60 +1,81 @@
--- What a write counts, as loops do it: the characters through the first terminator, the bytes put for a text part by part, the blocks that become full.
-use Prim.Native.Nat.{ℕ, suc, ◌+◌, ◌*◌, ◌-◌, ◌/◌, ◌≤◌, ◌<◌, min}
-use mathlib.Core.Path.{◌≡◌, sym, ap, ◌∙◌}
-use mathlib.Core.Bool.{Bool, true, false, cond}
-use mathlib.Core.List.{List}
-use native.Mathlib.Nat.{zero-add, add-zero, div-eq_of_lt, div-lt_iff_lt-mul}
-use native.Mathlib.Numerals.{add-one}
+-- What a write counts, as the code does it: the characters through the first terminator, the bytes put for a text part by part, the blocks that become full.
+use Prim.Native.Nat.{ℕ, suc, ◌+◌, ◌*◌, ◌/◌, ◌≤◌, ◌<◌}
+use mathlib.Core.Path.{◌≡◌, refl, sym, ap, ◌∙◌}
+use mathlib.Core.Bool.{Bool, true, false, not, cond, true≢false}
+use mathlib.Core.List.{List, [], ◌∷◌, ◌++◌}
+use native.Mathlib.Nat.{zero-add, div-eq_of_lt, div-lt_iff_lt-mul}
 use native.Mathlib.Omega.{arith}
-use lib.Dec.{eqb}
-use lib.ListN.{length, take, drop, get_or, length-append, length-take, drop_of_length-le}
-use lib.Seq.{drop-cons, length-take-le}
-use borrow.Author.Tests.{eqb-true}
+use lib.Dec.{eqb, ltb}
+use lib.ListN.{length, drop, get_or, length-append, drop_of_length-le}
+use lib.Seq.{length-take-le}
+use borrow.Author.Tests.{eqb-true, ltb-true, ltb-false}
+use Rattle.std.specs.Prelude.{Some, None}
+use Rattle.std.specs.declared.option.Option.{Option as Answered}
+use Rattle.std.specs.List.{position_or_len}
+use Rattle.lines.specs.declared.LineMode.{LineMode}
 use Rattle.lines.specs.declared.LineMode.TheVariants.{Normal, Special}
+use Rattle.lines.specs.LineSteps.{is_special}
 use Rattle.lines.specs.TextBytes.{is_terminator, through}
 use Rattle.lines.specs.LineWrite.{put_of, put_all, taken_of}
 use Rattle.lines.proofs.TextBytes.{through_most}
-use Rattle.lines.proofs.LineWrite.{put_bounds, put_next, put_part, put_same}
+use Rattle.lines.proofs.LineWrite.{put_bounds, put_append, put_next, put_same}
 
--- how many are taken; `special` is the code's test of the mode
-abbrev taken : Bool → List ℕ → ℕ
-taken special text = length (taken_of (cond special Special Normal) text)
+-- how far the first terminator is, by the code's search for its place: there is one, or none
+found_through : (s : List ℕ) → position_or_len is_terminator s < length s → position_or_len is_terminator s + 1 ≡ through is_terminator s
+unfolding through
+found_through [] inside = absurd (omega arith)
+found_through (x ∷ s) inside = by (is_terminator x) (found_through s) inside
+  where
+    by : (ends : Bool) → (position_or_len is_terminator s < length s → position_or_len is_terminator s + 1 ≡ through is_terminator s)
+        → cond (not ends) (1 + position_or_len is_terminator s) 0 < suc (length s)
+        → cond (not ends) (1 + position_or_len is_terminator s) 0 + 1 ≡ suc (cond ends 0 (through is_terminator s))
+    by true rest inside = omega arith
+    by false rest inside = omega (arith, rest (omega arith))
 
-pub taken_whole : (text : List ℕ) {special : Bool} → special ≡ false → length text ≡ taken special text
+none_through : (s : List ℕ) → length s ≤ position_or_len is_terminator s → length s ≡ through is_terminator s
+unfolding through
+none_through [] none = omega arith
+none_through (x ∷ s) none = by (is_terminator x) (none_through s) none
+  where
+    by : (ends : Bool) → (length s ≤ position_or_len is_terminator s → length s ≡ through is_terminator s)
+        → suc (length s) ≤ cond (not ends) (1 + position_or_len is_terminator s) 0 → suc (length s) ≡ suc (cond ends 0 (through is_terminator s))
+    by true rest none = absurd (omega arith)
+    by false rest none = omega (arith, rest (omega arith))
+
+-- how many are taken: all in normal mode; in special mode through the first terminator, if there is one
+pub taken_whole : (mode : LineMode) (text : List ℕ) {special : Bool} → special ≡ is_special mode → special ≡ false → length text ≡ length (taken_of mode text)
 unfolding taken_of
-taken_whole text is = rw is
+taken_whole Normal text says is = refl
+taken_whole Special text says is = absurd (true≢false (sym says ∙ is))
 
--- special, and no terminator before the index: what is left decides the whole
-pub record Seeking (special : Bool) (text : List ℕ) (i : ℕ) : Type 0 where
-  pub chosen : special ≡ true
-  pub within : i ≤ length text
-  pub comes : through is_terminator text ≡ i + through is_terminator (drop i text)
+module _ (text : List ℕ) {place : Answered ℕ}
+    (found : place ≡ cond (ltb (position_or_len is_terminator text) (length text)) (Some (position_or_len is_terminator text)) None) where
+  taken_through : {n : ℕ} → n ≡ through is_terminator text → n ≡ length (taken_of Special text)
+  unfolding taken_of
+  taken_through is = is ∙ sym (length-take-le (through is_terminator text) text (through_most is_terminator text))
 
-module _ {special : Bool} {text : List ℕ} where
-  pub seeking_start : special ≡ true → Seeking special text 0
-  seeking_start is = record { chosen = is; within = omega arith; comes = sym (zero-add (through is_terminator text)) }
+  in_special : (mode : LineMode) {special : Bool} → special ≡ is_special mode → special ≡ true → mode ≡ Special
+  in_special Normal says is = absurd (true≢false (sym is ∙ says))
+  in_special Special says is = refl
 
-  module _ {i : ℕ} (seeking : Seeking special text i) where
-    taken_through : {n : ℕ} → through is_terminator (drop i text) ≡ n → i + n ≡ taken special text
-    unfolding taken_of
-    taken_through rest =
-        ap (λ (m : ℕ). i + m) (sym rest) ∙ sym seeking.comes
-        ∙ rw seeking.chosen (sym (length-take-le (through is_terminator text) text (through_most is_terminator text)))
+  module _ (mode : LineMode) {special : Bool} (says : special ≡ is_special mode) (chosen : special ≡ true) where
+    pub taken_to : {last : ℕ} → place ≡ Some last → last + 1 ≡ length (taken_of mode text)
+    taken_to {last} told = rw (in_special mode says chosen) (taken_through (by (ltb (position_or_len is_terminator text) (length text)) refl (sym told ∙ found)))
+      where
+        by : (inside : Bool) → ltb (position_or_len is_terminator text) (length text) ≡ inside → Some last ≡ cond inside (Some (position_or_len is_terminator text)) None
+            → last + 1 ≡ through is_terminator text
+        by true inside same =
+            let here : last ≡ position_or_len is_terminator text = cc in
+            ap (λ (n : ℕ). n + 1) here ∙ found_through text (ltb-true _ _ inside)
+        by false inside same = let z : ◌≡◌ {A = ℕ} 0 1 = cc in absurd (omega arith)
 
-    pub seeking_finished : length text ≤ i → i ≡ taken special text
-    unfolding through
-    seeking_finished end = sym (add-zero i) ∙ taken_through (rw (drop_of_length-le text end))
-
-    module _ (inside : i < length text) {ends : Bool} (tested : ends ≡ is_terminator (get_or text i 0)) where
-      pub seeking_stopped : ends ≡ true → i + 1 ≡ taken special text
-      unfolding through
-      seeking_stopped holds = taken_through (rw (drop-cons text i 0, ← tested, holds))
-
-      pub seeking_next : ends ≡ false → Seeking special text (i + 1)
-      unfolding through
-      seeking_next fails =
-          let rest : through is_terminator (drop i text) ≡ suc (through is_terminator (drop (i + 1) text)) = rw (drop-cons text i 0, add-one i, ← tested, fails) in
-          record { chosen = seeking.chosen; within = omega arith; comes = omega (arith, seeking.comes, rest) }
+    pub taken_all : place ≡ None → length text ≡ length (taken_of mode text)
+    taken_all told = rw (in_special mode says chosen) (taken_through (by (ltb (position_or_len is_terminator text) (length text)) refl (sym told ∙ found)))
+      where
+        by : (inside : Bool) → ltb (position_or_len is_terminator text) (length text) ≡ inside
+            → ◌≡◌ {A = Answered ℕ} None (cond inside (Some (position_or_len is_terminator text)) None) → length text ≡ through is_terminator text
+        by true inside same = let z : ◌≡◌ {A = ℕ} 0 1 = cc in absurd (omega arith)
+        by false inside same = none_through text (ltb-false _ _ inside)
 
 -- the bytes put for the characters before the index, and for those from it on
 pub record Counting (text : List ℕ) (i puts : ℕ) : Type 0 where
@@ -84,22 +105,22 @@ module _ {text : List ℕ} where
       pub counting_next : Counting text (i + 1) (puts + put)
       counting_next = record { within = omega arith; comes = omega (arith, counting.comes, next_put) }
 
-    -- the characters up to another index
-    module _ {end : ℕ} (from : i ≤ end) (inside : end ≤ length text) {put : ℕ} (part : put ≡ length (put_all (take (end - i) (drop i text)))) where
-      part_put : length (put_all (drop i text)) ≡ put + length (put_all (drop end text))
-      part_put =
-          ap length (put_part text i end from) ∙ length-append (put_all (take (end - i) (drop i text))) (put_all (drop end text))
-          ∙ ap (λ (n : ℕ). n + length (put_all (drop end text))) (sym part)
+-- part by part: the bytes put for the parts before, and for those to come
+module _ (text rest : List ℕ) (puts : ℕ) (before : length (put_all text) ≡ puts + length (put_all rest)) where
+  pub parts_done : length rest ≡ 0 → puts ≡ length (put_all text)
+  parts_done none = omega (arith, before, (put_bounds rest).1, none)
 
-      pub counting_much : puts + put ≤ 2 * length text
-      counting_much = omega (arith, counting.comes, part_put, (put_bounds text).1)
+  module _ (part behind : List ℕ) (split : rest ≡ part ++ behind) {put : ℕ} (counted : put ≡ length (put_all part)) where
+    part_put : length (put_all rest) ≡ put + length (put_all behind)
+    part_put =
+        ap (λ (s : List ℕ). length (put_all s)) split ∙ ap length (put_append part behind) ∙ length-append (put_all part) (put_all behind)
+        ∙ ap (λ (n : ℕ). n + length (put_all behind)) (sym counted)
 
-      pub counting_on : Counting text end (puts + put)
-      counting_on = record { within = inside; comes = omega (arith, counting.comes, part_put) }
+    pub parts_much : puts + put ≤ 2 * length text
+    parts_much = omega (arith, before, part_put, (put_bounds text).1)
 
--- a part has few characters
-pub part_few : (text : List ℕ) (i : ℕ) {end : ℕ} → end ≡ min (i + 96) (length text) → length (take (end - i) (drop i text)) ≤ 127
-part_few text i {end} is = omega (arith, length-take (end - i) (drop i text), is)
+    pub parts_on : length (put_all text) ≡ puts + put + length (put_all behind)
+    parts_on = omega (arith, before, part_put)
 
 -- a stride for which as many bytes were counted, by the code's test: it can be laid as it stands
 pub part_alone : {part : List ℕ} {puts room : ℕ} → length part ≡ 32 → 32 < room → puts ≡ length (put_all part) → eqb puts 32 ≡ true

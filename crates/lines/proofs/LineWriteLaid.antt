@@ -1,17 +1,18 @@
 -- Characters laid in a gather buffer: what is put for a character one byte after another, a text character by character, as the loops do it.
-use Prim.Native.Nat.{ℕ, ◌+◌, ◌-◌, ◌≤◌, ◌<◌}
-use mathlib.Core.Path.{◌≡◌, refl, ap, subst}
+use Prim.Native.Nat.{ℕ, ◌+◌, ◌≤◌, ◌<◌}
+use mathlib.Core.Path.{◌≡◌, refl, ap, subst, ◌∙◌}
 use mathlib.Core.Bool.{Bool, true, false, cond}
 use mathlib.Core.List.{List, [], ◌∷◌, ◌++◌}
+use native.Mathlib.Omega.{arith}
 use lib.Dec.{eqb}
-use lib.ListN.{length, take, drop, get_or, set, drop_of_length-le}
+use lib.ListN.{length, drop, get_or, set, drop_of_length-le}
 use borrow.Author.Tests.{eqb-true}
 use Rattle.pack.specs.declared.Geometry.{Geometry}
 use Rattle.stream.specs.declared.Filling.{Filling}
 use Rattle.stream.specs.Filling.{Layable, LaidByte, Writable, Laying, LaidWithin}
 use Rattle.stream.proofs.FillingLoop.{laying_start, laying_layable, laying_next, part_writable, part_next}
 use Rattle.lines.specs.LineWrite.{put_of, put_all}
-use Rattle.lines.proofs.LineWrite.{put_next, put_part}
+use Rattle.lines.proofs.LineWrite.{put_append, put_next}
 
 pub put_tab : (x : ℕ) → x ≡ 9 → put_of x ≡ x ∷ (127 ∷ [])
 put_tab x is = rw is
@@ -73,18 +74,33 @@ module _ (text : List ℕ) {g : Geometry} {e : ℕ} {img₀ map₀ gather₀ : L
         → Laying g e img₀ map₀ gather₀ start (put_all text) img' map' gather' r (put_all (drop (i + 1) text))
     text_next one = part_next (put_of (get_or text i 0)) (put_all (drop (i + 1) text)) at_character one
 
-  -- and by two, where a part of it is laid
-  module _ (end : ℕ) (from : i ≤ end) where
-    at_part : Laying g e img₀ map₀ gather₀ start (put_all text) img map gather at (put_all (take (end - i) (drop i text)) ++ put_all (drop end text))
-    at_part = subst (Laying g e img₀ map₀ gather₀ start (put_all text) img map gather at) (put_part text i end from) laying
-
-    pub text_part_writable : Writable img₀ map₀ g e gather₀ start (put_all text) → Writable img map g e gather at (put_all (take (end - i) (drop i text)))
-    text_part_writable w = part_writable (put_all (take (end - i) (drop i text))) (put_all (drop end text)) at_part w
-
-    pub text_part_next : {img' map' gather' : List ℕ} {r : Filling} → Laying g e img map gather at (put_all (take (end - i) (drop i text))) img' map' gather' r []
-        → Laying g e img₀ map₀ gather₀ start (put_all text) img' map' gather' r (put_all (drop end text))
-    text_part_next one = part_next (put_all (take (end - i) (drop i text))) (put_all (drop end text)) at_part one
-
   pub text_end : length text ≤ i → Laying g e img₀ map₀ gather₀ start (put_all text) img map gather at []
   unfolding put_all
   text_end over = subst (λ (s : List ℕ). Laying g e img₀ map₀ gather₀ start (put_all text) img map gather at (put_all s)) (drop_of_length-le text over) laying
+
+-- and part by part, of those that are left
+pub parts_start : {g : Geometry} {e : ℕ} {img map gather : List ℕ} {at : Filling} (text rest : List ℕ) → rest ≡ text
+    → Laying g e img map gather at (put_all text) img map gather at (put_all rest)
+parts_start text rest is = rw is laying_start
+
+empty : (s : List ℕ) → length s ≡ 0 → s ≡ []
+empty [] none = refl
+empty (x ∷ s) none = absurd (omega arith)
+
+module _ (text rest : List ℕ) {g : Geometry} {e : ℕ} {img₀ map₀ gather₀ : List ℕ} {start : Filling} {img map gather : List ℕ} {at : Filling}
+    (laying : Laying g e img₀ map₀ gather₀ start (put_all text) img map gather at (put_all rest)) where
+  pub parts_end : length rest ≡ 0 → Laying g e img₀ map₀ gather₀ start (put_all text) img map gather at []
+  unfolding put_all
+  parts_end none =
+      subst (λ (s : List ℕ). Laying g e img₀ map₀ gather₀ start (put_all text) img map gather at (put_all s)) (empty rest none) laying
+
+  module _ (part behind : List ℕ) (split : rest ≡ part ++ behind) where
+    at_part : Laying g e img₀ map₀ gather₀ start (put_all text) img map gather at (put_all part ++ put_all behind)
+    at_part = subst (Laying g e img₀ map₀ gather₀ start (put_all text) img map gather at) (ap put_all split ∙ put_append part behind) laying
+
+    pub parts_writable : Writable img₀ map₀ g e gather₀ start (put_all text) → Writable img map g e gather at (put_all part)
+    parts_writable w = part_writable (put_all part) (put_all behind) at_part w
+
+    pub parts_next : {img' map' gather' : List ℕ} {r : Filling} → Laying g e img map gather at (put_all part) img' map' gather' r []
+        → Laying g e img₀ map₀ gather₀ start (put_all text) img' map' gather' r (put_all behind)
+    parts_next one = part_next (put_all part) (put_all behind) at_part one

@@ -16,18 +16,23 @@ use Rattle.pack.specs.GeometrySized.{most_segments}
 use Rattle.pack.specs.Geometry.{geometry_of, segment_bytes, payload_bytes}
 use Rattle.pack.proofs.FormBounds.{segments_few}
 use Rattle.consistency.specs.Mapped.{Mapped, MappedIf}
-use Rattle.asking.specs.declared.Asked.{Asked}
-use Rattle.asking.specs.declared.Asked.TheVariants.{File, Refused}
+use Rattle.asking.specs.AskedStage.{Asked}
+use Rattle.asking.specs.AskedStage.{File, Refused}
 use Rattle.asking.specs.Outcome.{Outcome}
 use Rattle.asking.specs.AskedStage.{stage_of}
 use Rattle.stream.specs.declared.Filling.{Filling}
 use Rattle.stream.specs.Filling.{Writable, Laying}
+use Rattle.lines.specs.declared.LineMode.{LineMode}
 use Rattle.lines.specs.LineWrite.{put_all, taken_of, written_status}
 use Rattle.lines.specs.LineReading.{mode_of}
 use Rattle.stream.specs.BytesWriting.{gathered_in, writing_rows}
 use Rattle.lines.specs.LineWriting.{line_write, nuls_for, line_end}
 use Rattle.lines.proofs.LineWrite.{taken_front}
 use Rattle.stream.proofs.BytesWritingAnswers.{from_start, write_denied, write_begun, write_mapped, write_filled, write_done}
+
+-- what was counted in a mode was in the one that the number means
+pub counted_for : (text : List ℕ) {kind means : LineMode} {count : ℕ} → count ≡ length (taken_of kind text) → kind ≡ means → count ≡ length (taken_of means text)
+counted_for text counted is = counted ∙ ap (λ (m : LineMode). length (taken_of m text)) is
 
 -- what the code took of the text is the front of it
 module _ (mode : ℕ) (text : List ℕ) {count : ℕ} (counted : count ≡ length (taken_of (mode_of mode) text)) where

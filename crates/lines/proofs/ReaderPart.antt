@@ -23,8 +23,10 @@ part_start {passed} long = record { long = long; within = omega arith; few = ome
 
 module _ {mode : LineMode} {most count₀ passed : ℕ} {part : List ℕ} {whole : LineState} {buffer : List ℕ} {count i : ℕ}
     (reading : PartReading mode most count₀ passed part whole buffer count i) where
-  pub part_over : length part ≤ i → record { buffer = buffer; count = count; status = 0; passed = passed + i; ended = false } ≡ whole
-  part_over over = sym (reading.same ∙ part_end mode most buffer count (passed + i) part i over)
+  pub part_over : length part ≤ i → record { buffer = buffer; count = count; status = 0; passed = passed + length part; ended = false } ≡ whole
+  part_over over =
+      let all : length part ≡ i = omega (arith, over, reading.within) in
+      rw all (sym (reading.same ∙ part_end mode most buffer count (passed + i) part i over))
 
   module _ (inside : i < length part) {role : Role} (is : IsRole (seven_bits (get_or part i 0)) role) where
     pub part_discarded : role ≡ Discarded → {buffer' : List ℕ} {count' : ℕ} → buffer' ≡ buffer → count' ≡ count

@@ -9,3 +9,4 @@ pub mod LineRoundTrip
 pub mod LineReadingRows
 pub mod LineReading
 pub mod LineWriting
+pub mod LineAnswers

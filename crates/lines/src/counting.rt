@@ -1,26 +1,23 @@
 // What is counted before a byte is laid: the characters that a write takes, the bytes that it puts for them, and the blocks that they fill.
-ghost use Rattle.std.specs.Prelude.{◌≡◌, cond, ◌+◌, ◌/◌, ◌≤◌, ◌<◌, min, length};
-ghost use Rattle.lines.specs.declared.LineMode.TheVariants.{Normal, Special};
+ghost use Rattle.std.specs.Prelude.{◌≡◌, ◌+◌, ◌/◌, ◌≤◌, ◌<◌, length};
 ghost use Rattle.lines.specs.LineWrite.{put_of, put_all, taken_of};
 
-use crate::characters;
+use crate::{LineMode, characters};
 use room::Blocks;
 
 // "Normal mode writes all it is given, special stops after the first terminator": how many characters are taken.
-pub fn count_taken(special: bool, text: &[u8]) -> usize
-    ensures { result ≡ length (taken_of (cond special Special Normal) text.now) }
+pub fn count_taken(mode: LineMode, text: &[u8]) -> usize
+    ensures { result ≡ length (taken_of mode text.now) }
 {
-    if !special {
-        return text.len();
-    }
-    let mut i = 0;
-    while i < text.len() {
-        if characters::is_terminator(text[i]) {
-            return i + 1;
+    if mode.is_special() {
+        let end = text
+            .iter()
+            .position(|character| characters::is_terminator(*character));
+        if let Some(last) = end {
+            return last + 1;
         }
-        i += 1;
     }
-    i
+    text.len()
 }
 
 fn put_length(character: u8) -> u8
@@ -41,10 +38,8 @@ pub fn count_part(part: &[u8]) -> u8
     ensures { result ≡ length (put_all part.now) }
 {
     let mut puts = 0u8;
-    let mut i = 0;
-    while i < part.len() {
-        puts += put_length(part[i]);
-        i += 1;
+    for character in part {
+        puts += put_length(*character);
     }
     puts
 }
@@ -52,26 +47,12 @@ pub fn count_part(part: &[u8]) -> u8
 // A multiple of 32, so that no character of a whole part is counted alone.
 const PART: usize = 96;
 
-// The end of the part that starts here and has at most so many characters.
-pub fn part_end(start: usize, end: usize, most: usize) -> usize
-    requires { start < end }
-    ensures { result ≡ min (start + most) end }
-{
-    if end - start < most {
-        return end;
-    }
-    start + most
-}
-
 fn count_puts(text: &[u8]) -> usize
     ensures { result ≡ length (put_all text.now) }
 {
     let mut puts = 0;
-    let mut i = 0;
-    while i < text.len() {
-        let end = part_end(i, text.len(), PART);
-        puts += count_part(&text[i..end]) as usize;
-        i = end;
+    for part in text.chunks(PART) {
+        puts += count_part(part) as usize;
     }
     puts
 }

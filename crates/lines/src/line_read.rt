@@ -1,19 +1,30 @@
 // Reading a line: through the payloads of a linked file from a position on, byte by byte.
 ghost use Rattle.std.specs.Prelude.{◌≡◌, [], ◌∷◌, ◌+◌, ◌-◌, ◌≤◌, ◌<◌, min, length};
 ghost use Rattle.consistency.specs.ConsistentTest.{opened_of};
-ghost use Rattle.stream.specs.Spot.{most_bytes, bytes_from, Standing};
+ghost use Rattle.stream.specs.Spot.{most_bytes};
+ghost use Rattle.stream.specs.Tail.{rest};
 ghost use Rattle.lines.specs.LineRead.{status_bit};
-ghost use Rattle.lines.specs.LineSteps.{is_special, read_from, at_end};
-ghost use Rattle.lines.specs.LineReading.{mode_of, line_read};
-ghost use Rattle.lines.specs.Reader.{IsRole, state_of};
+ghost use Rattle.lines.specs.LineSteps.{read_from, at_end};
+ghost use Rattle.lines.specs.LineReading.{line_read};
+ghost use Rattle.lines.specs.LineAnswers.{read_answer};
+ghost use Rattle.lines.specs.Reader.{IsRole, state_of, state_ended};
 
 use crate::{LineMode, characters};
-use asking::Asked;
+use answers::Refusal;
 use consistency::Opened;
-use pack::{Geometry, Key};
-use stream::Spot;
+use pack::{Key, View};
+use stream::Tail;
 use transfer::linked_read;
 
+// What a reading answers: the count, the status, and the next position.
+#[derive(Clone, Copy)]
+pub struct LineRead {
+    pub count: usize,
+    pub status: usize,
+    pub position: usize,
+}
+
+// The same to a host.
 #[repr(C)]
 #[derive(Clone, Copy)]
 pub struct ReadAnswer {
@@ -23,17 +34,37 @@ pub struct ReadAnswer {
     pub position: usize,
 }
 
-// How far the reading of a line is: the count, the bytes passed, and whether the line has ended, with the status in which it did.
+impl From<Result<LineRead, Refusal>> for ReadAnswer {
+    ghost from_gives = { λ outcome answer. answer ≡ read_answer outcome };
+
+    fn from(outcome: Result<LineRead, Refusal>) -> ReadAnswer {
+        match outcome {
+            Ok(line) => ReadAnswer {
+                code: 0,
+                count: line.count,
+                status: line.status,
+                position: line.position,
+            },
+            Err(refusal) => ReadAnswer {
+                code: refusal.code(),
+                count: 0,
+                status: 0,
+                position: 0,
+            },
+        }
+    }
+}
+
+// How far the reading of a line is: the count, the bytes passed, and, once the line has ended, the status in which it did.
 #[derive(Clone, Copy)]
 pub struct Reader {
     pub count: usize,
-    pub status: usize,
     pub passed: usize,
-    pub ended: bool,
+    pub ended: Option<usize>,
 }
 
 // What a character is to a reader.
-#[derive(Clone, Copy)]
+#[derive(Clone, Copy, Debug, PartialEq, Eq)]
 pub enum Role {
     Discarded,
     Terminator,
@@ -57,24 +88,6 @@ fn role_of(character: u8) -> Role
         return Role::Terminator;
     }
     Role::Plain
-}
-
-fn mode_of(mode: usize) -> LineMode
-    ensures { result ≡ mode_of mode }
-{
-    if mode == 1 {
-        return LineMode::Special;
-    }
-    LineMode::Normal
-}
-
-fn is_special(mode: LineMode) -> bool
-    ensures { result ≡ is_special mode }
-{
-    match mode {
-        LineMode::Normal => false,
-        LineMode::Special => true,
-    }
 }
 
 // Behind what is laid, or over the last of the buffer.
@@ -109,8 +122,7 @@ fn read_payload(part: &[u8], mode: LineMode, buffer: &mut [u8], from: Reader) ->
     let most = buffer.len();
     let passed = from.passed;
     let mut count = from.count;
-    let mut i = 0;
-    while i < part.len() {
+    for i in 0..part.len() {
         let character = part[i] % 128;
         let role = role_of(character);
         match role {
@@ -121,64 +133,62 @@ fn read_payload(part: &[u8], mode: LineMode, buffer: &mut [u8], from: Reader) ->
                 count += 1;
                 return Reader {
                     count,
-                    status: bit_0(most < count),
                     passed: passed + i + 1,
-                    ended: true,
+                    ended: Some(bit_0(most < count)),
                 };
             }
             Role::Plain => {
                 let place = place_in(most, count);
                 buffer[place] = character;
                 count += 1;
-                if is_special(mode) & (most <= count) {
+                if mode.is_special() & (most <= count) {
                     return Reader {
                         count,
-                        status: 1,
                         passed: passed + i + 1,
-                        ended: true,
+                        ended: Some(1),
                     };
                 }
             }
         }
-        i += 1;
     }
     Reader {
         count,
-        status: 0,
-        passed: passed + i,
-        ended: false,
+        passed: passed + part.len(),
+        ended: None,
     }
 }
 
-// A line read from a spot on, payload by payload, to its end or the file's.
-fn read_payloads(img: &[u8], g: Geometry, start: Spot, mode: LineMode, buffer: &mut [u8]) -> Reader
-    requires standing { Standing img.now g start }
-    requires buffer_nonzero { (0 < length buffer.old) × (length (bytes_from img.now g start) ≤ most_bytes) }
-    ensures { state_of buffer.new result
+// A line read payload by payload, to its end or the file's. The position is counted from the start.
+fn read_payloads(start: Tail<'_>, mode: LineMode, buffer: &mut [u8]) -> LineRead
+    requires { (0 < length buffer.old) × (length (rest start) ≤ most_bytes) }
+    ensures { state_ended buffer.new result
         ≡ at_end (length buffer.old)
-        (read_from mode (length buffer.old) buffer.old 0 0 (bytes_from img.now g start)) }
+        (read_from mode (length buffer.old) buffer.old 0 0 (rest start.entry)) }
 {
-    let mut spot = start;
+    let mut tail = start;
     let mut reader = Reader {
         count: 0,
-        status: 0,
         passed: 0,
-        ended: false,
+        ended: None,
     };
-    while 0 < spot.left {
-        let at = spot.at;
-        let end = spot.end;
+    while 0 < tail.spot.left {
+        let img = tail.img;
+        let at = tail.spot.at;
+        let end = tail.spot.end;
         reader = read_payload(&img[at..end], mode, buffer, reader);
-        if reader.ended {
-            return reader;
+        if let Some(status) = reader.ended {
+            return LineRead {
+                count: reader.count,
+                status,
+                position: reader.passed,
+            };
         }
-        spot = stream::next_payload(img, g, spot);
+        tail = tail.next_payload();
     }
-    Reader {
+    LineRead {
         count: reader.count,
         status: 64 + bit_0(buffer.len() <= reader.count),
-        passed: reader.passed,
-        ended: true,
+        position: reader.passed,
     }
 }
 
@@ -189,9 +199,10 @@ pub fn line_read(
     mode: usize,
     position: usize,
     buffer: &mut [u8],
-) -> ReadAnswer
-    ensures code_value { result.code ≡ (line_read img.now key caller mode position buffer.old).code }
-    ensures position_value { (result.count ∷ (result.status ∷ (result.position ∷ []))) ≡ (line_read img.now key caller mode position buffer.old).numbers }
+) -> Result<LineRead, Refusal>
+    ensures code_value { (read_answer result).code ≡ (line_read img.now key caller mode position buffer.old).code }
+    ensures position_value { ((read_answer result).count ∷ ((read_answer result).status ∷ ((read_answer result).position ∷ [])))
+        ≡ (line_read img.now key caller mode position buffer.old).numbers }
     ensures buffer_after { buffer.new ≡ (line_read img.now key caller mode position buffer.old).buffer }
 {
     let opened = consistency::open_pack(img);
@@ -207,39 +218,25 @@ pub fn line_read_opened(
     mode: usize,
     position: usize,
     buffer: &mut [u8],
-) -> ReadAnswer
+) -> Result<LineRead, Refusal>
     requires { opened ≡ opened_of img.now }
-    ensures code_value { result.code ≡ (line_read img.now key caller mode position buffer.old).code }
-    ensures position_value { (result.count ∷ (result.status ∷ (result.position ∷ []))) ≡ (line_read img.now key caller mode position buffer.old).numbers }
+    ensures code_value { (read_answer result).code ≡ (line_read img.now key caller mode position buffer.old).code }
+    ensures position_value { ((read_answer result).count ∷ ((read_answer result).status ∷ ((read_answer result).position ∷ [])))
+        ≡ (line_read img.now key caller mode position buffer.old).numbers }
     ensures buffer_after { buffer.new ≡ (line_read img.now key caller mode position buffer.old).buffer }
 {
     let wrong = (buffer.len() == 0) | (1 < mode);
-    match linked_read::ask_linked_read(img, opened, key, caller, wrong) {
-        Asked::Refused(code) => {
-            return ReadAnswer {
-                code,
-                count: 0,
-                status: 0,
-                position: 0,
-            };
-        }
-        Asked::File(g, _, x) => {
-            if stream::bytes_in(g, x) < position {
-                return ReadAnswer {
-                    code: 0o44,
-                    count: 0,
-                    status: 0,
-                    position: 0,
-                };
-            }
-            let spot = stream::locate(img, g, x, position);
-            let reader = read_payloads(img, g, spot, mode_of(mode), buffer);
-            return ReadAnswer {
-                code: 0,
-                count: reader.count,
-                status: reader.status,
-                position: position + reader.passed,
-            };
-        }
+    let found = linked_read::ask_linked_read(img, opened, key, caller, wrong)?;
+    let g = found.geometry;
+    let x = found.entry;
+    if stream::bytes_in(g, x) < position {
+        return Err(Refusal::NoSuchBlock);
     }
+    let tail = stream::locate(View { img, g }, x, position);
+    let line = read_payloads(tail, LineMode::from(mode), buffer);
+    Ok(LineRead {
+        count: line.count,
+        status: line.status,
+        position: position + line.position,
+    })
 }

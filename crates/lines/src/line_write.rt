@@ -1,20 +1,30 @@
 // Writing a line, and the ending call. What is taken and put is counted first, so that a write without room is refused before a byte is laid.
 ghost use Rattle.std.specs.Prelude.{◌≡◌, true, [], ◌∷◌, ◌≤◌, ◌<◌, length, replicate};
+ghost use Rattle.answers.specs.Refusals.{code_in};
 ghost use Rattle.pack.specs.GeometrySized.{most_segments};
 ghost use Rattle.pack.specs.Geometry.{segment_bytes};
 ghost use Rattle.consistency.specs.ConsistentTest.{opened_of};
-ghost use Rattle.consistency.specs.Mapped.{Lent, MappedIf};
+ghost use Rattle.consistency.specs.Mapped.{MappedIf};
 ghost use Rattle.stream.specs.Filling.{Writable, Laying};
 ghost use Rattle.lines.specs.LineWrite.{put_of, put_all, written_status};
 ghost use Rattle.lines.specs.LineWriting.{line_write, nuls_for, line_end};
+ghost use Rattle.lines.specs.LineAnswers.{write_answer};
 
-use crate::{characters, counting};
-use asking::Asked;
+use crate::{LineMode, characters, counting};
+use answers::Refusal;
 use consistency::Opened;
 use pack::{BlockNo, Geometry, Key};
 use stream::Filling;
 
 // What a write answers: "the count taken", the status, and the filled count.
+#[derive(Clone, Copy)]
+pub struct LineWritten {
+    pub count: usize,
+    pub status: usize,
+    pub filled: usize,
+}
+
+// The same to a host.
 #[repr(C)]
 #[derive(Clone, Copy)]
 pub struct WriteAnswer {
@@ -22,6 +32,27 @@ pub struct WriteAnswer {
     pub count: usize,
     pub status: usize,
     pub filled: usize,
+}
+
+impl From<Result<LineWritten, Refusal>> for WriteAnswer {
+    ghost from_gives = { λ outcome answer. answer ≡ write_answer outcome };
+
+    fn from(outcome: Result<LineWritten, Refusal>) -> WriteAnswer {
+        match outcome {
+            Ok(line) => WriteAnswer {
+                code: 0,
+                count: line.count,
+                status: line.status,
+                filled: line.filled,
+            },
+            Err(refusal) => WriteAnswer {
+                code: refusal.code(),
+                count: 0,
+                status: 0,
+                filled: 0,
+            },
+        }
+    }
 }
 
 // "bit 0 says that its last character was none, or that it is 0".
@@ -80,10 +111,8 @@ fn lay_characters(
         img.new map.new gather.new result [] }
 {
     let mut at = start;
-    let mut i = 0;
-    while i < text.len() {
-        at = lay_character(img, map, g, e, gather, at, text[i]);
-        i += 1;
+    for character in text {
+        at = lay_character(img, map, g, e, gather, at, *character);
     }
     at
 }
@@ -144,11 +173,8 @@ fn lay_text(
         img.new map.new gather.new result [] }
 {
     let mut at = start;
-    let mut i = 0;
-    while i < text.len() {
-        let end = counting::part_end(i, text.len(), STRIDE);
-        at = lay_part(img, map, g, e, gather, at, &text[i..end]);
-        i = end;
+    for part in text.chunks(STRIDE) {
+        at = lay_part(img, map, g, e, gather, at, part);
     }
     at
 }
@@ -161,45 +187,17 @@ pub fn line_write(
     text: &[u8],
     gather: &mut [u8],
     filled: usize,
-) -> WriteAnswer
-    ensures code_value { result.code ≡ (line_write img.old key caller mode text.now gather.old filled).code }
-    ensures filled_value { (result.count ∷ (result.status ∷ (result.filled ∷ [])))
+) -> Result<LineWritten, Refusal>
+    ensures code_value { (write_answer result).code ≡ (line_write img.old key caller mode text.now gather.old filled).code }
+    ensures filled_value { ((write_answer result).count ∷ ((write_answer result).status ∷ ((write_answer result).filled ∷ [])))
         ≡ (line_write img.old key caller mode text.now gather.old filled).numbers }
     ensures img_after { img.new ≡ (line_write img.old key caller mode text.now gather.old filled).image }
     ensures gather_after { gather.new ≡ (line_write img.old key caller mode text.now gather.old filled).buffer }
 {
-    if img.len() <= consistency::FEW_BYTES {
-        let mut map = [0u8; consistency::FEW_BLOCKS];
-        return line_write_lent(img, &mut map, key, caller, mode, text, gather, filled);
-    }
-    if img.len() <= consistency::MANY_BYTES {
-        let mut map = [0u8; consistency::MANY_BLOCKS];
-        return line_write_lent(img, &mut map, key, caller, mode, text, gather, filled);
-    }
-    let mut map = [0u8; pack::MOST_BLOCKS];
-    line_write_lent(img, &mut map, key, caller, mode, text, gather, filled)
-}
-
-// On a lent map.
-fn line_write_lent(
-    img: &mut [u8],
-    map: &mut [u8],
-    key: Key,
-    caller: usize,
-    mode: usize,
-    text: &[u8],
-    gather: &mut [u8],
-    filled: usize,
-) -> WriteAnswer
-    requires { Lent map.old img.old }
-    ensures code_value { result.code ≡ (line_write img.old key caller mode text.now gather.old filled).code }
-    ensures filled_value { (result.count ∷ (result.status ∷ (result.filled ∷ [])))
-        ≡ (line_write img.old key caller mode text.now gather.old filled).numbers }
-    ensures img_after { img.new ≡ (line_write img.old key caller mode text.now gather.old filled).image }
-    ensures gather_after { gather.new ≡ (line_write img.old key caller mode text.now gather.old filled).buffer }
-{
-    let opened = consistency::open_mapped(img, map);
-    line_write_opened(img, map, opened, key, caller, mode, text, gather, filled)
+    consistency::lend_map_beside(img, gather, |img, map, gather| {
+        let opened = consistency::open_mapped(img, map);
+        line_write_opened(img, map, opened, key, caller, mode, text, gather, filled)
+    })
 }
 
 // In a pack that was opened.
@@ -213,20 +211,20 @@ pub fn line_write_opened(
     text: &[u8],
     gather: &mut [u8],
     filled: usize,
-) -> WriteAnswer
+) -> Result<LineWritten, Refusal>
     requires opened_value { opened ≡ opened_of img.old }
     requires mapped_if { MappedIf map.old img.old }
-    ensures code_value { result.code ≡ (line_write img.old key caller mode text.now gather.old filled).code }
-    ensures filled_value { (result.count ∷ (result.status ∷ (result.filled ∷ [])))
+    ensures code_value { (write_answer result).code ≡ (line_write img.old key caller mode text.now gather.old filled).code }
+    ensures filled_value { ((write_answer result).count ∷ ((write_answer result).status ∷ ((write_answer result).filled ∷ [])))
         ≡ (line_write img.old key caller mode text.now gather.old filled).numbers }
     ensures img_after { img.new ≡ (line_write img.old key caller mode text.now gather.old filled).image }
     ensures gather_after { gather.new ≡ (line_write img.old key caller mode text.now gather.old filled).buffer }
     ensures mapped_if_2 { MappedIf map.new img.new }
 {
-    let count = counting::count_taken(mode == 1, text);
+    let count = counting::count_taken(LineMode::from(mode), text);
     let taken = &text[..count];
     let needed = counting::text_blocks(gather.len(), filled, taken);
-    match stream::ask_write(
+    let found = stream::ask_write(
         img,
         map,
         opened,
@@ -236,27 +234,19 @@ pub fn line_write_opened(
         gather,
         filled,
         needed,
-    ) {
-        Asked::Refused(code) => WriteAnswer {
-            code,
-            count: 0,
-            status: 0,
-            filled: 0,
-        },
-        Asked::File(g, e, _) => {
-            let start = Filling {
-                filled,
-                from: BlockNo(g.blocks),
-            };
-            let at = lay_text(img, map, g, e, gather, start, taken);
-            WriteAnswer {
-                code: 0,
-                count,
-                status: status_of(taken),
-                filled: at.filled,
-            }
-        }
-    }
+    )?;
+    let g = found.geometry;
+    let e = found.number;
+    let start = Filling {
+        filled,
+        from: BlockNo(g.blocks),
+    };
+    let at = lay_text(img, map, g, e, gather, start, taken);
+    Ok(LineWritten {
+        count,
+        status: status_of(taken),
+        filled: at.filled,
+    })
 }
 
 // "an ending call fills the last with NUL, or adds none at 0": how many that takes.
@@ -295,39 +285,21 @@ fn lay_nuls(
     stream::lay_all(img, map, g, e, gather, start, &nuls[..count])
 }
 
-pub fn line_end(img: &mut [u8], key: Key, caller: usize, gather: &mut [u8], filled: usize) -> usize
-    ensures value { result ≡ (line_end img.old key caller gather.old filled).code }
-    ensures img_after { img.new ≡ (line_end img.old key caller gather.old filled).image }
-    ensures gather_after { gather.new ≡ (line_end img.old key caller gather.old filled).buffer }
-{
-    if img.len() <= consistency::FEW_BYTES {
-        let mut map = [0u8; consistency::FEW_BLOCKS];
-        return line_end_lent(img, &mut map, key, caller, gather, filled);
-    }
-    if img.len() <= consistency::MANY_BYTES {
-        let mut map = [0u8; consistency::MANY_BLOCKS];
-        return line_end_lent(img, &mut map, key, caller, gather, filled);
-    }
-    let mut map = [0u8; pack::MOST_BLOCKS];
-    line_end_lent(img, &mut map, key, caller, gather, filled)
-}
-
-// On a lent map.
-fn line_end_lent(
+pub fn line_end(
     img: &mut [u8],
-    map: &mut [u8],
     key: Key,
     caller: usize,
     gather: &mut [u8],
     filled: usize,
-) -> usize
-    requires { Lent map.old img.old }
-    ensures value { result ≡ (line_end img.old key caller gather.old filled).code }
+) -> Result<(), Refusal>
+    ensures value { code_in result ≡ (line_end img.old key caller gather.old filled).code }
     ensures img_after { img.new ≡ (line_end img.old key caller gather.old filled).image }
     ensures gather_after { gather.new ≡ (line_end img.old key caller gather.old filled).buffer }
 {
-    let opened = consistency::open_mapped(img, map);
-    line_end_opened(img, map, opened, key, caller, gather, filled)
+    consistency::lend_map_beside(img, gather, |img, map, gather| {
+        let opened = consistency::open_mapped(img, map);
+        line_end_opened(img, map, opened, key, caller, gather, filled)
+    })
 }
 
 // In a pack that was opened.
@@ -339,25 +311,23 @@ pub fn line_end_opened(
     caller: usize,
     gather: &mut [u8],
     filled: usize,
-) -> usize
+) -> Result<(), Refusal>
     requires opened_value { opened ≡ opened_of img.old }
     requires mapped_if { MappedIf map.old img.old }
-    ensures value { result ≡ (line_end img.old key caller gather.old filled).code }
+    ensures value { code_in result ≡ (line_end img.old key caller gather.old filled).code }
     ensures img_after { img.new ≡ (line_end img.old key caller gather.old filled).image }
     ensures gather_after { gather.new ≡ (line_end img.old key caller gather.old filled).buffer }
     ensures mapped_if_2 { MappedIf map.new img.new }
 {
     let count = nuls_for(img, filled);
     let needed = stream::full_blocks(gather.len(), filled, count);
-    match stream::ask_write(img, map, opened, key, caller, false, gather, filled, needed) {
-        Asked::Refused(code) => code,
-        Asked::File(g, e, _) => {
-            let start = Filling {
-                filled,
-                from: BlockNo(g.blocks),
-            };
-            lay_nuls(img, map, g, e, gather, start, count);
-            0
-        }
-    }
+    let found = stream::ask_write(img, map, opened, key, caller, false, gather, filled, needed)?;
+    let g = found.geometry;
+    let e = found.number;
+    let start = Filling {
+        filled,
+        from: BlockNo(g.blocks),
+    };
+    lay_nuls(img, map, g, e, gather, start, count);
+    Ok(())
 }

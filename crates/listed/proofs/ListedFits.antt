@@ -2,7 +2,7 @@
 use Prim.Native.Nat.{ℕ}
 use mathlib.Core.Path.{sym, ◌∙◌}
 use mathlib.Core.List.{List}
-use Rattle.consistency.specs.declared.Opened.{Opened}
+use Rattle.consistency.specs.ConsistentTest.{Opened}
 use Rattle.requests.specs.Request.{Request, outcome}
 use Rattle.requests.specs.RequestMap.{Listable, map_after}
 use Rattle.requests.proofs.RequestOpened.{opened_stays}

@@ -8,7 +8,7 @@ use lib.Seq.{sets, sets-eq}
 use borrow.Rule.Slice.PartMut.{put_mid, mid_of, mid_len}
 use Rattle.words.specs.Word.{set_word, word_bytes}
 use Rattle.words.proofs.WordSlices.{part_back}
-use Rattle.consistency.specs.declared.Opened.{Opened}
+use Rattle.consistency.specs.ConsistentTest.{Opened}
 use Rattle.listed.specs.declared.Record.{Record}
 use Rattle.listed.specs.Record.{request_in}
 use Rattle.listed.specs.Listed.{listed_outcome, answer_bytes}

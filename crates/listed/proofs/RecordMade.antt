@@ -5,7 +5,7 @@ use mathlib.Core.List.{List, [], ◌∷◌}
 use mathlib.Core.Option.{none, some}
 use lib.ListN.{get_or}
 use Rattle.pack.specs.declared.Key.{Key}
-use Rattle.consistency.specs.declared.Opened.{Opened}
+use Rattle.consistency.specs.ConsistentTest.{Opened}
 use Rattle.creation.specs.Alloc.{alloc}
 use Rattle.creation.specs.AllocMap.{alloc_map}
 use Rattle.creation.specs.Openo.{openo}

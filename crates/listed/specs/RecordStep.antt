@@ -1,7 +1,7 @@
 -- Means: what the making of one record shows of image, map and answers.
 use Rattle.std.specs.Prelude.{ℕ, ◌*◌, ◌≡◌, List, get_or}
 use Rattle.std.proofs.lemmas.List.Edits.{sets}
-use Rattle.consistency.specs.declared.Opened.{Opened}
+use Rattle.consistency.specs.ConsistentTest.{Opened}
 use Rattle.consistency.specs.ConsistentTest.{opened_of}
 use Rattle.consistency.specs.Mapped.{MappedIf}
 use Rattle.listed.specs.declared.Record.{Record}

@@ -3,11 +3,12 @@
 
 ghost use Rattle.std.specs.Prelude.{◌≡◌, List, ◌∷◌, ℕ, ◌+◌, ◌*◌, ◌<◌, length, replicate};
 ghost use Rattle.words.specs.Word.{word_bytes};
+ghost use Rattle.answers.specs.Refusals.{code_in, answer_in};
 ghost use Rattle.consistency.specs.ConsistentTest.{opened_of};
 ghost use Rattle.listed.specs.Record.{file_in};
 ghost use Rattle.listed.specs.RecordStep.{Fits, Served, Stepped};
 
-use answers::Answer;
+use answers::{Answer, Refusal};
 use consistency::Opened;
 use opening::Opening;
 use pack::{Key, Segments};
@@ -30,10 +31,10 @@ pub struct Record {
 // Bytes of a record, and of an answer.
 pub const RECORD_BYTES: usize = 32;
 
-// The request that a record names, on an opened pack whose map is kept up.
-pub fn single(img: &mut [u8], map: &mut [u8], opened: Opened, r: Record) -> Answer
+// The request that a record names, on an opened pack whose map is kept up: its number is the first block of ALLOC, and 0 of any other.
+pub fn single(img: &mut [u8], map: &mut [u8], opened: Opened, r: Record) -> Result<usize, Refusal>
     requires { Fits img.old map.old opened }
-    ensures served { Served img.old r result.code result.number img.new }
+    ensures served { Served img.old r (answer_in result).code (answer_in result).number img.new }
     ensures fits { Fits img.new map.new opened }
 {
     let file = asking::key_of(r.caller, r.name1, r.name2, r.extension, r.uic);
@@ -41,25 +42,28 @@ pub fn single(img: &mut [u8], map: &mut [u8], opened: Opened, r: Record) -> Answ
     match request {
         1 => {
             let segments = Segments(r.word7);
-            creation::alloc::alloc_opened(img, map, opened, file, r.caller, r.word6, segments)
+            let start = creation::alloc::alloc_opened(
+                img, map, opened, file, r.caller, r.word6, segments,
+            )?;
+            Ok(start.0)
         }
         2 => {
-            let code = directory::delet::delet_opened(img, map, opened, file, r.caller);
-            Answer { code, number: 0 }
+            directory::delet::delet_opened(img, map, opened, file, r.caller)?;
+            Ok(0)
         }
         _ => {
-            let code = single_unmapped(img, opened, file, r);
-            Answer { code, number: 0 }
+            single_unmapped(img, opened, file, r)?;
+            Ok(0)
         }
     }
 }
 
 // One of those that take and give up no block, so that the map stays as it is; or none that a list may hold.
-fn single_unmapped(img: &mut [u8], opened: Opened, file: Key, r: Record) -> usize
+fn single_unmapped(img: &mut [u8], opened: Opened, file: Key, r: Record) -> Result<(), Refusal>
     requires opened_value { opened ≡ opened_of img.old }
     requires file_value { file ≡ file_in r }
     requires fact { (r.request ≡ 1 → ⊥) × (r.request ≡ 2 → ⊥) }
-    ensures served { Served img.old r result 0 img.new }
+    ensures served { Served img.old r (code_in result) 0 img.new }
     ensures by_index { (map : List ℕ) → Fits img.old map opened → Fits img.new map opened }
 {
     let request = r.request;
@@ -83,7 +87,7 @@ fn single_unmapped(img: &mut [u8], opened: Opened, file: Key, r: Record) -> usiz
         8 => opening::opens::open_opened(img, opened, Opening::Update, file, r.caller),
         9 => opening::opens::open_opened(img, opened, Opening::Extension, file, r.caller),
         10 => opening::close::close_opened(img, opened, file, r.word6),
-        _ => 0o41,
+        _ => Err(Refusal::WrongArgument),
     }
 }
 
@@ -99,7 +103,7 @@ pub fn beside(
     requires { Fits img.old map.old opened × (32 * i + 31 < length answers.old) }
     ensures { Stepped img.old answers.old opened i r img.new map.new answers.new }
 {
-    let answer = single(img, map, opened, r);
+    let answer = Answer::from(single(img, map, opened, r));
     let start = RECORD_BYTES * i;
     let end = start + RECORD_BYTES;
     put_answer(&mut answers[start..end], answer);
@@ -110,7 +114,7 @@ fn put_answer(part: &mut [u8], answer: Answer)
     requires { (length part.old ≡ 32) × (answer.code < 65536) × (answer.number < 65536) }
     ensures { part.new ≡ word_bytes (answer.code ∷ (answer.number ∷ replicate 14 0)) }
 {
-    words::clear(part);
+    part.fill(0);
     words::set_word(part, 0, answer.code);
     words::set_word(part, 1, answer.number);
 }

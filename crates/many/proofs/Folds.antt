@@ -8,7 +8,7 @@ use native.Mathlib.Nat.{add-zero, add-suc, suc-add}
 use lib.ListN.{length, drop, get_or, set}
 use lib.Seq.{sets, drop-cons, drop-length}
 use Rattle.asking.specs.Outcome.{Outcome}
-use Rattle.consistency.specs.declared.Opened.{Opened}
+use Rattle.consistency.specs.ConsistentTest.{Opened}
 use Rattle.listed.specs.declared.Record.{Record}
 use Rattle.listed.specs.Record.{request_in, requests_in}
 use Rattle.listed.specs.Listed.{listed_outcome, image_after, answer_bytes, answers_after}

@@ -13,7 +13,7 @@ use Rattle.answers.specs.Refusals.{first_of}
 use Rattle.answers.proofs.Refusals.{refuse, pass, clear}
 use Rattle.asking.specs.Outcome.{Outcome}
 use Rattle.asking.proofs.Outcome.{settled_refused, settled_success}
-use Rattle.consistency.specs.declared.Opened.{Opened}
+use Rattle.consistency.specs.ConsistentTest.{Opened}
 use Rattle.requests.specs.Request.{Request}
 use Rattle.listed.specs.declared.Record.{Record}
 use Rattle.listed.specs.Record.{requests_in}

@@ -1,7 +1,7 @@
 -- Means: what the making of the records of a list shows of image, map and answers.
 use Rattle.std.specs.Prelude.{ℕ, ◌≡◌, List}
 use Rattle.std.proofs.lemmas.List.Edits.{sets}
-use Rattle.consistency.specs.declared.Opened.{Opened}
+use Rattle.consistency.specs.ConsistentTest.{Opened}
 use Rattle.listed.specs.declared.Record.{Record}
 use Rattle.listed.specs.Record.{requests_in}
 use Rattle.listed.specs.Listed.{image_after, answers_after}

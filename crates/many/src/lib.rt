@@ -3,6 +3,7 @@
 
 ghost use Rattle.std.specs.Prelude.{◌≡◌, ◌+◌, ◌*◌, ◌/◌, ◌<◌, ◌≤◌, length, take};
 ghost use Rattle.std.proofs.lemmas.List.Edits.{sets};
+ghost use Rattle.answers.specs.Refusals.{code_in};
 ghost use Rattle.consistency.specs.Mapped.{Lent};
 ghost use Rattle.listed.specs.Listed.{image_after, answers_after};
 ghost use Rattle.listed.specs.RecordStep.{Fits};
@@ -10,6 +11,7 @@ ghost use Rattle.many.specs.Layout.{record_at, records_in};
 ghost use Rattle.many.specs.Many.{requests_of, many as manyOutcome};
 ghost use Rattle.many.specs.ManyStep.{Folded};
 
+use answers::Refusal;
 use consistency::Opened;
 use listed::{RECORD_BYTES, Record};
 
@@ -21,10 +23,8 @@ pub fn many(img: &mut [u8], map: &mut [u8], answers: &mut [u8], opened: Opened, 
     requires { Fits img.old map.old opened × (32 * length records.now ≤ length answers.old) }
     ensures { Folded img.old answers.old opened records.now img.new map.new answers.new }
 {
-    let mut i = 0;
-    while i < records.len() {
+    for i in 0..records.len() {
         listed::beside(img, map, answers, opened, i, records[i]);
-        i += 1;
     }
 }
 
@@ -95,33 +95,31 @@ fn decode(bytes: &[u8], count: usize) -> [Record; MOST_RECORDS]
     ensures { take count result ≡ records_in bytes.now count }
 {
     let mut list = blank();
-    let mut i = 0;
-    while i < count {
+    for i in 0..count {
         let r = record_at(bytes, i);
         list[i] = r;
-        i += 1;
     }
     list
 }
 
 // Requests as bytes, and answers likewise.
-pub fn serve(img: &mut [u8], records: &[u8], answers: &mut [u8]) -> usize
-    ensures value { result ≡ (manyOutcome img.old records.now answers.old).code }
+pub fn serve(img: &mut [u8], records: &[u8], answers: &mut [u8]) -> Result<(), Refusal>
+    ensures value { code_in result ≡ (manyOutcome img.old records.now answers.old).code }
     ensures img_after { img.new ≡ (manyOutcome img.old records.now answers.old).image }
     ensures answers_after { answers.new ≡ (manyOutcome img.old records.now answers.old).buffer }
 {
     let size = records.len();
     if MOST_RECORDS < size / RECORD_BYTES {
-        return 0o41;
+        return Err(Refusal::WrongArgument);
     }
     if size % RECORD_BYTES != 0 {
-        return 0o41;
+        return Err(Refusal::WrongArgument);
     }
     if answers.len() < size {
-        return 0o41;
+        return Err(Refusal::WrongArgument);
     }
     serve_all(img, records, answers);
-    0
+    Ok(())
 }
 
 // Whole records, not too many, and room for their answers. A small pack does not pay for the clearing of a large map.
@@ -130,18 +128,9 @@ fn serve_all(img: &mut [u8], records: &[u8], answers: &mut [u8])
     ensures img_after { img.new ≡ image_after img.old (requests_of records.now) }
     ensures answers_after { answers.new ≡ sets answers.old 0 (answers_after img.old (requests_of records.now)) }
 {
-    if img.len() <= consistency::FEW_BYTES {
-        let mut map = [0u8; consistency::FEW_BLOCKS];
-        serve_lent(img, &mut map, records, answers);
-        return;
-    }
-    if img.len() <= consistency::MANY_BYTES {
-        let mut map = [0u8; consistency::MANY_BLOCKS];
-        serve_lent(img, &mut map, records, answers);
-        return;
-    }
-    let mut map = [0u8; pack::MOST_BLOCKS];
-    serve_lent(img, &mut map, records, answers);
+    consistency::lend_map_beside(img, answers, |img, map, answers| {
+        serve_lent(img, map, records, answers)
+    });
 }
 
 // On a lent map: the pack is opened once.

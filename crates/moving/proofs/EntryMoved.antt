@@ -7,25 +7,16 @@ use lib.ListN.{length}
 use Rattle.words.specs.Word.{set_word}
 use Rattle.pack.specs.declared.Geometry.{Geometry}
 use Rattle.pack.specs.Geometry.{slots, block_words}
-use Rattle.pack.specs.GeometrySized.{most_blocks, most_segments, Sized}
 use Rattle.pack.specs.Entry.{entry_word, entry_of}
-use Rattle.pack.proofs.GeometryRoom.{slots_few, sized_few}
 use Rattle.moving.specs.declared.Way.{Way}
 use Rattle.moving.specs.Ways.{renumbered}
 use Rattle.moving.specs.MovedParts.{Source, Partly, Walked}
-use Rattle.moving.proofs.MovedMeasures.{source_sized}
 use Rattle.moving.proofs.SourceNumbers.{first_number, last_number, number_small}
 use Rattle.moving.proofs.MovedPartsSteps.{partly_same, partly_words, total_room}
 use Rattle.moving.proofs.MovedPartsWalked.{walked_other}
 use Rattle.moving.specs.LinkWalk.{LinkedEntry}
 
 module _ {src : List ℕ} {g : Geometry} {way : Way} (source : Source way src g) where
-  pub sized : Sized src g
-  sized = source_sized source.stated source.movable
-
-  pub few : (g.contents ≤ most_blocks) × (g.segments.0 ≤ most_segments)
-  few = sized_few sized
-
   module _ {e : ℕ} (within : e < slots g) where
     pub chain_other : {now : List ℕ} {kind : ℕ} → kind ≡ entry_word src g e 5 → (kind ≡ 2 → ⊥) → Partly way src now g e
         (Walked src g e 0) → Partly way src now g e (Walked src g (e + 1) 0)
@@ -46,9 +37,6 @@ module _ {src : List ℕ} {g : Geometry} {way : Way} (source : Source way src g)
     pub last_small : {last read : ℕ} → last ≡ renumbered way read → read ≡ entry_word src g e 8 → last < 65536
     unfolding entry_of
     last_small is read = omega (arith, is, ap (renumbered way) read, number_small source.stated source.movable (entry_word src g e 8) (last_number source.stated source.movable e within))
-
-    pub entry_few : {words : ℕ} → words ≡ block_words g → words + 16 * e + 16 ≤ 16777216
-    entry_few is = omega (arith, is, sized.few, slots_few g (sized_few sized).0 (sized_few sized).1)
 
     pub entry_inside : {now : List ℕ} {words : ℕ} (i : ℕ) {Done : ℕ → Type 0} → Partly way src now g e Done → words ≡ block_words g → i < 16 → 2 *
         (words + 16 * e + i) + 1 < length now

@@ -1,13 +1,10 @@
 -- The words of a map written one after another.
 use Prim.Native.Nat.{ℕ, ◌+◌, ◌*◌, ◌/◌, ◌≤◌, ◌<◌}
-use mathlib.Core.Path.{◌≡◌, refl, sym, ap, subst, ◌∙◌}
-use mathlib.Core.Bool.{false}
+use mathlib.Core.Path.{◌≡◌, sym, ap, subst, ◌∙◌}
 use mathlib.Core.List.{List}
 use native.Mathlib.Omega.{arith}
 use native.Mathlib.Decide.{ℕ_discrete}
-use lib.Dec.{ltb}
 use lib.ListN.{length}
-use borrow.Author.Tests.{lt-ltb}
 use Rattle.words.specs.Word.{word_at, set_word}
 use Rattle.words.proofs.Word.{length_set_word, word_set_same, word_set_other, byte_set_other}
 use Rattle.pack.specs.declared.Geometry.{Geometry}
@@ -15,16 +12,11 @@ use Rattle.pack.specs.Geometry.{block_words}
 use Rattle.pack.specs.GeometrySized.{Sized}
 use Rattle.pack.specs.Map.{HasMap, map_at, map_bits, map_bit}
 use Rattle.pack.proofs.MapSet.{map_room}
-use Rattle.answers.proofs.RefusalsTests.{true_not_false}
-use Rattle.consistency.specs.Walk.{system_set}
-use Rattle.consistency.specs.MapTest.{bits_from, mark_on}
+use Rattle.consistency.specs.MapTest.{bits_from}
 use Rattle.moving.specs.MovedParts.{MapWritten}
 use Rattle.moving.proofs.MapWords.{map_bit_law}
 
 module _ {before : List ℕ} {h : Geometry} {bit : ℕ → ℕ} where
-  pub write_none : MapWritten before before h bit 0
-  write_none = record { long = refl; word = λ v early. absurd (omega (arith, early)); below = λ k less. refl; above = λ k past. refl }
-
   module _ {now : List ℕ} {w words : ℕ} (written : MapWritten before now h bit w) (many : words ≡ block_words h) where
     pub write_more : {word : ℕ} {next : List ℕ} → Sized before h → HasMap h → w < words → word ≡ bits_from bit (16 * w) 16
         → next ≡ set_word now ((h.contents + 1) * words + w) word → MapWritten before next h bit (w + 1)
@@ -52,9 +44,6 @@ module _ {before : List ℕ} {h : Geometry} {bit : ℕ → ℕ} where
               above = λ k past. byte_set_other now (map_at h + w) word k (λ is. omega (arith, is, past)) (λ is. omega (arith, is, past)) ∙ written.above k (omega arith);
             }
 
-    pub write_end : w ≤ words → words ≤ w → MapWritten before now h bit (block_words h)
-    write_end low high = let whole : w ≡ block_words h = omega (arith, many) in subst (MapWritten before now h bit) whole written
-
     -- each of its words stands in the target
     pub write_room : Sized before h → HasMap h → w < words → 2 * ((h.contents + 1) * words + w) + 1 < length now
     write_room sized there inside = rw many (omega (arith, map_room sized there w (omega (arith, inside, many)), written.long))
@@ -62,13 +51,3 @@ module _ {before : List ℕ} {h : Geometry} {bit : ℕ → ℕ} where
   -- the bits of a map that is written
   pub written_bit : {after : List ℕ} → ((i : ℕ) → bit i ≤ 1) → MapWritten before after h bit (block_words h) → (b : ℕ) → b < map_bits h → map_bit after h b ≡ bit b
   written_bit {after} few written b within = map_bit_law after h bit few b (written.word (b / 16) (omega (arith, within)))
-
--- where the form has no map nothing is written, and where it has one, with the system's blocks marked
-pub made_none : {img : List ℕ} {h : Geometry} {bit : ℕ → ℕ} {w : ℕ} → ltb (h.contents + 1) h.bodies.0 ≡ false
-    → (HasMap h → MapWritten img img h bit w) × ((HasMap h → ⊥) → img ≡ img)
-made_none {img} {h} none = (λ there. true_not_false (sym (lt-ltb (h.contents + 1) h.bodies.0 there) ∙ none), λ absent. refl)
-
-pub made_there : {before after marked : List ℕ} {h : Geometry} {w : ℕ} (places : List ℕ) (count : ℕ) → HasMap h → marked ≡ system_set places count 1
-    → MapWritten before after h (mark_on marked) w → (HasMap h → MapWritten before after h (mark_on (system_set places count 1)) w) × ((HasMap h → ⊥) → after ≡ before)
-made_there {before} {after} {marked} {h} {w} places count there sets written =
-    (λ has. subst (λ (l : List ℕ). MapWritten before after h (mark_on l) w) sets written, λ absent. absurd (absent there))

@@ -15,8 +15,8 @@ use Rattle.pack.specs.Header.{Measured}
 use Rattle.pack.specs.HeaderTest.{measured}
 use Rattle.pack.specs.GeometrySized.{Sized}
 use Rattle.pack.proofs.HeaderTestMeasures.{measured_is, is_measured}
-use Rattle.consistency.specs.declared.Opened.{Opened}
-use Rattle.consistency.specs.declared.Opened.TheVariants.{Good, Bad}
+use Rattle.consistency.specs.ConsistentTest.{Opened}
+use Rattle.std.specs.Prelude.{Some, None}
 use Rattle.consistency.specs.ConsistentTest.{consistent, opened_of}
 use Rattle.consistency.proofs.ConsistentTestIff.{consistent_iff, opened_good, opened_bad}
 use Rattle.moving.specs.declared.Way.{Way}
@@ -28,8 +28,8 @@ use Rattle.moving.specs.MovedParts.{Source}
 use Rattle.moving.proofs.MovedMeasures.{same_segments, stated_segments_law, stated_blocks, stated_contents, measures_there}
 
 -- what is known of a source that was opened
-module _ (src : List ℕ) {opened : Opened} (is : opened ≡ opened_of src) {g : Geometry} (good : opened ≡ Good g) where
-  good_sized : Sized src g
+module _ (src : List ℕ) {opened : Opened} (is : opened ≡ opened_of src) {g : Geometry} (good : opened ≡ Some g) where
+  pub good_sized : Sized src g
   good_sized = (opened_good src g (sym is ∙ good)).2
 
   pub good_test : consistent src ≡ true
@@ -47,10 +47,10 @@ module _ (src : List ℕ) {opened : Opened} (is : opened ≡ opened_of src) {g :
 
 module _ (way : Way) (src target : List ℕ) {opened : Opened} (is : opened ≡ opened_of src) where
   -- "40, source not consistent"
-  pub refused_bad : opened ≡ Bad → Moving way src target 0o40 target
+  pub refused_bad : opened ≡ None → Moving way src target 0o40 target
   refused_bad bad = other_source (λ right. true_not_false (sym ((consistent_iff src).1 right.consistent) ∙ opened_bad src (sym is ∙ bad)))
 
-  module _ {g : Geometry} (good : opened ≡ Good g) where
+  module _ {g : Geometry} (good : opened ≡ Some g) where
     stated : g ≡ geometry_of src
     stated = sym (opened_good src g (sym is ∙ good)).1
 

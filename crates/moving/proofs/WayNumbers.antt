@@ -1,5 +1,5 @@
 -- The numbers of both ways: all that the other laws know of them.
-use Prim.Native.Nat.{ℕ, ◌+◌, ◌-◌, ◌≤◌, ◌<◌}
+use Prim.Native.Nat.{ℕ, ◌+◌, ◌≤◌, ◌<◌}
 use mathlib.Core.Path.{◌≡◌, refl, sym, ap, ◌∙◌}
 use mathlib.Core.Logic.{◌⊎◌, inl, inr}
 use native.Mathlib.Omega.{arith}
@@ -98,20 +98,3 @@ renumbered_again way x (inl none) =
 renumbered_again way x (inr some) =
     ap (renumbered (back way)) (renumbered_some way x (omega arith))
     ∙ (renumbered_some (back way) (moved way x) (moved_some way x some) ∙ moved_again way x some)
-
--- as the code counts them
-pub number_up : (way : Way) (b : ℕ) → way ≡ Up → b + 1 ≡ moved way b
-unfolding moved
-number_up Up b is = refl
-number_up Down b is = cc
-
-pub number_down : (way : Way) (b : ℕ) → way ≡ Down → b - 1 ≡ moved way b
-unfolding moved
-number_down Up b is = cc
-number_down Down b is = refl
-
-pub number_none : (way : Way) {b : ℕ} → b ≡ 0 → 0 ≡ renumbered way b
-number_none way none = sym (renumbered_none way) ∙ ap (renumbered way) (sym none)
-
-pub number_some : (way : Way) {b there : ℕ} → (b ≡ 0 → ⊥) → there ≡ moved way b → there ≡ renumbered way b
-number_some way {b} some is = is ∙ sym (renumbered_some way b (omega (arith, some)))

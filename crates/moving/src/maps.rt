@@ -29,11 +29,9 @@ fn write_map(target: &mut [u8], marks: &[u8], h: Geometry)
     let segments = h.segments;
     let words = segments.words();
     let at = (h.contents + 1) * words;
-    let mut w = 0;
-    while w < words {
+    for w in 0..words {
         let word = consistency::word_of(marks, h.blocks, w);
         words::set_word(target, at + w, word);
-        w += 1;
     }
 }
 

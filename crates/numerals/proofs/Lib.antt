@@ -7,3 +7,4 @@ pub mod RemainingReading
 pub mod RemainingWriting
 pub mod DecimalAgain
 pub mod OctalAgain
+pub mod Answered

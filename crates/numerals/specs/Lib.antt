@@ -1,6 +1,6 @@
 -- Numbers in decimal and octal digits.
 pub mod Digits
-pub mod Numeral
 pub mod Remaining
 pub mod Decimal
 pub mod Octal
+pub mod Notations

@@ -14,8 +14,8 @@ use Rattle.pack.specs.declared.Key.{Key}
 use Rattle.pack.specs.Geometry.{slots}
 use Rattle.pack.specs.GeometrySized.{Sized}
 use Rattle.pack.specs.EntryWords.{set_entry_word}
-use Rattle.asking.specs.declared.Asked.{Asked}
-use Rattle.asking.specs.declared.Asked.TheVariants.{File, Refused}
+use Rattle.asking.specs.AskedStage.{Asked}
+use Rattle.asking.specs.AskedStage.{File, Refused}
 use Rattle.asking.specs.AskedStage.{file_rows, asked_of, stage_of}
 use Rattle.asking.specs.Asked.{file_of}
 use Rattle.asking.proofs.AskedStage.{stage_clear, stage_refused, stage_stopped, stage_passed, Given, stage_is_file, writing_refused, writing_done}

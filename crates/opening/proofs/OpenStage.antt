@@ -4,8 +4,8 @@ use mathlib.Core.Path.{◌≡◌, refl, sym, ap, subst, ◌∙◌}
 use mathlib.Core.Bool.{true, false}
 use mathlib.Core.List.{List}
 use native.Mathlib.Omega.{arith}
-use Rattle.answers.specs.declared.Verdict.{Verdict}
-use Rattle.answers.specs.declared.Verdict.TheVariants.{Clear, Refused as Stopped}
+use Rattle.answers.specs.Stage.{Verdict}
+use Rattle.answers.specs.Stage.{Clear, Refused as Stopped}
 use Rattle.answers.specs.Refusals.{first_of, table_order, in_order}
 use Rattle.answers.specs.Stage.{verdict_of}
 use Rattle.answers.proofs.Stage.{told_clear, told_refused}
@@ -15,8 +15,8 @@ use Rattle.pack.specs.declared.Key.{Key}
 use Rattle.pack.specs.Geometry.{slots}
 use Rattle.pack.specs.GeometrySized.{Sized}
 use Rattle.pack.specs.EntryWords.{set_entry_word}
-use Rattle.asking.specs.declared.Asked.{Asked}
-use Rattle.asking.specs.declared.Asked.TheVariants.{File, Refused}
+use Rattle.asking.specs.AskedStage.{Asked}
+use Rattle.asking.specs.AskedStage.{File, Refused}
 use Rattle.asking.specs.AskedStage.{file_rows, asked_of, stage_of}
 use Rattle.asking.specs.Asked.{file_of}
 use Rattle.asking.specs.Opens.{opens}

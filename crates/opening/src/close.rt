@@ -1,16 +1,18 @@
 // CLOSE.
 ghost use Rattle.std.specs.Prelude.{◌≡◌};
 ghost use Rattle.consistency.specs.ConsistentTest.{opened_of};
-ghost use Rattle.asking.specs.AskedStage.{stage_of};
-ghost use Rattle.opening.specs.CloseRows.{is_open_as, close_rows};
+ghost use Rattle.answers.specs.Refusals.{code_in};
+ghost use Rattle.asking.specs.AskedStage.{asked_in, stage_of};
+ghost use Rattle.opening.specs.CloseRows.{wrong_mode, is_open_as, close_rows};
 ghost use Rattle.opening.specs.Close.{close};
 
-use asking::Asked;
+use answers::Refusal;
+use asking::Found;
 use consistency::Opened;
 use pack::{Entry, Key};
 
-pub fn close(img: &mut [u8], key: Key, mode: usize) -> usize
-    ensures value { result ≡ (close img.old key mode).code }
+pub fn close(img: &mut [u8], key: Key, mode: usize) -> Result<(), Refusal>
+    ensures value { code_in result ≡ (close img.old key mode).code }
     ensures img_after { img.new ≡ (close img.old key mode).image }
 {
     let opened = consistency::open_pack(img);
@@ -18,39 +20,40 @@ pub fn close(img: &mut [u8], key: Key, mode: usize) -> usize
 }
 
 // In a pack that was opened.
-pub fn close_opened(img: &mut [u8], opened: Opened, key: Key, mode: usize) -> usize
+pub fn close_opened(img: &mut [u8], opened: Opened, key: Key, mode: usize) -> Result<(), Refusal>
     requires { opened ≡ opened_of img.old }
-    ensures value { result ≡ (close img.old key mode).code }
+    ensures value { code_in result ≡ (close img.old key mode).code }
     ensures img_after { img.new ≡ (close img.old key mode).image }
 {
-    match decide_close(img, opened, key, mode) {
-        Asked::Refused(code) => code,
-        Asked::File(g, e, x) => {
-            if mode == 4 {
-                pack::set_entry_word(img, g, e, 10, x.readers - 1);
-                return 0;
-            }
-            pack::set_entry_word(img, g, e, 9, 0);
-            0
-        }
+    let found = decide_close(img, opened, key, mode)?;
+    if mode == 4 {
+        let readers = found.entry.readers - 1;
+        pack::set_entry_word(img, found.geometry, found.number, 10, readers);
+        return Ok(());
     }
+    pack::set_entry_word(img, found.geometry, found.number, 9, 0);
+    Ok(())
 }
 
-fn decide_close(img: &[u8], opened: Opened, key: Key, mode: usize) -> Asked
+fn decide_close(img: &[u8], opened: Opened, key: Key, mode: usize) -> Result<Found, Refusal>
     requires { opened ≡ opened_of img.now }
-    ensures { result ≡ stage_of (close_rows img.now key mode) img.now key }
+    ensures { asked_in result ≡ stage_of (close_rows img.now key mode) img.now key }
 {
-    let wrong = (mode == 0) | (4 < mode);
-    let asked = asking::ask_file(img, opened, key, wrong);
-    let Asked::File(_, _, x) = asked else {
-        return asked;
-    };
-    if !is_open_as(mode, x) {
-        return Asked::Refused(0o45);
+    let found = asking::ask_file(img, opened, key, is_wrong(mode))?;
+    if !is_open_as(mode, found.entry) {
+        return Err(Refusal::NotOpen);
     }
-    asked
+    Ok(found)
 }
 
+// "41: .. mode not 1 to 4"
+fn is_wrong(mode: usize) -> bool
+    ensures { result ≡ wrong_mode mode }
+{
+    mode == 0 || 4 < mode
+}
+
+#[tactic(auto, unfolding(crate::specs::CloseRows::is_open_as))]
 fn is_open_as(mode: usize, x: Entry) -> bool
     ensures { result ≡ is_open_as mode x }
 {

@@ -5,24 +5,23 @@ use mathlib.Core.Bool.{true, false, not}
 use mathlib.Core.List.{List, [], ◌∷◌}
 use native.Mathlib.Omega.{arith}
 use borrow.Author.Tests.{le-leb, lt-leb}
-use Rattle.answers.specs.Refusals.{first_of, table_order, in_order}
+use Rattle.answers.specs.declared.Refusal.TheVariants.{Inconsistent, NoSuchBlock}
+use Rattle.answers.specs.Refusals.{first_of, code_of, table_order, in_order}
 use Rattle.answers.proofs.Refusals.{refuse, pass, clear}
 use Rattle.pack.specs.declared.Geometry.{Geometry}
-use Rattle.pack.specs.declared.Place.{Place}
 use Rattle.pack.specs.declared.Owner.{Owner}
 use Rattle.pack.specs.declared.Owner.TheVariants.{System, Free, Held}
 use Rattle.pack.specs.Geometry.{geometry_of}
 use Rattle.pack.specs.Consistent.{Consistent}
 use Rattle.pack.specs.Owner.{owner_of}
-use Rattle.consistency.specs.declared.Opened.{Opened}
-use Rattle.consistency.specs.declared.Opened.TheVariants.{Good, Bad}
+use Rattle.consistency.specs.ConsistentTest.{Opened}
+use Rattle.std.specs.Prelude.{Some, None, Ok, Err}
 use Rattle.consistency.specs.ConsistentTest.{consistent, opened_of}
 use Rattle.consistency.proofs.ConsistentTestIff.{consistent_iff, opened_good, opened_bad}
 use Rattle.asking.specs.Outcome.{Outcome, zeroed}
 use Rattle.asking.proofs.Outcome.{settled_refused, settled_success}
-use Rattle.owners.specs.declared.OwnerAnswer.{OwnerAnswer}
 use Rattle.owners.specs.OwnerQuestionRows.{owner_rows}
-use Rattle.owners.specs.OwnerQuestion.{owner_numbers, owner, owner_outcome}
+use Rattle.owners.specs.OwnerQuestion.{owner_numbers, owner, owner_answer, owner_outcome}
 
 -- 40 and 44 stand in the order of the table
 pub owner_ordered : (img : List ℕ) (b : ℕ) → in_order table_order 0 (owner_rows img b) ≡ true
@@ -32,6 +31,12 @@ owner_ordered img b = refl
 -- the effect on success
 abbrev pub told : List ℕ → Owner → Outcome
 told img o = record { code = 0; numbers = owner_numbers o; image = img; buffer = [] }
+
+answered : (img : List ℕ) (o : Owner) → owner_outcome img (owner_answer (Ok o)) ≡ told img o
+unfolding owner_numbers
+answered img System = refl
+answered img Free = refl
+answered img (Held e p) = refl
 
 -- of three numbers each is 0 on a refusal
 zeros : (o : Owner) → zeroed (owner_numbers o) ≡ 0 ∷ (0 ∷ (0 ∷ []))
@@ -65,11 +70,11 @@ tells img b right inside = settled_success (owner_rows img b) img [] (told img (
 
 -- the answers, by what a pack was opened as
 module _ (img : List ℕ) (r : Opened) (is : r ≡ opened_of img) (b : ℕ) where
-  pub owner_40 : r ≡ Bad → (a : OwnerAnswer) → a ≡ record { code = 0o40; kind = 0; entry = 0; place = 0 } → owner_outcome img a ≡ owner img b
-  owner_40 bad a given =
-      ap (owner_outcome img) given ∙ sym (refuses img b 0o40 (first_40 img b (opened_bad img (sym is ∙ bad))) (λ never. omega arith))
+  pub owner_40 : r ≡ None → owner_outcome img (owner_answer (Err Inconsistent)) ≡ owner img b
+  unfolding code_of
+  owner_40 bad = sym (refuses img b 0o40 (first_40 img b (opened_bad img (sym is ∙ bad))) (λ never. omega arith))
 
-  module _ (g : Geometry) (good : r ≡ Good g) where
+  module _ (g : Geometry) (good : r ≡ Some g) where
     right : Consistent img
     right = (opened_good img g (sym is ∙ good)).0
 
@@ -82,22 +87,9 @@ module _ (img : List ℕ) (r : Opened) (is : r ≡ opened_of img) (b : ℕ) wher
     blocks : (geometry_of img).blocks ≡ g.blocks
     blocks = ap (λ (h : Geometry). h.blocks) measures
 
-    pub owner_44 : g.blocks ≤ b → (a : OwnerAnswer) → a ≡ record { code = 0o44; kind = 0; entry = 0; place = 0 } → owner_outcome img a ≡ owner img b
-    owner_44 beyond a given =
-        ap (owner_outcome img) given ∙ sym (refuses img b 0o44 (first_44 img b test (omega (arith, blocks))) (λ never. omega arith))
+    pub owner_44 : g.blocks ≤ b → owner_outcome img (owner_answer (Err NoSuchBlock)) ≡ owner img b
+    unfolding code_of
+    owner_44 beyond = sym (refuses img b 0o44 (first_44 img b test (omega (arith, blocks))) (λ never. omega arith))
 
-    module _ (inside : b < g.blocks) (o : Owner) (of : o ≡ owner_of img b) where
-      tells_of : (v : Owner) → o ≡ v → told img v ≡ owner img b
-      tells_of v at = ap (told img) (sym at ∙ of) ∙ sym (tells img b test (omega (arith, blocks)))
-
-      pub answer_system : o ≡ System → owner_outcome img (record { code = 0; kind = 0; entry = 0; place = 0 }) ≡ owner img b
-      unfolding owner_numbers
-      answer_system at = tells_of System at
-
-      pub answer_free : o ≡ Free → owner_outcome img (record { code = 0; kind = 1; entry = 0; place = 0 }) ≡ owner img b
-      unfolding owner_numbers
-      answer_free at = tells_of Free at
-
-      pub answer_held : (e : ℕ) (p : Place) → o ≡ Held e p → owner_outcome img (record { code = 0; kind = 2; entry = e; place = p.0 }) ≡ owner img b
-      unfolding owner_numbers
-      answer_held e p at = tells_of (Held e p) at
+    pub owner_answered : b < g.blocks → (o : Owner) → o ≡ owner_of img b → owner_outcome img (owner_answer (Ok o)) ≡ owner img b
+    owner_answered inside o of = answered img o ∙ (ap (told img) of ∙ sym (tells img b test (omega (arith, blocks))))

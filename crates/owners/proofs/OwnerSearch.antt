@@ -18,8 +18,8 @@ use Rattle.pack.specs.Consistent.{Consistent}
 use Rattle.pack.specs.Owner.{place_from, held_or, holder, owner_of}
 use Rattle.pack.proofs.HeaderRules.{header_sized}
 use Rattle.pack.proofs.FileCount.{count_same, count_split}
-use Rattle.owners.specs.declared.Seen.{Seen}
-use Rattle.owners.specs.declared.Seen.TheVariants.{At, Nothing}
+use Rattle.std.specs.Prelude.{Some, None}
+use Rattle.std.specs.declared.option.Option.{Option as Answered}
 use Rattle.owners.specs.Seen.{seen_in}
 use Rattle.owners.proofs.EntryBlocks.{reaches_bodies}
 
@@ -87,20 +87,28 @@ module _ {img : List ℕ} {g : Geometry} (right : Consistent img) (measures : ge
           (λ at some. (reaches_bodies z e right at some).1) inside reached
 
 -- what entry e says, or that the entries behind it decide
-module _ (img : List ℕ) (g : Geometry) (b e end : ℕ) (before : e < end) (x : Entry) (is : x ≡ entry_of img g e) (r : Seen) (seen : seen_in r ≡ place_from b 0 (blocks_of img g x)) where
+module _
+    (img : List ℕ)
+    (g : Geometry)
+    (b e end : ℕ)
+    (before : e < end)
+    (x : Entry)
+    (is : x ≡ entry_of img g e)
+    (r : Answered Place)
+    (seen : seen_in r ≡ place_from b 0 (blocks_of img g x)) where
   entries_left : end - e ≡ suc (end - (e + 1))
   entries_left = omega arith
 
   found : place_from b 0 (blocks_at img g e) ≡ seen_in r
   found = ap (λ (y : Entry). place_from b 0 (blocks_of img g y)) (sym is) ∙ sym seen
 
-  pub holder_here : (place : Place) → r ≡ At place → holder img g b e (end - e) ≡ Held e place
+  pub holder_here : (place : Place) → r ≡ Some place → holder img g b e (end - e) ≡ Held e place
   unfolding holder
   holder_here place at =
       ap (holder img g b e) entries_left
       ∙ ap (held_or e (holder img g b (e + 1) (end - (e + 1)))) (found ∙ ap seen_in at)
 
-  pub holder_next : r ≡ Nothing → holder img g b e (end - e) ≡ holder img g b (e + 1) (end - (e + 1))
+  pub holder_next : r ≡ None → holder img g b e (end - e) ≡ holder img g b (e + 1) (end - (e + 1))
   unfolding holder
   holder_next nothing =
       ap (holder img g b e) entries_left

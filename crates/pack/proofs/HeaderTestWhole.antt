@@ -8,7 +8,7 @@ use native.Mathlib.Omega.{arith}
 use lib.ListN.{length}
 use Rattle.answers.proofs.RefusalsTests.{and_left, and_right, and_both, go_on, stop}
 use Rattle.words.specs.Word.{word_at}
-use Rattle.pack.specs.declared.Header.TheVariants.{Right, Wrong}
+use Rattle.std.specs.Prelude.{Some, None}
 use Rattle.pack.specs.Form.{segments_of, bodies_of}
 use Rattle.pack.specs.Geometry.{geometry_of, segment_words}
 use Rattle.pack.specs.Header.{uic_count, RightHeader}
@@ -45,11 +45,11 @@ pub header_iff : (img : List ℕ) → header_test img ≡ true ↔ RightHeader i
 header_iff img = (header_is img, is_header img)
 
 module _ (img : List ℕ) where
-  pub header_wrong : header_test img ≡ false → Wrong ≡ header_of img
+  pub header_wrong : header_test img ≡ false → None ≡ header_of img
   unfolding header_of
   header_wrong h = rw h
 
-  pub header_short : length img < 8 → Wrong ≡ header_of img
+  pub header_short : length img < 8 → None ≡ header_of img
   header_short short = header_wrong (not_right (header_test img) refl)
     where
       not_right : (b : Bool) → header_test img ≡ b → header_test img ≡ false
@@ -60,22 +60,22 @@ module _ (img : List ℕ) where
     at_words : measured (length img) form blocks contents uics ≡ measured (length img) (word_at img 0) (word_at img 1) (word_at img 2) (uic_count img)
     at_words = rw (is₀, is₁, is₂, is₃)
 
-    pub not_measured : measured (length img) form blocks contents uics ≡ false → Wrong ≡ header_of img
+    pub not_measured : measured (length img) form blocks contents uics ≡ false → None ≡ header_of img
     unfolding header_test
     not_measured h = header_wrong (sym (stop _ _ (sym at_words ∙ h)))
 
     module _ (m : measured (length img) form blocks contents uics ≡ true) where
-      pub not_distinct : distinct img 4 uics ≡ false → Wrong ≡ header_of img
+      pub not_distinct : distinct img 4 uics ≡ false → None ≡ header_of img
       unfolding header_test
       not_distinct h = header_wrong (sym (go_on (sym at_words ∙ m) (stop _ _ (rw is₃ at h))))
 
       module _ (d : distinct img 4 uics ≡ true) (segments words : ℕ) (is : segments ≡ segments_of form) (size : words ≡ segment_words segments) where
-        pub not_zeros : zeros img (4 + uics) (words - (4 + uics)) ≡ false → Wrong ≡ header_of img
+        pub not_zeros : zeros img (4 + uics) (words - (4 + uics)) ≡ false → None ≡ header_of img
         unfolding header_test geometry_of
         not_zeros h = header_wrong (sym (go_on (sym at_words ∙ m) (go_on (rw is₃ at d) (sym (rw (size, is, is₀, is₃) at h)))))
 
         pub all_right : zeros img (4 + uics) (words - (4 + uics)) ≡ true → (bodies : ℕ) → bodies ≡ bodies_of form contents
-            → Right (record { segments = record { 0 = segments }; blocks = blocks; contents = contents; bodies = record { 0 = bodies } }) ≡ header_of img
+            → Some (record { segments = record { 0 = segments }; blocks = blocks; contents = contents; bodies = record { 0 = bodies } }) ≡ header_of img
         unfolding header_test geometry_of header_of
         all_right h bodies e =
             rw (and_both (sym at_words ∙ m) (and_both (rw is₃ at d) (rw (size, is, is₀, is₃) at h)))

@@ -10,7 +10,7 @@ use lib.Bits.{bit_or, or_zero_l, or_add_and, and_le_r}
 use lib.Dec.{eqb}
 use lib.ListN.{get_or}
 use borrow.Author.Tests.{eq-eqb, ne_eqb, eqb-true, eqb-false, not-true}
-use Rattle.answers.proofs.RefusalsTests.{and_left, and_right, and_both, down, true_not_false}
+use Rattle.answers.proofs.RefusalsTests.{and_left, and_right, and_both, true_not_false}
 use Rattle.words.specs.Word.{word_at}
 use Rattle.words.proofs.Word.{word_bound}
 use Rattle.pack.specs.Header.{uic_count, Listed, DistinctWords}
@@ -32,31 +32,19 @@ zeros_all img from zero all = refl
 zeros_all img from (suc k) all =
     and_both (eq-eqb _ 0 (all from (omega arith) (omega arith))) (zeros_all img (from + 1) k (λ w low high. all w (omega arith) (omega arith)))
 
--- step by step
-pub zeros_step : (img : List ℕ) (from k : ℕ) → 0 < k → word_at img from ≡ 0 → zeros img from k ≡ zeros img (from + 1) (k - 1)
-unfolding zeros
-zeros_step img from k some is = ap (zeros img from) (down k some) ∙ simp (eq-eqb _ 0 is)
+-- step by step, with what was found of the words before
+module _ (img : List ℕ) (from k : ℕ) (clear later : Bool) where
+  pub zeros_clear : word_at img from ≡ 0 → later ≡ clear → (clear && zeros img from (suc k)) ≡ (later && zeros img (from + 1) k)
+  unfolding zeros
+  zeros_clear is same = rw (same, eq-eqb _ 0 is)
 
-pub zeros_not : (img : List ℕ) (from k : ℕ) → 0 < k → (word_at img from ≡ 0 → ⊥) → zeros img from k ≡ false
-unfolding zeros
-zeros_not img from k some never = ap (zeros img from) (down k some) ∙ simp (ne_eqb _ 0 never)
-
-pub zeros_end : (img : List ℕ) (from k : ℕ) → k ≡ 0 → zeros img from k ≡ true
-unfolding zeros
-zeros_end img from k none = ap (zeros img from) none
-
--- and with what was found of the words before
-and_never : (t : Bool) → (t && false) ≡ false
-and_never true = refl
-and_never false = refl
-
-pub zeros_clear : (img : List ℕ) (from k : ℕ) (clear later : Bool) → 0 < k → word_at img from ≡ 0 → later ≡ clear
-    → (clear && zeros img from k) ≡ (later && zeros img (from + 1) (k - 1))
-zeros_clear img from k clear later some is same = rw (same, zeros_step img from k some is)
-
-pub zeros_never : (img : List ℕ) (from k : ℕ) (clear later : Bool) → 0 < k → (word_at img from ≡ 0 → ⊥) → later ≡ false
-    → (clear && zeros img from k) ≡ (later && zeros img (from + 1) (k - 1))
-zeros_never img from k clear later some never same = rw (same, zeros_not img from k some never) (and_never clear)
+  pub zeros_never : (word_at img from ≡ 0 → ⊥) → later ≡ false → (clear && zeros img from (suc k)) ≡ (later && zeros img (from + 1) k)
+  unfolding zeros
+  zeros_never never same = rw (same, ne_eqb _ 0 never) (by clear)
+    where
+      by : (t : Bool) → (t && false) ≡ false
+      by true = refl
+      by false = refl
 
 -- words laid over each other are 0 only if each is
 laid_zero : (laid word : ℕ) → eqb (bit_or laid word) 0 ≡ (eqb laid 0 && eqb word 0)
@@ -67,21 +55,19 @@ laid_zero laid word = at (ℕ_discrete laid 0) (ℕ_discrete word 0)
     at (yes p) (no q) = rw (p, or_zero_l word)
     at (no p) q = rw (ne_eqb laid 0 p) (ne_eqb (bit_or laid word) 0 (λ none. p (omega (arith, none, or_add_and laid word, and_le_r laid word))))
 
-pub zeros_laid : (img : List ℕ) (from k laid word : ℕ) → 0 < k → word ≡ word_at img from
-    → (eqb laid 0 && zeros img from k) ≡ (eqb (bit_or laid word) 0 && zeros img (from + 1) (k - 1))
+pub zeros_laid : (img : List ℕ) (from k laid word : ℕ) → word ≡ word_at img from
+    → (eqb laid 0 && zeros img from (suc k)) ≡ (eqb (bit_or laid word) 0 && zeros img (from + 1) k)
 unfolding zeros
-zeros_laid img from k laid word some is = ap (λ n. eqb laid 0 && zeros img from n) (down k some) ∙ rw (laid_zero laid word, is) (and_within (eqb laid 0) _ _)
+zeros_laid img from k laid word is = rw (laid_zero laid word, is) (and_within (eqb laid 0) _ _)
   where
     and_within : (a b c : Bool) → (a && (b && c)) ≡ ((a && b) && c)
     and_within true b c = refl
     and_within false b c = refl
 
-pub zeros_done : (img : List ℕ) (from k : ℕ) (clear : Bool) → k ≡ 0 → (clear && zeros img from k) ≡ clear
-zeros_done img from k clear none = rw (zeros_end img from k none) (and-true clear)
-  where
-    and-true : (t : Bool) → (t && true) ≡ t
-    and-true true = refl
-    and-true false = refl
+pub zeros_done : (img : List ℕ) (from : ℕ) (clear : Bool) → (clear && zeros img from 0) ≡ clear
+unfolding zeros
+zeros_done img from true = refl
+zeros_done img from false = refl
 
 -- a number among words
 pub record Among (img : List ℕ) (word from k : ℕ) : Type 0 where
@@ -111,17 +97,17 @@ is_among img word from (suc k) w low high is = by (ℕ_discrete (word_at img fro
         let apart : from ≡ w → ⊥ = λ e. other (ap (word_at img) e ∙ is) in
         rw (ne_eqb _ _ other) (later (omega (arith, apart)) (omega arith) is)
 
-pub among_step : (img : List ℕ) (word from k : ℕ) → 0 < k → (word_at img from ≡ word → ⊥) → among img word from k ≡ among img word (from + 1) (k - 1)
+pub among_step : (img : List ℕ) (word from k : ℕ) → (word_at img from ≡ word → ⊥) → among img word from (suc k) ≡ among img word (from + 1) k
 unfolding among
-among_step img word from k some other = ap (among img word from) (down k some) ∙ simp (ne_eqb _ _ other)
+among_step img word from k other = simp (ne_eqb _ _ other)
 
-pub among_found_law : (img : List ℕ) (word from k : ℕ) → 0 < k → word_at img from ≡ word → among img word from k ≡ true
+pub among_found_law : (img : List ℕ) (word from k : ℕ) → word_at img from ≡ word → among img word from (suc k) ≡ true
 unfolding among
-among_found_law img word from k some is = ap (among img word from) (down k some) ∙ simp (eq-eqb _ _ is)
+among_found_law img word from k is = simp (eq-eqb _ _ is)
 
-pub among_end : (img : List ℕ) (word from k : ℕ) → k ≡ 0 → among img word from k ≡ false
+pub among_end : (img : List ℕ) (word from : ℕ) → among img word from 0 ≡ false
 unfolding among
-among_end img word from k none = ap (among img word from) none
+among_end img word from = refl
 
 pub listed_iff : (img : List ℕ) (uic : ℕ) → listed img uic ≡ true ↔ Listed img uic
 unfolding listed
@@ -188,20 +174,20 @@ is_distinct img from (suc k) d =
         absurd (d.apart from a.at (omega arith) (omega (arith, a.low)) (omega (arith, a.high)) (sym a.is))
 
 -- step by step: the words behind a word, once it is taken off
-module _ (img : List ℕ) (from k : ℕ) (some : 0 < k) where
-  pub distinct_zero : word_at img from ≡ 0 → distinct img from k ≡ false
+module _ (img : List ℕ) (from k : ℕ) where
+  pub distinct_zero : word_at img from ≡ 0 → distinct img from (suc k) ≡ false
   unfolding distinct
-  distinct_zero is = ap (distinct img from) (down k some) ∙ simp (eq-eqb _ 0 is)
+  distinct_zero is = simp (eq-eqb _ 0 is)
 
-  pub distinct_again : (word : ℕ) → word ≡ word_at img from → (word_at img from ≡ 0 → ⊥) → among img word (from + 1) (k - 1) ≡ true → distinct img from k ≡ false
-  unfolding distinct
-  distinct_again word is never t = ap (distinct img from) (down k some) ∙ simp (ne_eqb _ 0 never, rw is at t)
+  module _ (word : ℕ) (is : word ≡ word_at img from) (never : word_at img from ≡ 0 → ⊥) where
+    pub distinct_again : among img word (from + 1) k ≡ true → distinct img from (suc k) ≡ false
+    unfolding distinct
+    distinct_again t = simp (ne_eqb _ 0 never, rw is at t)
 
-  pub distinct_step : (word : ℕ) → word ≡ word_at img from → (word_at img from ≡ 0 → ⊥) → among img word (from + 1) (k - 1) ≡ false
-      → distinct img from k ≡ distinct img (from + 1) (k - 1)
-  unfolding distinct
-  distinct_step word is never t = ap (distinct img from) (down k some) ∙ simp (ne_eqb _ 0 never, rw is at t)
+    pub distinct_step : among img word (from + 1) k ≡ false → distinct img from (suc k) ≡ distinct img (from + 1) k
+    unfolding distinct
+    distinct_step t = simp (ne_eqb _ 0 never, rw is at t)
 
-pub distinct_end : (img : List ℕ) (from k : ℕ) → k ≡ 0 → distinct img from k ≡ true
+pub distinct_end : (img : List ℕ) (from : ℕ) → distinct img from 0 ≡ true
 unfolding distinct
-distinct_end img from k none = ap (distinct img from) none
+distinct_end img from = refl

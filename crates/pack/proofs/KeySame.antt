@@ -1,10 +1,10 @@
 -- The test of two keys says exactly that they are the same, word by word.
-use mathlib.Core.Path.{◌≡◌, refl, sym, ap, ◌∙◌}
-use mathlib.Core.Bool.{Bool, true, false}
+use mathlib.Core.Path.{◌≡◌, sym, ap, ◌∙◌}
+use mathlib.Core.Bool.{Bool, true}
 use mathlib.Core.Logic.{◌↔◌}
 use lib.Dec.{eqb}
-use borrow.Author.Tests.{eq-eqb, ne_eqb, eqb-true}
-use Rattle.answers.proofs.RefusalsTests.{and_left, and_right, and_both, go_on, stop}
+use borrow.Author.Tests.{eq-eqb, eqb-true}
+use Rattle.answers.proofs.RefusalsTests.{and_left, and_right, and_both}
 use Rattle.pack.specs.declared.Key.{Key}
 use Rattle.pack.specs.KeyTest.{same_key}
 use Rattle.pack.specs.Key.{SameKey}
@@ -23,26 +23,6 @@ same_key_iff a b = (
       },
   λ k. and_both (eq-eqb _ _ k.name1) (and_both (eq-eqb _ _ k.name2) (and_both (eq-eqb _ _ k.extension) (eq-eqb _ _ k.uic))),
 )
-
--- each answer of the test, rung by rung
-module _ (a b : Key) where
-  pub other_name1 : (a.name1 ≡ b.name1 → ⊥) → false ≡ same_key a b
-  unfolding same_key
-  other_name1 h = stop _ _ (ne_eqb _ _ h)
-
-  module _ (first : a.name1 ≡ b.name1) where
-    pub other_name2 : (a.name2 ≡ b.name2 → ⊥) → false ≡ same_key a b
-    unfolding same_key
-    other_name2 h = go_on (eq-eqb _ _ first) (stop _ _ (ne_eqb _ _ h))
-
-    module _ (second : a.name2 ≡ b.name2) where
-      pub other_extension : (a.extension ≡ b.extension → ⊥) → false ≡ same_key a b
-      unfolding same_key
-      other_extension h = go_on (eq-eqb _ _ first) (go_on (eq-eqb _ _ second) (stop _ _ (ne_eqb _ _ h)))
-
-      pub by_uic : a.extension ≡ b.extension → eqb a.uic b.uic ≡ same_key a b
-      unfolding same_key
-      by_uic h = go_on (eq-eqb _ _ first) (go_on (eq-eqb _ _ second) (go_on (eq-eqb _ _ h) refl))
 
 -- keys of which each word is the same are equal
 pub same_equal : {a b : Key} → SameKey a b → a ≡ b

@@ -82,9 +82,6 @@ module _ (i v : ℕ) (within : i < 16) (small : v ≤ 1) where
       by (suc zero) few = omega (arith, pow-le-pow_right {n = 2} (omega arith) within)
       by (suc (suc more)) few = absurd (omega arith)
 
-  pub shift_within : (word : ℕ) → (word / 2 ^ i) % 2 ≡ v → v * 2 ^ i % 18446744073709551616 ≤ word
-  shift_within word is = omega (arith, shift_bit, ap (λ (n : ℕ). 2 ^ i * n) is, bit_within word i)
-
 module _ (word i v : ℕ) (within : i < 16) (few : word < 65536) (small : v ≤ 1) where
   pub shift_with : word - (word / 2 ^ i) % 2 * 2 ^ i % 18446744073709551616 + v * 2 ^ i % 18446744073709551616 ≡ with_bit word i v
   unfolding with_bit

@@ -4,7 +4,6 @@ use mathlib.Core.Path.{◌≡◌, refl, sym, ap, subst, ◌∙◌}
 use mathlib.Core.Bool.{false}
 use mathlib.Core.List.{List, [], ◌∷◌}
 use native.Mathlib.Omega.{arith}
-use native.Mathlib.Nat.{mul-le-mul}
 use native.Mathlib.Decide.{ℕ_discrete, dec_lt}
 use lib.Dec.{ltb}
 use lib.ListN.{length}
@@ -58,14 +57,8 @@ map_room {img} {g} s there w within =
     let inside : g.contents + 1 < g.blocks = omega (arith, there, s.bodies) in
     omega (arith, s.long, within, block_room g.segments.0 inside)
 
--- the same as the code counts it: the word's number is one, and stands in the image
+-- the same as the code counts it
 module _ {img : List ℕ} {g : Geometry} (s : Sized img g) (there : HasMap g) {words : ℕ} (many : words ≡ block_words g) where
-  pub map_counted : (g.contents + 1) * words ≤ 4096 * 256
-  map_counted =
-      let few : g.contents + 1 ≤ 4096 = omega (arith, there, s.bodies, s.most) in
-      let small : words ≤ 256 = omega (arith, many, s.few) in
-      mul-le-mul few small
-
   pub map_inside : {b : ℕ} → b < g.blocks → 2 * ((g.contents + 1) * words + b / 16) + 1 < length img
   map_inside {b} below = rw many (map_room s there (b / 16) (omega (arith, below, s.map)))
 

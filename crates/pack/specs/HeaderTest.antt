@@ -1,8 +1,7 @@
 -- Means: the rules of block 0 as tests, in the order in which the code makes them. proofs/HeaderTest*.antt have that each is true exactly if its rule holds.
-use Rattle.std.specs.Prelude.{ℕ, suc, zero, ◌+◌, ◌*◌, ◌-◌, Bool, true, false, cond, not, ◌&&◌, List, eqb, leb, ltb, length}
+use Rattle.std.specs.Prelude.{ℕ, suc, zero, ◌+◌, ◌*◌, ◌-◌, Bool, true, false, cond, not, ◌&&◌, List, eqb, leb, ltb, length, Option, Some, None}
 use Rattle.words.specs.Word.{word_at}
-use Rattle.pack.specs.declared.Header.{Header}
-use Rattle.pack.specs.declared.Header.TheVariants.{Right, Wrong}
+use Rattle.pack.specs.declared.Geometry.{Geometry}
 use Rattle.pack.specs.Form.{segments_of, least_blocks, most_blocks_of, least_contents, most_contents_of, bodies_of, most_uics_of}
 use Rattle.pack.specs.Geometry.{geometry_of, segment_bytes, block_words}
 use Rattle.pack.specs.Header.{uic_count}
@@ -41,5 +40,6 @@ header_test img =
     measured (length img) (word_at img 0) (word_at img 1) (word_at img 2) (uic_count img)
     && (distinct img 4 (uic_count img) && zeros img (4 + uic_count img) (block_words (geometry_of img) - (4 + uic_count img)))
 
-unfoldable pub header_of : List ℕ → Header
-header_of img = cond (header_test img) (Right (geometry_of img)) Wrong
+-- the measures of an image whose block 0 is right, or nothing
+unfoldable pub header_of : List ℕ → Option Geometry
+header_of img = cond (header_test img) (Some (geometry_of img)) None

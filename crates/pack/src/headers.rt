@@ -3,8 +3,8 @@ ghost use Rattle.std.specs.Prelude.{◌≡◌, ◌+◌, ◌*◌, ◌≤◌, leng
 ghost use Rattle.pack.specs.Header.{RightHeader};
 ghost use Rattle.pack.specs.HeaderTest.{zeros, among, distinct, listed, measured, header_of};
 
+use crate::Geometry;
 use crate::forms::{bodies_of, most_blocks, most_contents, most_uics, segments_of};
-use crate::{Geometry, Header};
 
 pub fn is_measured(long: usize, form: usize, blocks: usize, contents: usize, uics: usize) -> bool
     ensures { result ≡ measured long form blocks contents uics }
@@ -39,15 +39,11 @@ pub fn are_words_zero(img: &[u8], from: usize, count: usize) -> bool
     requires { 2 * (from + count) ≤ length img.now }
     ensures { result ≡ zeros img.now from count }
 {
-    let mut at = from;
-    let mut left = count;
     let mut clear = true;
-    while 0 < left {
+    for at in from..from + count {
         if words::word_at(img, at) != 0 {
             clear = false;
         }
-        at += 1;
-        left -= 1;
     }
     clear
 }
@@ -57,13 +53,9 @@ pub fn is_stretch_zero(img: &[u8], from: usize, count: usize) -> bool
     requires { 2 * (from + count) ≤ length img.now }
     ensures { result ≡ zeros img.now from count }
 {
-    let mut at = from;
-    let mut left = count;
     let mut laid = 0u16;
-    while 0 < left {
-        laid = laid | words::word_at(img, at) as u16;
-        at += 1;
-        left -= 1;
+    for at in from..from + count {
+        laid |= words::word_at(img, at) as u16;
     }
     laid == 0
 }
@@ -72,14 +64,10 @@ pub fn is_among(img: &[u8], word: usize, from: usize, count: usize) -> bool
     requires { 2 * (from + count) ≤ length img.now }
     ensures { result ≡ among img.now word from count }
 {
-    let mut at = from;
-    let mut left = count;
-    while 0 < left {
+    for at in from..from + count {
         if words::word_at(img, at) == word {
             return true;
         }
-        at += 1;
-        left -= 1;
     }
     false
 }
@@ -88,16 +76,14 @@ pub fn is_distinct(img: &[u8], from: usize, count: usize) -> bool
     requires { 2 * (from + count) ≤ length img.now }
     ensures { result ≡ distinct img.now from count }
 {
-    let mut at = from;
-    let mut left = count;
-    while 0 < left {
+    let end = from + count;
+    for at in from..end {
         let word = words::word_at(img, at);
         if word == 0 {
             return false;
         }
-        at += 1;
-        left -= 1;
-        if is_among(img, word, at, left) {
+        let next = at + 1;
+        if is_among(img, word, next, end - next) {
             return false;
         }
     }
@@ -111,29 +97,29 @@ pub fn is_listed(img: &[u8], uic: usize) -> bool
     is_among(img, uic, 4, words::word_at(img, 3))
 }
 
-pub fn read_header(img: &[u8]) -> Header
+pub fn read_header(img: &[u8]) -> Option<Geometry>
     ensures { result ≡ header_of img.now }
 {
     if img.len() < 8 {
-        return Header::Wrong;
+        return None;
     }
     let form = words::word_at(img, 0);
     let blocks = words::word_at(img, 1);
     let contents = words::word_at(img, 2);
     let uics = words::word_at(img, 3);
     if !is_measured(img.len(), form, blocks, contents, uics) {
-        return Header::Wrong;
+        return None;
     }
     if !is_distinct(img, 4, uics) {
-        return Header::Wrong;
+        return None;
     }
     let segments = segments_of(form);
     let behind = 4 + uics;
     if !is_stretch_zero(img, behind, segments.words() - behind) {
-        return Header::Wrong;
+        return None;
     }
     let bodies = bodies_of(form, contents);
-    Header::Right(Geometry {
+    Some(Geometry {
         segments,
         blocks,
         contents,

@@ -12,7 +12,7 @@ ghost use Rattle.std.specs.Prelude.{◌≡◌, ◌≤◌};
 ghost use Rattle.pack.specs.GeometrySized.{most_segments};
 ghost use Rattle.pack.specs.Geometry.{segment_words, segment_bytes};
 
-pub use entries::{entry_word, is_same_key, next_block, read_entry, read_key, slot_count};
+pub use entries::{View, is_same_key};
 pub use forms::{bodies_of, most_blocks, most_contents, most_uics, segments_of};
 pub use headers::{
     are_words_zero, is_among, is_distinct, is_listed, is_measured, is_stretch_zero, read_header,
@@ -42,7 +42,7 @@ impl Segments {
 }
 
 // The number of a block in the pack.
-#[derive(Clone, Copy)]
+#[derive(Clone, Copy, PartialEq, Eq)]
 pub struct BlockNo(pub usize);
 
 // The place of a block in a file, from 0.
@@ -66,12 +66,6 @@ pub struct Geometry {
     pub blocks: usize,
     pub contents: usize,
     pub bodies: BlockNo,
-}
-
-#[derive(Clone, Copy)]
-pub enum Header {
-    Right(Geometry),
-    Wrong,
 }
 
 #[derive(Clone, Copy)]

@@ -56,9 +56,7 @@ fn write_words(img: &mut [u8], g: Geometry, e: usize, words: &[usize; 16])
     requires e_bound { (e < slots g) × SixteenWords words.now }
     ensures { img.new ≡ set_entry_words img.old g e 0 words.now }
 {
-    let mut i = 0;
-    while i < 16 {
-        set_entry_word(img, g, e, i, words[i]);
-        i += 1;
+    for (i, word) in words.iter().enumerate() {
+        set_entry_word(img, g, e, i, *word);
     }
 }

@@ -3,7 +3,6 @@ use Prim.Native.Nat.{ℕ, suc, ◌+◌, ◌-◌, ◌≤◌, ◌<◌, ◌/◌, �
 use mathlib.Core.Path.{◌≡◌, refl, sym, ap, ◌∙◌, subst}
 use mathlib.Core.List.{List, ◌++◌, append_assoc}
 use native.Mathlib.Omega.{arith}
-use borrow.Author.Tests.{eq-eqb, ne_eqb}
 use Rattle.words.specs.Text.{bytes}
 use Rattle.pack.specs.declared.Geometry.{Geometry}
 use Rattle.pack.specs.declared.Entry.{Entry}
@@ -12,13 +11,6 @@ use Rattle.printing.specs.Listing.{newline, five, three, spelled, kind_letter, e
 use Rattle.printing.specs.Pieces.{name_text, size_text, uic_text}
 use Rattle.printing.specs.Put.{Put}
 use Rattle.printing.proofs.Put.{put_nothing, put_then}
-
-module _ {s t : List ℕ} {i j kind : ℕ} where
-  pub put_c : kind ≡ 1 → Put s t i j (bytes "C") → Put s t i j (kind_letter kind) × (j ≡ i + 1)
-  put_c is put = (rw (eq-eqb kind 1 is) put, put.behind)
-
-  pub put_l : (kind ≡ 1 → ⊥) → Put s t i j (bytes "L") → Put s t i j (kind_letter kind) × (j ≡ i + 1)
-  put_l other put = (rw (ne_eqb kind 1 other) put, put.behind)
 
 -- the pieces make the line
 line_pieces : (x : Entry) → name_text x.name1 x.name2 x.extension ++ (size_text x.kind x.length ++ (uic_text x.uic ++ (three x.protect ++ newline)))
@@ -36,14 +28,6 @@ pub put_pieces : (x : Entry) {s t u v w z : List ℕ} {i j k l m n : ℕ} → Pu
 put_pieces x {s} {t} {u} {v} {w} {z} {i} {j} {k} {l} {m} {n} name size uic protect end =
     subst (Put s z i n) (line_pieces x) (put_then name (put_then size (put_then uic (put_then protect end))))
 
--- an entry was read: it has no line, or it has this one
-module _ {x y : Entry} (read : x ≡ y) where
-  pub put_no_line : {s : List ℕ} {i : ℕ} → x.name1 ≡ 0 → Put s s i i (line_of y)
-  put_no_line {s} {i} empty = rw (← read, eq-eqb x.name1 0 empty) (put_nothing s i)
-
-  pub put_one_line : {s t : List ℕ} {i j : ℕ} → (x.name1 ≡ 0 → ⊥) → Put s t i j (entry_line x) → Put s t i j (line_of y)
-  put_one_line used put = rw (← read, ne_eqb x.name1 0 used) put
-
 -- of n entries those from e on are still to be put
 module _ (img : List ℕ) (g : Geometry) where
   lines_suc : (e k : ℕ) → lines_from img g e (suc k) ≡ line_of (entry_of img g e) ++ lines_from img g (e + 1) k
@@ -59,6 +43,3 @@ module _ (img : List ℕ) (g : Geometry) where
   pub lines_end : (s : List ℕ) (i e n : ℕ) → n ≤ e → Put s s i i (lines_from img g e (n - e))
   unfolding lines_from
   lines_end s i e n end = let left : n - e ≡ 0 = omega arith in subst (Put s s i i) (sym (ap (lines_from img g e) left)) (put_nothing s i)
-
-  pub lines_all : {s t : List ℕ} {i k : ℕ} (n : ℕ) → Put s t i k (lines_from img g 0 (n - 0)) → Put s t i k (lines_from img g 0 n)
-  lines_all {s} {t} {i} {k} n put = let whole : n - 0 ≡ n = omega arith in subst (Put s t i k) (ap (lines_from img g 0) whole) put

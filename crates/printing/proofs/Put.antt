@@ -1,12 +1,11 @@
--- Pieces put into a buffer: none, one behind another, byte by byte, as a lent part, and from its start.
-use Prim.Native.Nat.{ℕ, suc, ◌+◌, ◌-◌, ◌≤◌, ◌<◌}
+-- Pieces put into a buffer: none, one behind another, as a lent part, and from its start.
+use Prim.Native.Nat.{ℕ, suc, ◌+◌, ◌-◌, ◌≤◌}
 use mathlib.Core.Path.{◌≡◌, refl, sym, ap, ◌∙◌}
 use mathlib.Core.List.{List, [], ◌∷◌, ◌++◌, append_assoc}
 use native.Mathlib.Nat.{add-zero, add-suc, suc-add, zero-add}
-use native.Mathlib.Numerals.{add-one}
 use native.Mathlib.Omega.{arith}
-use lib.ListN.{length, get_or, take, drop, set, length-append, drop_of_length-le}
-use lib.Seq.{sets, sets-eq, length-sets, drop-cons}
+use lib.ListN.{length, take, drop, set, length-append}
+use lib.Seq.{sets, sets-eq, length-sets}
 use borrow.Rule.Slice.PartMut.{put_mid, mid_of, Post-is, mid_len}
 use Rattle.numerals.specs.Digits.{digits}
 use Rattle.numerals.proofs.DigitsValues.{length_digits}
@@ -28,16 +27,6 @@ put_then {s} {t} {u} {i} {j} {k} {xs} {ys} first second =
 
 pub put_length : {s t : List ℕ} {i j : ℕ} {xs : List ℕ} → Put s t i j xs → length t ≡ length s
 put_length {s} {t} {i} {j} {xs} put = ap length put.text ∙ length-sets s i xs
-
-pub copy_step : (s p : List ℕ) (at i : ℕ) → i < length p
-    → sets s (at + i) (drop i p) ≡ sets (set s (at + i) (get_or p i 0)) (at + (i + 1)) (drop (i + 1) p)
-copy_step s p at i inside =
-    let next : at + (i + 1) ≡ suc (at + i) = omega arith in
-    rw (next, add-one, drop-cons p i 0)
-
-pub copy_end : (s t p : List ℕ) (at i : ℕ) → i ≤ length p → length p ≤ i → sets s at p ≡ sets t (at + i) (drop i p) → Put s t at (at + i) p
-copy_end s t p at i most end is =
-    record { text = sym (is ∙ ap (sets t (at + i)) (drop_of_length-le p end)); behind = omega arith }
 
 -- a part that was lent is back
 pub put_part : (s v : List ℕ) (at end : ℕ) → end ≡ at + length v → end ≤ length s → Put s (put_mid at (end - at) s v) at end v

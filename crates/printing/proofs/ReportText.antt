@@ -1,58 +1,49 @@
 -- The text of a report in the pieces that the code puts one behind another; one text for every image; the lines that are shown.
 use Prim.Native.Nat.{ℕ, ◌≤◌}
-use mathlib.Core.Path.{◌≡◌, refl, sym, ap, subst, ◌∙◌}
-use mathlib.Core.Bool.{Bool, true, false}
+use mathlib.Core.Path.{◌≡◌, refl, ap, subst}
 use mathlib.Core.List.{List, ◌++◌}
 use native.Mathlib.Omega.{arith}
 use lib.ListN.{length}
-use borrow.Author.Tests.{eq-eqb, ne_eqb}
+use borrow.Author.Tests.{ne_eqb}
 use Rattle.words.specs.Text.{bytes}
-use Rattle.faults.specs.declared.ReportAnswer.{ReportAnswer}
+use Rattle.faults.specs.declared.Fault.{Fault}
+use Rattle.faults.specs.declared.Fault.TheVariants.{Size, Header, Field, SameName, Extent, Link, Loop, End, Shared, Map}
+use Rattle.faults.specs.Named.{rule_of, entry_named, word_named, block_named, numbers_of}
+use Rattle.faults.proofs.FaultNamed.{fault_some}
 use Rattle.faults.proofs.ReportConsistent.{report_one}
-use Rattle.printing.specs.Listing.{newline, five}
+use Rattle.printing.specs.Listing.{newline}
 use Rattle.printing.specs.Put.{Put}
 use Rattle.printing.specs.ReportText.{chain_rule_name, rule_name, member, fault_line, report_text, ReportPrints, too_long, told}
-use Rattle.printing.specs.ReportPieces.{longest_report, PrintedReport}
-use Rattle.printing.proofs.Put.{put_nothing, put_first}
+use Rattle.printing.specs.ReportPieces.{member_text, longest_report, PrintedReport}
+use Rattle.printing.proofs.Put.{put_first}
 
--- a rule by its number
-module _ {s t : List ℕ} {i j : ℕ} {text : List ℕ} where
-  pub put_rule_is : (rule k : ℕ) → rule ≡ k → rule_name k ≡ text → Put s t i j text → Put s t i j (rule_name rule)
-  put_rule_is rule k is name put = subst (Put s t i j) (sym (ap rule_name is ∙ name)) put
+-- the pieces of a fault's line, of what it names and in its numbers
+fault_pieces : (fault : Fault) → bytes "FAULT"
+    ++ (rule_name (rule_of fault) ++ (member_text (bytes " ENTRY ") (entry_named fault) ++ (member_text (bytes " WORD ") (word_named fault)
+    ++ (member_text (bytes " BLOCK ") (block_named fault) ++ newline)))) ≡ fault_line (numbers_of fault)
+unfolding fault_line member
+fault_pieces Size = refl
+fault_pieces (Header w) = refl
+fault_pieces (Field e w) = refl
+fault_pieces (SameName e) = refl
+fault_pieces (Extent e w) = refl
+fault_pieces (Link e b) = refl
+fault_pieces (Loop e b) = refl
+fault_pieces (End e b) = refl
+fault_pieces (Shared e b) = refl
+fault_pieces (Map b) = refl
 
-  pub put_chain_is : (rule k : ℕ) → rule ≡ k → chain_rule_name k ≡ text → Put s t i j text → Put s t i j (chain_rule_name rule)
-  put_chain_is rule k is name put = subst (Put s t i j) (sym (ap chain_rule_name is ∙ name)) put
+module _ (fault : Fault) {s t : List ℕ} {i j : ℕ} where
+  pub put_fault_line : Put s t i j
+      (bytes "FAULT"
+      ++ (rule_name (rule_of fault) ++ (member_text (bytes " ENTRY ") (entry_named fault) ++ (member_text (bytes " WORD ") (word_named fault)
+      ++ (member_text (bytes " BLOCK ") (block_named fault) ++ newline)))))
+      → Put s t i j (fault_line (numbers_of fault))
+  put_fault_line put = subst (Put s t i j) (fault_pieces fault) put
 
-module _ (rule : ℕ) where
-  pub put_rule_other : {s t : List ℕ} {i j : ℕ} → (rule ≡ 1 → ⊥) → (rule ≡ 2 → ⊥) → (rule ≡ 4 → ⊥) → (rule ≡ 5 → ⊥) → Put s t i j (chain_rule_name rule)
-      → Put s t i j (rule_name rule)
-  unfolding rule_name
-  put_rule_other one two four five-th put = rw (ne_eqb rule 1 one, ne_eqb rule 2 two, ne_eqb rule 4 four, ne_eqb rule 5 five-th) put
-
-  pub put_chain_none : {s : List ℕ} {i : ℕ} → (rule ≡ 6 → ⊥) → (rule ≡ 7 → ⊥) → (rule ≡ 8 → ⊥) → (rule ≡ 9 → ⊥) → (rule ≡ 10 → ⊥)
-      → Put s s i i (chain_rule_name rule)
-  unfolding chain_rule_name
-  put_chain_none {s} {i} six seven eight nine ten =
-      rw (ne_eqb rule 6 six, ne_eqb rule 7 seven, ne_eqb rule 8 eight, ne_eqb rule 9 nine, ne_eqb rule 10 ten) (put_nothing s i)
-
--- a number that the rule names, or does not
-module _ (named : Bool) (what : List ℕ) (number : ℕ) where
-  pub put_unnamed : {s : List ℕ} {i : ℕ} → named ≡ false → Put s s i i (member named what number)
-  unfolding member
-  put_unnamed {s} {i} is = rw is (put_nothing s i)
-
-  pub put_named : {s t : List ℕ} {i j : ℕ} → named ≡ true → Put s t i j (what ++ five number) → Put s t i j (member named what number)
-  unfolding member
-  put_named is put = rw is put
-
-module _ (answer : ReportAnswer) {s t : List ℕ} {i j : ℕ} where
-  pub put_consistent : answer.rule ≡ 0 → Put s t i j (bytes "CONSISTENT" ++ newline) → Put s t i j (report_text answer)
+  pub put_faulty : Put s t i j (fault_line (numbers_of fault)) → Put s t i j (report_text (numbers_of fault))
   unfolding report_text
-  put_consistent is put = rw (eq-eqb answer.rule 0 is) put
-
-  pub put_faulty : (answer.rule ≡ 0 → ⊥) → Put s t i j (fault_line answer) → Put s t i j (report_text answer)
-  unfolding report_text
-  put_faulty some put = rw (ne_eqb answer.rule 0 some) put
+  put_faulty put = rw (ne_eqb (numbers_of fault).rule 0 (fault_some fault)) put
 
 -- a report put at the start of a buffer is all that it is to hold
 pub printed : {img s t text : List ℕ} {k : ℕ} → ReportPrints img text → Put s t 0 k text → k ≤ longest_report → longest_report ≤ length s → PrintedReport img s t k

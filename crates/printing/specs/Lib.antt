@@ -2,6 +2,7 @@
 pub mod Listing
 pub mod ListingExample
 pub mod Pieces
+pub mod Survey
 pub mod Put
 pub mod ReportText
 pub mod ReportPieces

@@ -5,16 +5,15 @@ pub mod reports;
 
 ghost use Rattle.std.specs.Prelude.{◌≡◌, ◌+◌, ◌*◌, ◌<◌, ◌≤◌, ◌++◌, length, drop};
 ghost use Rattle.numerals.specs.Digits.{digits};
-ghost use Rattle.pack.specs.GeometrySized.{Sized};
 ghost use Rattle.pack.specs.Geometry.{slots};
 ghost use Rattle.pack.specs.Entry.{entry_of};
 ghost use Rattle.consistency.specs.Mapped.{Lent};
 ghost use Rattle.printing.specs.Listing.{head_line, spelled, kind_letter, entry_line, line_of, lines_from, longest, refused_line, listing};
+ghost use Rattle.printing.specs.Survey.{surveyed};
 ghost use Rattle.printing.specs.Pieces.{name_text, most_name, size_text, most_size, uic_text, most_uic, most_line, most_head, longest_text};
 ghost use Rattle.printing.specs.Put.{Put};
 
-use consistency::Opened;
-use pack::{Entry, Geometry};
+use pack::{Entry, Geometry, View};
 use radix::Radix50;
 
 // The longest image that is listed, in bytes.
@@ -32,12 +31,9 @@ fn put_bytes(out: &mut [u8], at: usize, piece: &[u8]) -> usize
     requires { at + length piece.now ≤ length out.old }
     ensures { Put out.old out.new at result piece.now }
 {
-    let mut i = 0;
-    while i < piece.len() {
-        out[at + i] = piece[i];
-        i += 1;
-    }
-    at + i
+    let end = at + piece.len();
+    out[at..end].copy_from_slice(piece);
+    end
 }
 
 fn put_number(out: &mut [u8], at: usize, number: usize, base: usize, places: usize) -> usize
@@ -57,11 +53,10 @@ fn put_word(out: &mut [u8], at: usize, word: Radix50) -> usize
     ensures upper_bound { result ≤ at + 3 }
 {
     let end = at + 3;
-    let code = radix::radup::radup(word.0, &mut out[at..end]);
-    if code == 0 {
-        return end;
+    if radix::radup::radup(word.0, &mut out[at..end]).is_err() {
+        return at;
     }
-    at
+    end
 }
 
 fn put_name(out: &mut [u8], at: usize, first: Radix50, second: Radix50, extension: Radix50) -> usize
@@ -127,31 +122,26 @@ fn put_line(out: &mut [u8], at: usize, x: Entry) -> usize
     put_bytes(out, at, b"\n")
 }
 
-fn put_entry(out: &mut [u8], at: usize, img: &[u8], g: Geometry, e: usize) -> usize
-    requires sized { Sized img.now g }
-    requires e_bound { (e < slots g) × (at + most_line ≤ length out.old) }
-    ensures put { Put out.old out.new at result (line_of (entry_of img.now g e)) }
+fn put_entry(out: &mut [u8], at: usize, view: View<'_>, e: usize) -> usize
+    requires e_bound { (e < slots view.g) × (at + most_line ≤ length out.old) }
+    ensures put { Put out.old out.new at result (line_of (entry_of view.entry.img.now view.entry.g e)) }
     ensures upper_bound { result ≤ at + most_line }
 {
-    let x = pack::read_entry(img, g, e);
+    let x = view.read_entry(e);
     if x.name1 == 0 {
         return at;
     }
     put_line(out, at, x)
 }
 
-fn put_lines(out: &mut [u8], at: usize, img: &[u8], g: Geometry) -> usize
-    requires sized { Sized img.now g }
-    requires g_in_bounds { at + most_line * slots g ≤ length out.old }
-    ensures put { Put out.old out.new at result (lines_from img.now g 0 (slots g)) }
-    ensures upper_bound { result ≤ at + most_line * slots g }
+fn put_lines(out: &mut [u8], at: usize, view: View<'_>) -> usize
+    requires g_in_bounds { at + most_line * slots view.g ≤ length out.old }
+    ensures put { Put out.old out.new at result (lines_from view.entry.img.now view.entry.g 0 (slots view.entry.g)) }
+    ensures upper_bound { result ≤ at + most_line * slots view.entry.g }
 {
-    let total = pack::slot_count(g);
     let mut next = at;
-    let mut e = 0;
-    while e < total {
-        next = put_entry(out, next, img, g, e);
-        e += 1;
+    for e in 0..view.slot_count() {
+        next = put_entry(out, next, view, e);
     }
     next
 }
@@ -175,18 +165,13 @@ fn put_refusal(out: &mut [u8], at: usize) -> usize
     put_bytes(out, at, b"REFUSED 40\n")
 }
 
-// The listing of an image that is not too long, on a lent map.
-fn print_lent(img: &[u8], map: &mut [u8], out: &mut [u8]) -> usize
-    requires longest_text_in_bounds { longest_text ≤ length out.old }
-    requires lent { Lent map.old img.now × (length img.now ≤ longest) }
-    ensures put { Put out.old out.new 0 result (listing img.now) }
-    ensures upper_bound { result ≤ longest_text }
+// The measures of a consistent image and its free blocks, on a lent map.
+fn survey(img: &[u8], map: &mut [u8]) -> Option<(Geometry, usize)>
+    requires { Lent map.old img.now }
+    ensures { result ≡ surveyed img.now }
 {
-    let Opened::Good(g) = consistency::open_mapped(img, map) else {
-        return put_refusal(out, 0);
-    };
-    let at = put_head(out, 0, g.blocks, room::free_count(map, g));
-    put_lines(out, at, img, g)
+    let g = consistency::open_mapped(img, map)?;
+    Some((g, room::free_count(map, g)))
 }
 
 // The listing is put at the start of the buffer, whose rest stays; the answer is its length.
@@ -199,10 +184,9 @@ pub fn print_listing(img: &[u8], out: &mut [u8]) -> usize
     if LONGEST_IMAGE < img.len() {
         return put_refusal(out, 0);
     }
-    if img.len() <= consistency::FEW_BYTES {
-        let mut map = [0u8; consistency::FEW_BLOCKS];
-        return print_lent(img, &mut map, out);
-    }
-    let mut map = [0u8; consistency::MANY_BLOCKS];
-    print_lent(img, &mut map, out)
+    let Some((g, free)) = consistency::lend_map(img, |map| survey(img, map)) else {
+        return put_refusal(out, 0);
+    };
+    let at = put_head(out, 0, g.blocks, free);
+    put_lines(out, at, View { img, g })
 }

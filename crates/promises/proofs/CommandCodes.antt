@@ -11,8 +11,8 @@ use Rattle.command_grammar.specs.Reading.{OverBound}
 use Rattle.command_grammar.specs.LinePlace.{LinePlace}
 use Rattle.command_grammar.proofs.GrammarOne.{over_not_read, over_right}
 use Rattle.command_grammar.proofs.LinePlace.{read_right}
-use Rattle.command.specs.declared.csi1.Condensing.{Condensing}
-use Rattle.command.specs.declared.csi2.Asking.{Asking}
+use Rattle.command.specs.Condensing.{Condensing}
+use Rattle.command.specs.Asking.{Asking}
 use Rattle.command.specs.declared.csi2.SpecificationAnswer.{SpecificationAnswer}
 use Rattle.command.specs.Condensed.{condensed, line_limit}
 use Rattle.command.specs.Csi1.{condensing_answer, Csi1, Csi1Answered}

@@ -4,7 +4,7 @@ use mathlib.Core.Path.{◌≡◌}
 use mathlib.Core.Logic.{◌↔◌}
 use mathlib.Core.List.{List}
 use Rattle.answers.specs.declared.Answer.{Answer}
-use Rattle.command_writing.specs.declared.Writing.{Writing}
+use Rattle.command_writing.specs.Writing.{Writing}
 use Rattle.command_writing.specs.CsiWrite.{writing_answer, CsiWrite, CsiWriteAnswered}
 use Rattle.command_writing.specs.CsiWrite as W
 use Rattle.command_writing.proofs.CsiWriteOnly.{within_limit, within_room}

@@ -59,23 +59,6 @@ code_none x out =
       outside 48 58 x (λ a b. out.digit a (omega arith)),
     )
 
--- the same as the code comes to it: letters first, then a blank, digits, and the two marks
-module _ (x : ℕ) where
-  pub code_as_letter : is_letter x ≡ true → some (x - 64) ≡ code_of x
-  code_as_letter is = sym (code_letter x (leb-true 65 x (and_left (leb 65 x) (leb x 90) is)) (leb-true x 90 (and_right (leb 65 x) (leb x 90) is)))
-
-  pub code_as_digit : is_digit x ≡ true → some (x - 18) ≡ code_of x
-  code_as_digit is = sym (code_digit x (leb-true 48 x (and_left (leb 48 x) (leb x 57) is)) (leb-true x 57 (and_right (leb 48 x) (leb x 57) is)))
-
-  pub code_outside : is_letter x ≡ false → (x ≡ 32 → ⊥) → is_digit x ≡ false → (x ≡ 36 → ⊥) → (x ≡ 46 → ⊥) → none ≡ code_of x
-  code_outside letter blank digit dollar period = sym (code_none x (record {
-    blank = blank;
-    letter = λ low high. true_not_false (sym (and_both (le-leb 65 x low) (le-leb x 90 high)) ∙ letter);
-    dollar = dollar;
-    period = period;
-    digit = λ low high. true_not_false (sym (and_both (le-leb 48 x low) (le-leb x 57 high)) ∙ digit);
-  }))
-
 -- the character of each kind of code
 pub character_blank : (c : ℕ) → c ≡ 0 → character_of c ≡ some 32
 unfolding character_of table

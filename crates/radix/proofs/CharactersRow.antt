@@ -6,9 +6,7 @@ use mathlib.Core.Option.{Option, none, some}
 use native.Mathlib.Omega.{arith}
 use lib.ListN.{get_or}
 use Rattle.radix.specs.Characters.{table, code_of, character_of}
-use Rattle.radix.specs.Packing.{three_if}
 use Rattle.radix.proofs.Characters.{character_code}
-use Rattle.radix.proofs.Packing.{none_first, none_second, none_third}
 
 abbrev byte_of : Option ℕ → ℕ
 byte_of none = 0
@@ -36,31 +34,16 @@ stands : (code : ℕ) → code < 40 → get_or row code 0 ≡ byte_of (character
 unfolding row
 stands code low = row_at 40 0 code low ∙ ap (λ c. byte_of (character_of c)) (omega arith)
 
-row_empty : (code : ℕ) → code < 40 → get_or row code 0 ≡ 0 → character_of code ≡ none
+pub row_empty : (code : ℕ) → code < 40 → get_or row code 0 ≡ 0 → character_of code ≡ none
 row_empty code low is = at (character_of code) refl (sym (stands code low) ∙ is)
   where
     at : (o : Option ℕ) → character_of code ≡ o → byte_of o ≡ 0 → o ≡ none
     at none same nothing = refl
     at (some x) same nothing = absurd (not_zero code (same ∙ ap some nothing))
 
-row_filled : (code : ℕ) → code < 40 → (get_or row code 0 ≡ 0 → ⊥) → character_of code ≡ some (get_or row code 0)
+pub row_filled : (code : ℕ) → code < 40 → (get_or row code 0 ≡ 0 → ⊥) → character_of code ≡ some (get_or row code 0)
 row_filled code low filled = at (character_of code) (stands code low)
   where
     at : (o : Option ℕ) → get_or row code 0 ≡ byte_of o → o ≡ some (get_or row code 0)
     at none is = absurd (filled is)
     at (some x) is = ap some (sym is)
-
--- three codes, each looked up in the row
-module _ (a b c : ℕ) (low : (a < 40) × (b < 40) × (c < 40)) where
-  pub first_empty : get_or row a 0 ≡ 0 → none ≡ three_if (character_of a) (character_of b) (character_of c)
-  first_empty is = sym (none_first _ _ (character_of a) (row_empty a low.0 is))
-
-  pub second_empty : get_or row b 0 ≡ 0 → none ≡ three_if (character_of a) (character_of b) (character_of c)
-  second_empty is = sym (none_second (character_of a) (character_of c) (character_of b) (row_empty b low.1 is))
-
-  pub third_empty : get_or row c 0 ≡ 0 → none ≡ three_if (character_of a) (character_of b) (character_of c)
-  third_empty is = sym (none_third (character_of a) (character_of b) (character_of c) (row_empty c low.2 is))
-
-  pub three_filled : (get_or row a 0 ≡ 0 → ⊥) → (get_or row b 0 ≡ 0 → ⊥) → (get_or row c 0 ≡ 0 → ⊥)
-      → some (get_or row a 0 ∷ (get_or row b 0 ∷ (get_or row c 0 ∷ []))) ≡ three_if (character_of a) (character_of b) (character_of c)
-  three_filled p q r = rw (row_filled a low.0 p, row_filled b low.1 q, row_filled c low.2 r)

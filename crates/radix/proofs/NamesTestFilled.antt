@@ -1,14 +1,16 @@
 -- Words of three letters or digits: the codes of these, and pairs of them, as bits of a number, and names and extensions that such words make.
-use Prim.Native.Nat.{ℕ, suc, zero, ◌+◌, ◌*◌, ◌/◌, ◌%◌, ◌≤◌, ◌<◌}
+use Prim.Native.Nat.{ℕ, suc, zero, ◌+◌, ◌-◌, ◌*◌, ◌/◌, ◌%◌, ◌<◌, min}
 use mathlib.Core.Path.{◌≡◌, refl, sym, ap, subst, ◌∙◌}
 use mathlib.Core.Bool.{Bool, true, false, cond, not, ◌&&◌, ◌||◌}
+use mathlib.Core.List.{List, [], ◌∷◌}
 use native.Mathlib.Omega.{arith}
 use native.Mathlib.Decide.{ℕ_discrete}
 use lib.Dec.{eqb}
+use lib.ListN.{length, get_or}
 use Rattle.answers.proofs.RefusalsTests.{and_left, and_right, true_not_false}
 use Rattle.radix.specs.Characters.{character_of}
 use Rattle.radix.specs.Packing.{first_code, second_code, third_code}
-use Rattle.radix.specs.NamesTest.{is_letter_or_digit_in, pair_named, pair_end, bit, NamedPairs, filled, legal_name, legal_extension}
+use Rattle.radix.specs.NamesTest.{is_letter_or_digit_in, pair_named, pair_end, bit, filled, legal_name, legal_extension}
 use Rattle.radix.proofs.NamesTest.{zero_not_in_name, one_named, two_named, three_named, name_long}
 
 abbrev pub alike : Bool → Bool → Bool
@@ -19,66 +21,49 @@ alike_same true b is = sym is
 alike_same false true is = is
 alike_same false false is = refl
 
--- the bits of a number below `many` are those of the codes of letters and digits
-abbrev pub bits_are : ℕ → ℕ → Bool
-bits_are number zero = true
-bits_are number (suc many) = alike (bit number many) (is_letter_or_digit_in (character_of many)) && bits_are number many
+-- the bits of a number below `many` are what a test says of each
+abbrev pub bits_are : (ℕ → Bool) → ℕ → ℕ → Bool
+bits_are test number zero = true
+bits_are test number (suc many) = alike (bit number many) (test many) && bits_are test number many
 
-pub bit_at : (number many code : ℕ) → bits_are number many ≡ true → code < many → bit number code ≡ is_letter_or_digit_in (character_of code)
-bit_at number zero code are low = absurd (omega arith)
-bit_at number (suc many) code are low =
-    elim (ℕ_discrete many code) [
-      | yes is ↦ subst (λ (n : ℕ). bit number n ≡ is_letter_or_digit_in (character_of n)) is (alike_same _ _ (and_left _ (bits_are number many) are))
-      | no other ↦ bit_at number many code (and_right (alike (bit number many) (is_letter_or_digit_in (character_of many))) _ are) (omega (arith, other))
-    ]
-
--- the same, and that of a blank
-abbrev pub ends_are : ℕ → ℕ → Bool
-ends_are number zero = true
-ends_are number (suc many) = alike (bit number many) (is_letter_or_digit_in (character_of many) || eqb many 0) && ends_are number many
-
-pub end_at : (number many code : ℕ) → ends_are number many ≡ true → code < many → bit number code ≡ (is_letter_or_digit_in (character_of code) || eqb code 0)
-end_at number zero code are low = absurd (omega arith)
-end_at number (suc many) code are low =
-    elim (ℕ_discrete many code) [
-      | yes is ↦ subst (λ (n : ℕ). bit number n ≡ (is_letter_or_digit_in (character_of n) || eqb n 0)) is (alike_same _ _ (and_left _ (ends_are number many) are))
-      | no other ↦ end_at number many code (and_right (alike (bit number many) (is_letter_or_digit_in (character_of many) || eqb many 0)) _ are) (omega (arith, other))
-    ]
-
--- and those of pairs, from pair 64 * part on
-abbrev pub pairs_are : ℕ → ℕ → ℕ → Bool
-pairs_are part number zero = true
-pairs_are part number (suc many) = alike (bit number many) (pair_named (64 * part + many)) && pairs_are part number many
-
-pair_at : (part number many i : ℕ) → pairs_are part number many ≡ true → i < many → bit number i ≡ pair_named (64 * part + i)
-pair_at part number zero i are low = absurd (omega arith)
-pair_at part number (suc many) i are low =
+pub bit_at : (test : ℕ → Bool) (number many i : ℕ) → bits_are test number many ≡ true → i < many → bit number i ≡ test i
+bit_at test number zero i are low = absurd (omega arith)
+bit_at test number (suc many) i are low =
     elim (ℕ_discrete many i) [
-      | yes is ↦ subst (λ (n : ℕ). bit number n ≡ pair_named (64 * part + n)) is (alike_same _ _ (and_left _ (pairs_are part number many) are))
-      | no other ↦ pair_at part number many i (and_right (alike (bit number many) (pair_named (64 * part + many))) _ are) (omega (arith, other))
+      | yes is ↦ subst (λ (n : ℕ). bit number n ≡ test n) is (alike_same _ _ (and_left _ (bits_are test number many) are))
+      | no other ↦ bit_at test number many i (and_right (alike (bit number many) (test many)) _ are) (omega (arith, other))
     ]
 
--- a number that has all its bits, and the last, which has those of the pairs of a word
-pub pairs_all : (k number : ℕ) {part : ℕ} → part ≡ k → pairs_are k number 64 ≡ true → NamedPairs part number
-pairs_all k number {part} is are = subst (λ (n : ℕ). NamedPairs n number) (sym is) (record { each = λ i low inside. pair_at k number 64 i are low })
+-- the tests of a code: is its character a letter or a digit; or that, or a blank
+abbrev pub named_code : ℕ → Bool
+named_code code = is_letter_or_digit_in (character_of code)
 
-pub pairs_last : (number : ℕ) {part : ℕ} → part ≡ 25 → pairs_are 25 number 39 ≡ true → NamedPairs part number
-pairs_last number {part} is are = subst (λ (n : ℕ). NamedPairs n number) (sym is) (record { each = λ i low inside. pair_at 25 number 39 i are (omega (arith, inside)) })
+abbrev pub ending_code : ℕ → Bool
+ending_code code = named_code code || eqb code 0
 
--- a number that is none of the first `many`
-abbrev Others : ℕ → ℕ → Type 0
-Others part zero = Unit {0}
-Others part (suc many) = Others part many × (part ≡ many → ⊥)
+-- the bits of a table are all pairs of a word, 64 to a number, from those of a part on: the last part has fewer
+abbrev pub pair_of : ℕ → ℕ → Bool
+pair_of part i = pair_named (64 * part + i)
 
-pub others : (part many : ℕ) → Others part many → many ≤ part
-others part zero none = omega arith
-others part (suc many) none = omega (arith, others part many none.0, none.1)
+abbrev parts_are : ℕ → List ℕ → Bool
+parts_are part [] = true
+parts_are part (number ∷ table) = bits_are (pair_of part) number (min 64 (pair_end - 64 * part)) && parts_are (suc part) table
 
--- a pair in the number of its 64
-pub pair_in : {number : ℕ} (pair : ℕ) → pair < pair_end → NamedPairs (pair / 64) number → bit number (pair % 64) ≡ pair_named pair
-pair_in pair low pairs =
-    let whole : 64 * (pair / 64) + pair % 64 ≡ pair = omega arith in
-    pairs.each (pair % 64) (omega arith) (omega (arith, low)) ∙ ap pair_named whole
+part_at : (part : ℕ) (table : List ℕ) (k i : ℕ) → parts_are part table ≡ true → k < length table → i < 64 → 64 * (part + k) + i < pair_end
+    → bit (get_or table k 0) i ≡ pair_named (64 * (part + k) + i)
+part_at part [] k i are low inside within = absurd (omega arith)
+part_at part (number ∷ table) zero i are low inside within =
+    let here : part + zero ≡ part = omega arith in
+    rw here (bit_at (pair_of part) number (min 64 (pair_end - 64 * part)) i (and_left _ (parts_are (suc part) table) are) (omega (arith, within)))
+part_at part (number ∷ table) (suc k) i are low inside within =
+    let here : part + suc k ≡ suc part + k = omega arith in
+    rw here (part_at (suc part) table k i (and_right (bits_are (pair_of part) number (min 64 (pair_end - 64 * part))) _ are) (omega arith) inside (omega (arith, within)))
+
+-- a pair in a table of them
+pub pair_in : (table : List ℕ) (pair : ℕ) → pair < pair_end → length table ≡ 26 → parts_are 0 table ≡ true → bit (get_or table (pair / 64) 0) (pair % 64) ≡ pair_named pair
+pair_in table pair low long are =
+    let whole : 64 * (0 + pair / 64) + pair % 64 ≡ pair = omega arith in
+    part_at 0 table (pair / 64) (pair % 64) are (omega (arith, low)) (omega arith) (omega (arith, low)) ∙ ap pair_named whole
 
 -- a word, by its pair and its third code
 module _ (w : ℕ) {pair c : ℕ} (first : pair ≡ w / 40) (third : c ≡ third_code w) where

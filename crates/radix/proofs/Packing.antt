@@ -5,7 +5,7 @@ use mathlib.Core.Logic.{◌⊎◌, inl, inr, ◌↔◌}
 use mathlib.Core.List.{List, [], ◌∷◌}
 use mathlib.Core.Option.{Option, none, some}
 use native.Mathlib.Omega.{arith}
-use lib.ListN.{length, get_or, set}
+use lib.ListN.{length, get_or}
 use Rattle.answers.proofs.Conversion.{Pair}
 use Rattle.radix.specs.Characters.{code_of, character_of, Outside}
 use Rattle.radix.specs.Packing.{packed, packed_if, three_if, first_code, second_code, third_code, upper_end, word_of, characters_of, NoCharacters}
@@ -54,10 +54,6 @@ packed_second a b c ha hb hc = omega arith
 
 pub packed_third : (a b c : ℕ) → a < 40 → b < 40 → c < 40 → third_code (packed a b c) ≡ c
 packed_third a b c ha hb hc = omega arith
-
--- the codes of a word are below 40
-pub codes_below : {w a b c : ℕ} → w < upper_end → a ≡ first_code w → b ≡ second_code w → c ≡ third_code w → (a < 40) × (b < 40) × (c < 40)
-codes_below low first second third = (omega arith, omega arith, omega arith)
 
 -- RADPK's and RADUP's conversions are a pair
 unpack : (w : ℕ) (s : List ℕ) → characters_of w ≡ some s → Three (character_of (first_code w)) (character_of (second_code w)) (character_of (third_code w)) s
@@ -179,14 +175,6 @@ word_of_three [] same = absurd (omega arith)
 word_of_three (x ∷ []) same = absurd (omega arith)
 word_of_three (x ∷ (y ∷ [])) same = absurd (omega arith)
 word_of_three (x ∷ (y ∷ (z ∷ (u ∷ rest)))) same = absurd (omega arith)
-
--- a buffer of three bytes, each of them set
-pub three_set : (s : List ℕ) (x y z : ℕ) → length s ≡ 3 → set (set (set s 0 x) 1 y) 2 z ≡ x ∷ (y ∷ (z ∷ []))
-three_set (a ∷ (b ∷ (c ∷ []))) x y z same = refl
-three_set [] x y z same = absurd (omega arith)
-three_set (a ∷ []) x y z same = absurd (omega arith)
-three_set (a ∷ (b ∷ [])) x y z same = absurd (omega arith)
-three_set (a ∷ (b ∷ (c ∷ (d ∷ rest)))) x y z same = absurd (omega arith)
 
 packed_none : (p q r : Option ℕ) → packed_if p q r ≡ none → (p ≡ none) ⊎ ((q ≡ none) ⊎ (r ≡ none))
 packed_none none q r is = inl refl

@@ -20,21 +20,9 @@ at_each t [] i all low = absurd (omega arith)
 at_each t (x ∷ s) zero all low = (parts (t x) (every t s) all).0
 at_each t (x ∷ s) (suc i) all low = at_each t s i (parts (t x) (every t s) all).1 (omega arith)
 
-within : ℕ → Bool
-within weight = leb 1 weight && leb weight 51200
-
--- no entry is 0, and none is too large to be lifted over the bits
-weight_within : (i : ℕ) → i < 12 → (1 ≤ get_or weights i 0) × (get_or weights i 0 ≤ 51200)
-unfolding within
-weight_within i low =
-    let both = parts (leb 1 (get_or weights i 0)) (leb (get_or weights i 0) 51200) (at_each within weights i refl low) in
-    (leb-true 1 (get_or weights i 0) both.0, leb-true (get_or weights i 0) 51200 both.1)
-
-pub weight_lifted : {i : ℕ} → i < 12 → get_or weights i 0 * 4096 % 2 ^ 64 ≡ 4096 * get_or weights i 0
-weight_lifted {i} low = let high = (weight_within i low).1 in omega arith
-
-pub bit_below : {i bit : ℕ} → i < 12 → bit ≤ 2048 → bit ≤ get_or weights i 0 * 4096 % 2 ^ 64
-bit_below {i} low small = let w = weight_within i low in omega (arith, w.0, w.1)
+-- no entry is too large to be lifted over the bits
+weight_lifted : (i : ℕ) → i < 12 → get_or weights i 0 * 4096 % 2 ^ 64 ≡ 4096 * get_or weights i 0
+weight_lifted i low = let high = leb-true (get_or weights i 0) 51200 (at_each (λ weight. leb weight 51200) weights i refl low) in omega arith
 
 pub word_lifted : {word : ℕ} → word < upper_end → word * 4096 % 2 ^ 64 ≡ 4096 * word
 word_lifted low = omega arith
@@ -44,7 +32,7 @@ pub through_next : (i bit held : ℕ) {held' : ℕ} → i < 12 → held' ≡ les
     → through (drop i weights) bit held ≡ through (drop (i + 1) weights) (bit / 2) held'
 unfolding through
 through_next i bit held low is =
-    rw (drop-cons weights i 0 low, add-one i, is, weight_lifted low)
+    rw (drop-cons weights i 0 low, add-one i, is, weight_lifted i low)
 
 pub through_end : (i bit held : ℕ) → 12 ≤ i → through (drop i weights) bit held ≡ held
 unfolding through

@@ -1,6 +1,5 @@
 -- Radix-50: characters and their codes, words of three, legal names and extensions, RADPK and RADUP.
 pub mod Characters
-pub mod Lookup
 pub mod Packing
 pub mod Names
 pub mod NamesTest

@@ -21,10 +21,6 @@ pair_end = 1639
 abbrev pub bit : ℕ → ℕ → Bool
 bit number i = eqb (bit_and (number / 2 ^ i) 1) 1
 
--- a number with a bit for each of 64 pairs: which of them are of letters or digits
-pub record NamedPairs (part number : ℕ) : Type 0 where
-  pub each : (i : ℕ) → i < 64 → 64 * part + i < pair_end → bit number i ≡ pair_named (64 * part + i)
-
 -- three letters or digits
 unfoldable pub filled : ℕ → Bool
 filled word =

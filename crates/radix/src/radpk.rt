@@ -1,40 +1,28 @@
 // RADPK.
 ghost use Rattle.std.specs.Prelude.{◌≡◌};
+ghost use Rattle.answers.specs.Missing.{value_in};
+ghost use Rattle.answers.specs.Refusals.{answer_in};
+ghost use Rattle.radix.specs.Characters.{code_of};
+ghost use Rattle.radix.specs.Packing.{packed_if};
 ghost use Rattle.radix.specs.Radpk.{radpk};
 
-use crate::{Code, Radix50};
-use answers::Answer;
+use crate::{Radix50, code_of};
+use answers::Refusal;
 
-pub fn radpk(characters: &[u8]) -> Answer
-    ensures { result ≡ radpk characters.now }
+// The word of three characters, if each has a code.
+fn word_of(x: u8, y: u8, z: u8) -> Option<usize>
+    ensures { value_in result ≡ packed_if (code_of x) (code_of y) (code_of z) }
 {
-    if characters.len() != 3 {
-        return Answer {
-            code: 0o41,
-            number: 0,
-        };
-    }
-    let Code::Of(a) = crate::code_of(characters[0]) else {
-        return Answer {
-            code: 0o60,
-            number: 0,
-        };
+    let word = Radix50::pack(code_of(x)?, code_of(y)?, code_of(z)?);
+    Some(word.0)
+}
+
+#[tactic(auto, using(crate::proofs::RadpkCases::other_size))]
+pub fn radpk(characters: &[u8]) -> Result<usize, Refusal>
+    ensures { answer_in result ≡ radpk characters.now }
+{
+    let [x, y, z] = characters else {
+        return Err(Refusal::WrongArgument);
     };
-    let Code::Of(b) = crate::code_of(characters[1]) else {
-        return Answer {
-            code: 0o60,
-            number: 0,
-        };
-    };
-    let Code::Of(c) = crate::code_of(characters[2]) else {
-        return Answer {
-            code: 0o60,
-            number: 0,
-        };
-    };
-    let word = Radix50::pack(a, b, c);
-    Answer {
-        code: 0,
-        number: word.0,
-    }
+    word_of(*x, *y, *z).ok_or(Refusal::NotOfSet)
 }

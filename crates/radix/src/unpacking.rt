@@ -16,6 +16,7 @@ const WEIGHTS: [usize; 12] = [
 ];
 
 // Where what is held reaches the weight, the weight is taken away and its bit laid down.
+#[tactic(auto, unfolding(crate::specs::Unpacking::lessened))]
 fn take_away(held: usize, weight: usize, bit: usize) -> usize
     requires { bit ≤ weight }
     ensures { result ≡ lessened weight bit held }
@@ -34,11 +35,9 @@ fn take_weights(word: usize) -> usize
 {
     let mut held = word << 12;
     let mut bit = 2048;
-    let mut i = 0;
-    while i < 12 {
-        held = take_away(held, WEIGHTS[i] << 12, bit);
+    for weight in WEIGHTS {
+        held = take_away(held, weight << 12, bit);
         bit = bit >> 1;
-        i += 1;
     }
     held
 }

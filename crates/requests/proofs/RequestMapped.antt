@@ -7,7 +7,7 @@ use native.Mathlib.Omega.{arith}
 use Rattle.pack.specs.declared.Geometry.{Geometry}
 use Rattle.pack.specs.Geometry.{geometry_of}
 use Rattle.pack.specs.Consistent.{Consistent, held}
-use Rattle.consistency.specs.declared.Opened.TheVariants.{Good}
+use Rattle.std.specs.Prelude.{Some}
 use Rattle.consistency.specs.ConsistentTest.{consistent, opened_of}
 use Rattle.consistency.specs.Mapped.{MappedIf}
 use Rattle.consistency.proofs.ConsistentTestIff.{consistent_iff, opened_good}
@@ -24,7 +24,7 @@ use Rattle.requests.specs.Request.{Request, outcome, NotFormat, OPENO, OPEN, CLO
 use Rattle.requests.specs.RequestMap.{Listable, alloc, delet, renam, appnd, keep, openo, opens, close, map_after}
 use Rattle.requests.proofs.RequestOpened.{opened_stays}
 
-good_opened : (img : List ℕ) → consistent img ≡ true → opened_of img ≡ Good (geometry_of img)
+good_opened : (img : List ℕ) → consistent img ≡ true → opened_of img ≡ Some (geometry_of img)
 unfolding opened_of
 good_opened img tested = rw tested
 

@@ -43,9 +43,6 @@ pub record Marking (img₀ : List ℕ) (g : Geometry) (start end : ℕ) (img : L
   pub long : length img ≡ length img₀
   pub rest : bits_set img g (run_from b (end - b)) 1 ≡ bits_set img₀ g (run_from start (end - start)) 1
 
-pub marking_start : {img : List ℕ} {g : Geometry} {start end : ℕ} → start ≤ end → Marking img g start end img start
-marking_start most = record { most = most; long = refl; rest = refl }
-
 module _ {img₀ img : List ℕ} {g : Geometry} {start end b : ℕ} (m : Marking img₀ g start end img b) where
   pub marking_next : b < end → {img' : List ℕ} → img' ≡ bit_set img g b 1 → Marking img₀ g start end img' (b + 1)
   unfolding chain bits_set
@@ -104,11 +101,11 @@ module _ {img₀ all img : List ℕ} {g : Geometry} {kind left b : ℕ} (f : Fre
         next_same img₀ img' g kind b
         (link_kept also_kept f.sized.some b (omega (arith, (freeing_block more).0, f.sized.contents)) (λ on. omega (arith, on.0, on.1, (freeing_block more).0)))
 
-    pub freeing_next : (next : ℕ) → next ≡ next_of img' g kind b → Freeing img₀ g kind all img' (left - 1) next
+    pub freeing_next : (next : ℕ) → next ≡ next_of img' g kind b → {less : ℕ} → less ≡ left - 1 → Freeing img₀ g kind all img' less next
     unfolding chain bits_set
-    freeing_next next read =
+    freeing_next next read fewer =
         let is : next ≡ next_of img₀ g kind b = read ∙ same_next in
-        record {
+        rw fewer (record {
           sized = freeing_sized;
           kept = also_kept;
           rest =
@@ -121,7 +118,7 @@ module _ {img₀ all img : List ℕ} {g : Geometry} {kind left b : ℕ} (f : Fre
             count_split z b (chain (next_of img₀ g kind) (left - 1) (next_of img₀ g kind b)),
             ap (λ (y : ℕ). count z (chain (next_of img₀ g kind) (left - 1) y)) is,
           )));
-        }
+        })
 
   pub freeing_end : left ≤ 0 → img ≡ all
   unfolding chain bits_set

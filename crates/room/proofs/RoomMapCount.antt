@@ -8,7 +8,7 @@ use native.Mathlib.Decide.{dec_le}
 use lib.Dec.{eqb, leb, ltb}
 use lib.ListN.{get_or}
 use borrow.Author.Tests.{eq-eqb, ne_eqb, le-leb, lt-leb, lt-ltb, le-ltb, leb-true, leb-false}
-use Rattle.answers.specs.declared.Verdict.TheVariants.{Clear, Refused}
+use Rattle.answers.specs.Stage.{Clear, Refused}
 use Rattle.answers.specs.Refusals.{row}
 use Rattle.answers.specs.Stage.{verdict_of}
 use Rattle.answers.proofs.Refusals.{refuse, pass, clear}

@@ -35,10 +35,11 @@ module _ {img all map : List ℕ} {g : Geometry} {kind left b : ℕ} (giving : G
       rw (one_less more) (omega (arith, count_same b b (chain (next_of img g kind) (left - 1) (next_of img g kind b)) refl)) in
       giving.inside b here
 
-  pub giving_next : 0 < left → (map' : List ℕ) → map' ≡ set map b 0 → (next : ℕ) → next ≡ next_of img g kind b → Giving img g kind all map' (left - 1) next
+  pub giving_next : 0 < left → (map' : List ℕ) → map' ≡ set map b 0 → (next : ℕ) → next ≡ next_of img g kind b → {less : ℕ} → less ≡ left - 1
+      → Giving img g kind all map' less next
   unfolding chain unmarked
-  giving_next more map' given next is =
-      record {
+  giving_next more map' given next is fewer =
+      rw fewer (record {
         gives = giving.gives ∙ ap (λ (k : ℕ). unmarked map (chain (next_of img g kind) k b)) (one_less more) ∙ rw (given, is);
         inside = λ z some. giving.inside z (rw (one_less more) (omega (
           arith,
@@ -47,7 +48,7 @@ module _ {img all map : List ℕ} {g : Geometry} {kind left b : ℕ} (giving : G
           ap (λ (y : ℕ). count z (chain (next_of img g kind) (left - 1) y)) is,
         )));
         long = rw given (simp length-set giving.long);
-      }
+      })
 
   pub giving_end : left ≤ 0 → map ≡ all
   unfolding chain unmarked

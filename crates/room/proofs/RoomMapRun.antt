@@ -33,19 +33,7 @@ after_most false free = omega arith
 pub after_short : (is_free : Bool) (free next length : ℕ) → next ≡ free_after is_free free → free < length → (next ≡ length → ⊥) → next < length
 after_short is_free free next length counted short other = omega (arith, counted, after_most is_free free, other)
 
--- blocks that are held: none yet, one more, and so many more in front
-pub held_none : {map : List ℕ} {from end : ℕ} → end ≡ from → HeldFrom map from end
-held_none is = record { within = omega arith; never = λ b low high. absurd (omega arith) }
-
-pub held_more : {map : List ℕ} {from end next : ℕ} → HeldFrom map from end → (get_or map end 0 ≡ 0 → ⊥) → next ≡ end + 1 → HeldFrom map from next
-held_more {map} {from} {end} held here is-next = record {
-  within = omega (arith, held.within);
-  never = λ b low high. elim (ℕ_discrete b end) [
-    | yes is ↦ subst (λ (x : ℕ). get_or map x 0 ≡ 0 → ⊥) (sym is) here
-    | no other ↦ held.never b low (omega (arith, other))
-  ];
-}
-
+-- blocks that are held, and so many more in front
 pub held_front : {map : List ℕ} {from middle b end : ℕ} → HeldFrom map from middle → middle ≡ b → HeldFrom map b end → HeldFrom map from end
 held_front {map} {from} {middle} front is back = record {
   within = omega (arith, front.within, back.within);
@@ -55,11 +43,7 @@ held_front {map} {from} {middle} front is back = record {
   ];
 }
 
--- downwards: one block more, and a free block is not among them
-pub held_down : {map : List ℕ} {b end next : ℕ} → HeldFrom map (b + 1) end → (get_or map b 0 ≡ 0 → ⊥) → next ≡ b → HeldFrom map next end
-held_down {map} {b} {end} {next} held here is =
-    held_front {middle = next + 1} (held_more (held_none refl) (subst (λ (x : ℕ). get_or map x 0 ≡ 0 → ⊥) (sym is) here) refl) (omega (arith, is)) held
-
+-- a free block is not among them
 free_below_law : {map : List ℕ} {from end z : ℕ} → HeldFrom map from end → get_or map z 0 ≡ 0 → z < end → z < from
 free_below_law {map} {from} {end} {z} held nobody below = by (dec_lt z from)
   where
@@ -202,9 +186,6 @@ module _ {map : List ℕ} {g : Geometry} {from skipped : ℕ} (known : SomeBelow
   module _ (b : ℕ) (passed : HeldFrom map (b + 1) (skipped - 1 + 1)) where
     all_passed : HeldFrom map (b + 1) from
     all_passed = held_front passed (omega (arith, search_starts)) first
-
-    pub search_on : (get_or map b 0 ≡ 0 → ⊥) → 0 < b
-    search_on here = omega (arith, free_below_law (held_down all_passed here refl) known.free.nobody known.less)
 
     pub search_ends : from ≤ g.blocks → get_or map b 0 ≡ 0 → some b ≡ run_on map g.bodies.0 g.blocks 1 from
     search_ends below nobody =

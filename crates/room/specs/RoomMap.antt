@@ -1,11 +1,11 @@
 -- Means: what is free on a map that says how often each block is held, as the code counts and seeks it.
-use Rattle.std.specs.Prelude.{ℕ, suc, zero, ◌+◌, ◌≤◌, ◌<◌, ◌≡◌, Bool, true, cond, ◌&&◌, List, [], ◌∷◌, eqb, leb, ltb, get_or, set}
+use Rattle.std.specs.Prelude.{ℕ, suc, zero, ◌+◌, ◌≤◌, ◌<◌, ◌≡◌, Bool, true, cond, ◌&&◌, List, [], ◌∷◌, eqb, leb, ltb, get_or, set, Some, None}
+use Rattle.std.specs.declared.option.Option.{Option as Answered}
 use Rattle.std.proofs.Math.Option.{Option, none, some}
+use Rattle.pack.specs.declared.BlockNo.{BlockNo}
 use Rattle.pack.specs.declared.Geometry.{Geometry}
 use Rattle.pack.specs.File.{one}
 use Rattle.pack.specs.Consistent.{total, held}
-use Rattle.room.specs.declared.Run.{Run}
-use Rattle.room.specs.declared.Run.TheVariants.{Start, Nowhere}
 
 -- what a check of an image leaves
 abbrev pub Says : List ℕ → List ℕ → Type 0
@@ -62,9 +62,10 @@ unfoldable pub free_from : List ℕ → ℕ → ℕ → ℕ
 free_from map b zero = 0
 free_from map b (suc k) = free_after (is_free_on map b) (free_from map (b + 1) k)
 
-abbrev pub start_in : Run → Option ℕ
-start_in (Start b) = some b.0
-start_in Nowhere = none
+-- where a run starts by the code's answer, or that there is none
+abbrev pub start_in : Answered BlockNo → Option ℕ
+start_in (Some b) = some b.0
+start_in None = none
 
 -- the map with `count` blocks from b on marked as held once
 unfoldable pub marked_from : List ℕ → ℕ → ℕ → List ℕ

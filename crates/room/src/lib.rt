@@ -5,7 +5,7 @@
 ghost use Rattle.std.specs.Prelude.{◌≡◌, true, [], ◌∷◌, ℕ, ◌+◌, ◌-◌, ◌≤◌, ◌<◌, eqb, ltb, length, set};
 ghost use Rattle.std.proofs.Math.Option.{some};
 ghost use Rattle.answers.specs.Refusals.{row};
-ghost use Rattle.answers.specs.Stage.{verdict_of};
+ghost use Rattle.answers.specs.Stage.{verdict_of, verdict_in};
 ghost use Rattle.pack.specs.GeometrySized.{most_blocks, Sized};
 ghost use Rattle.pack.specs.File.{blocks_of, count};
 ghost use Rattle.room.specs.RoomMap.{run_on, free_after, start_in, free_on, FreeOn, SomeBelow, HeldFrom, marked_from, unmarked};
@@ -13,19 +13,12 @@ ghost use Rattle.pack.specs.Map.{bits_set};
 ghost use Rattle.room.specs.Room.{InRun, run_from};
 ghost use Rattle.room.specs.Cleared.{cleared, taken};
 
-use answers::Verdict;
-use pack::{BlockNo, Entry, Geometry};
+use answers::Refusal;
+use pack::{BlockNo, Entry, Geometry, View};
 
 // A count of blocks.
 #[derive(Clone, Copy)]
 pub struct Blocks(pub usize);
-
-// Where a free run starts, or that there is none.
-#[derive(Clone, Copy)]
-pub enum Run {
-    Start(BlockNo),
-    Nowhere,
-}
 
 // So many held blocks are passed at once: the compiler looks at sixteen in one step. It is 32 in the contracts.
 const STRIDE: usize = 32;
@@ -35,12 +28,10 @@ fn are_held(map: &[u8], from: usize) -> bool
     ensures { result ≡ true → HeldFrom map.now from (from + 32) }
 {
     let mut held = true;
-    let mut i = 0;
-    while i < STRIDE {
-        if map[from + i] == 0 {
+    for b in from..from + STRIDE {
+        if map[b] == 0 {
             held = false;
         }
-        i += 1;
     }
     held
 }
@@ -51,31 +42,26 @@ fn skip_held(map: &[u8], end: usize) -> usize
     ensures { HeldFrom map.now result end }
 {
     let mut b = end;
-    while STRIDE <= b {
-        if !are_held(map, b - STRIDE) {
-            return b;
-        }
+    while STRIDE <= b && are_held(map, b - STRIDE) {
         b -= STRIDE;
     }
     b
 }
 
 // Downwards, with a count of the free blocks from here on: the first run that is long enough has the highest start.
-pub fn highest_run(map: &[u8], g: Geometry, count: Blocks) -> Run
+pub fn highest_run(map: &[u8], g: Geometry, count: Blocks) -> Option<BlockNo>
     requires { (g.blocks ≤ length map.now) × (g.blocks ≤ most_blocks) × (0 < count.0) }
     ensures { start_in result ≡ run_on map.now g.bodies.0 g.blocks count.0 g.blocks }
 {
     let low = g.bodies.0;
-    let mut b = skip_held(map, g.blocks);
     let mut free = 0;
-    while low < b {
-        b -= 1;
+    for b in (low..skip_held(map, g.blocks)).rev() {
         free = free_after(map[b], free);
         if free == count.0 {
-            return Run::Start(BlockNo(b));
+            return Some(BlockNo(b));
         }
     }
-    Run::Nowhere
+    None
 }
 
 // One block, sought downwards from a block from which on none is free: who takes several in a row passes no block twice. That one is free is known.
@@ -91,6 +77,7 @@ pub fn highest_below(map: &[u8], g: Geometry, from: BlockNo) -> BlockNo
     BlockNo(b)
 }
 
+#[tactic(auto, unfolding(crate::specs::RoomMap::free_after))]
 fn free_after(times: u8, free: usize) -> usize
     requires { free ≤ most_blocks }
     ensures { result ≡ free_after (eqb times 0) free }
@@ -106,39 +93,33 @@ pub fn free_count(map: &[u8], g: Geometry) -> usize
     requires bodies_le_blocks { g.bodies.0 ≤ g.blocks }
     ensures { result ≡ free_on map.now g.bodies.0 (g.blocks - g.bodies.0) }
 {
-    let end = g.blocks;
-    let mut b = g.bodies.0;
     let mut free = 0;
-    while b < end {
+    for b in g.bodies.0..g.blocks {
         if map[b] == 0 {
             free += 1;
         }
-        b += 1;
     }
     free
 }
 
 // "42: no free block": fewer are free than are needed. Upwards, and no further than where enough were seen: it is cheap where few are needed.
-pub fn judge_room(map: &[u8], g: Geometry, needed: Blocks) -> Verdict
+pub fn judge_room(map: &[u8], g: Geometry, needed: Blocks) -> Result<(), Refusal>
     requires { g.blocks ≤ length map.now }
-    ensures { result ≡ verdict_of (row (ltb (free_on map.now g.bodies.0 (g.blocks - g.bodies.0)) needed.0) 0o42 ∷ []) }
+    ensures { verdict_in result ≡ verdict_of (row (ltb (free_on map.now g.bodies.0 (g.blocks - g.bodies.0)) needed.0) 0o42 ∷ []) }
 {
-    let end = g.blocks;
-    let mut b = g.bodies.0;
     let mut left = needed.0;
-    while b < end {
+    for b in g.bodies.0..g.blocks {
         if left == 0 {
-            return Verdict::Clear;
+            return Ok(());
         }
         if map[b] == 0 {
             left -= 1;
         }
-        b += 1;
     }
     if left == 0 {
-        return Verdict::Clear;
+        return Ok(());
     }
-    Verdict::Refused(0o42)
+    Err(Refusal::NoRoom)
 }
 
 // All bytes of a block 0, and the block taken on the map that the check filled.
@@ -150,11 +131,9 @@ fn clear_block(img: &mut [u8], map: &mut [u8], g: Geometry, b: BlockNo)
 {
     let segments = g.segments;
     let bytes = segments.bytes();
-    let at = b.0;
-    let start = at * bytes;
-    let end = start + bytes;
-    words::clear(&mut img[start..end]);
-    map[at] = 1;
+    let start = b.0 * bytes;
+    img[start..start + bytes].fill(0);
+    map[b.0] = 1;
 }
 
 // A run of free blocks, each by itself.
@@ -166,10 +145,8 @@ fn clear_run(img: &mut [u8], map: &mut [u8], g: Geometry, start: BlockNo, count:
     ensures map_after { map.new ≡ marked_from map.old start.0 count.0 }
 {
     let end = start.0 + count.0;
-    let mut left = count.0;
-    while 0 < left {
-        clear_block(img, map, g, BlockNo(end - left));
-        left -= 1;
+    for b in start.0..end {
+        clear_block(img, map, g, BlockNo(b));
     }
 }
 
@@ -182,11 +159,8 @@ pub fn mark_run(img: &mut [u8], g: Geometry, start: BlockNo, count: Blocks)
     if !pack::has_map(g) {
         return;
     }
-    let end = start.0 + count.0;
-    let mut b = start.0;
-    while b < end {
+    for b in start.0..start.0 + count.0 {
         pack::set_bit(img, g, BlockNo(b), 1);
-        b += 1;
     }
 }
 
@@ -218,24 +192,20 @@ fn give_up_block(map: &mut [u8], b: BlockNo)
     requires { b.0 < length map.old }
     ensures { map.new ≡ set map.old b.0 0 }
 {
-    let at = b.0;
-    map[at] = 0;
+    map[b.0] = 0;
 }
 
 // The blocks of a file, each given up by itself.
-pub fn give_up(img: &[u8], map: &mut [u8], g: Geometry, x: Entry)
-    requires sized { Sized img.now g }
-    requires blocks_in_bounds { g.blocks ≤ length map.old }
-    requires by_index { (z : ℕ) → 0 < count z (blocks_of img.now g x) → z < g.blocks }
-    ensures { map.new ≡ unmarked map.old (blocks_of img.now g x) }
+pub fn give_up(view: View<'_>, map: &mut [u8], x: Entry)
+    requires blocks_in_bounds { view.g.blocks ≤ length map.old }
+    requires by_index { (z : ℕ) → 0 < count z (blocks_of view.img.now view.g x) → z < view.g.blocks }
+    ensures { map.new ≡ unmarked map.old (blocks_of view.entry.img.now view.entry.g x) }
 {
-    let kind = x.kind;
-    let mut more = x.length;
+    let count = x.length;
     let mut b = x.first;
-    while 0 < more {
+    for _ in 0..count {
         give_up_block(map, b);
-        b = pack::next_block(img, g, kind, b);
-        more -= 1;
+        b = view.next_block(x.kind, b);
     }
 }
 
@@ -245,13 +215,10 @@ fn clear_each(img: &mut [u8], g: Geometry, x: Entry)
     requires by_index { (z : ℕ) → 0 < count z (blocks_of img.old g x) → (g.bodies.0 ≤ z) × (z < g.blocks) }
     ensures { img.new ≡ bits_set img.old g (blocks_of img.old g x) 0 }
 {
-    let kind = x.kind;
-    let mut rest = x.length;
     let mut b = x.first;
-    while 0 < rest {
+    for _ in 0..x.length {
         pack::set_bit(img, g, b, 0);
-        b = pack::next_block(img, g, kind, b);
-        rest -= 1;
+        b = View { img, g }.next_block(x.kind, b);
     }
 }
 

@@ -27,7 +27,9 @@ pub extern "C" fn abz_binary_read(
     ensures buffer_after { buffer.new ≡ (binary_read image.now (key_of caller name1 name2 extension uic) caller mode position coming sum buffer.old).buffer }
 {
     let key = asking::key_of(caller, name1, name2, extension, uic);
-    binary::binary_read::binary_read(image, key, caller, mode, position, coming, sum, buffer)
+    BinaryAnswer::from(binary::binary_read::binary_read(
+        image, key, caller, mode, position, coming, sum, buffer,
+    ))
 }
 
 #[unsafe(no_mangle)]
@@ -49,5 +51,7 @@ pub extern "C" fn abz_binary_write(
     ensures gather_after { gather.new ≡ (binary_write image.old (key_of caller name1 name2 extension uic) caller content.now gather.old filled).buffer }
 {
     let key = asking::key_of(caller, name1, name2, extension, uic);
-    binary::binary_write::binary_write(image, key, caller, content, gather, filled)
+    WriteAnswer::from(binary::binary_write::binary_write(
+        image, key, caller, content, gather, filled,
+    ))
 }

@@ -22,7 +22,7 @@ pub extern "C" fn abz_csi2(
 ) -> SpecificationAnswer
     ensures { Csi2Answered line.now side k switches.old result switches.new }
 {
-    command::csi2::asking_answer(command::csi2::csi2(line, side, k, switches))
+    command::csi2::csi2(line, side, k, switches).into()
 }
 
 #[unsafe(no_mangle)]

@@ -6,12 +6,13 @@ ghost use Rattle.numerals.specs.Decimal.{d2bin, bin2d};
 ghost use Rattle.numerals.specs.Octal.{o2bin, bin2o};
 
 use answers::Answer;
+use numerals::notation::{Decimal, Notation, Octal};
 
 #[unsafe(no_mangle)]
 pub extern "C" fn abz_radpk(characters: &[u8]) -> Answer
     ensures { result ≡ radpk characters.now }
 {
-    radix::radpk::radpk(characters)
+    Answer::from(radix::radpk::radpk(characters))
 }
 
 #[unsafe(no_mangle)]
@@ -19,14 +20,14 @@ pub extern "C" fn abz_radup(word: usize, characters: &mut [u8]) -> usize
     ensures value { result ≡ (radup word characters.old).code }
     ensures characters_after { characters.new ≡ (radup word characters.old).buffer }
 {
-    radix::radup::radup(word, characters)
+    answers::code(radix::radup::radup(word, characters))
 }
 
 #[unsafe(no_mangle)]
 pub extern "C" fn abz_d2bin(characters: &[u8]) -> Answer
     ensures { result ≡ d2bin characters.now }
 {
-    numerals::decimal::d2bin(characters)
+    Answer::from(Decimal::to_number(characters))
 }
 
 #[unsafe(no_mangle)]
@@ -34,14 +35,14 @@ pub extern "C" fn abz_bin2d(number: usize, characters: &mut [u8]) -> usize
     ensures value { result ≡ (bin2d number characters.old).code }
     ensures characters_after { characters.new ≡ (bin2d number characters.old).buffer }
 {
-    numerals::decimal::bin2d(number, characters)
+    answers::code(Decimal::to_characters(number, characters))
 }
 
 #[unsafe(no_mangle)]
 pub extern "C" fn abz_o2bin(characters: &[u8]) -> Answer
     ensures { result ≡ o2bin characters.now }
 {
-    numerals::octal::o2bin(characters)
+    Answer::from(Octal::to_number(characters))
 }
 
 #[unsafe(no_mangle)]
@@ -49,5 +50,5 @@ pub extern "C" fn abz_bin2o(number: usize, characters: &mut [u8]) -> usize
     ensures value { result ≡ (bin2o number characters.old).code }
     ensures characters_after { characters.new ≡ (bin2o number characters.old).buffer }
 {
-    numerals::octal::bin2o(number, characters)
+    answers::code(Octal::to_characters(number, characters))
 }

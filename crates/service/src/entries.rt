@@ -8,6 +8,7 @@ ghost use Rattle.directory.specs.Keep.{keep};
 ghost use Rattle.directory.specs.Renam.{new_key, renam};
 ghost use Rattle.appending.specs.Appnd.{appnd};
 
+use crate::blocks::numbered;
 use answers::Answer;
 use directory::look::LookAnswer;
 use pack::{Key, Segments};
@@ -27,13 +28,8 @@ pub extern "C" fn abz_alloc(
     ensures number_value { (result.number ∷ []) ≡ (alloc image.old (key_of caller name1 name2 extension uic) caller protect segments).numbers }
     ensures image_after { image.new ≡ (alloc image.old (key_of caller name1 name2 extension uic) caller protect segments).image }
 {
-    creation::alloc::alloc(
-        image,
-        asking::key_of(caller, name1, name2, extension, uic),
-        caller,
-        protect,
-        Segments(segments),
-    )
+    let key = asking::key_of(caller, name1, name2, extension, uic);
+    numbered(creation::alloc::alloc(image, key, caller, protect, Segments(segments)))
 }
 
 #[unsafe(no_mangle)]
@@ -48,11 +44,8 @@ pub extern "C" fn abz_delet(
     ensures value { result ≡ (delet image.old (key_of caller name1 name2 extension uic) caller).code }
     ensures image_after { image.new ≡ (delet image.old (key_of caller name1 name2 extension uic) caller).image }
 {
-    directory::delet::delet(
-        image,
-        asking::key_of(caller, name1, name2, extension, uic),
-        caller,
-    )
+    let key = asking::key_of(caller, name1, name2, extension, uic);
+    answers::code(directory::delet::delet(image, key, caller))
 }
 
 #[unsafe(no_mangle)]
@@ -80,7 +73,7 @@ pub extern "C" fn abz_renam(
         extension: new_extension,
         uic: old.uic,
     };
-    directory::renam::renam(image, old, new, protect, caller)
+    answers::code(directory::renam::renam(image, old, new, protect, caller))
 }
 
 #[unsafe(no_mangle)]
@@ -95,11 +88,8 @@ pub extern "C" fn abz_keep(
     ensures value { result ≡ (keep image.old (key_of caller name1 name2 extension uic) caller).code }
     ensures image_after { image.new ≡ (keep image.old (key_of caller name1 name2 extension uic) caller).image }
 {
-    directory::keep::keep(
-        image,
-        asking::key_of(caller, name1, name2, extension, uic),
-        caller,
-    )
+    let key = asking::key_of(caller, name1, name2, extension, uic);
+    answers::code(directory::keep::keep(image, key, caller))
 }
 
 #[unsafe(no_mangle)]
@@ -128,7 +118,7 @@ pub extern "C" fn abz_appnd(
         second_extension,
         second_uic,
     );
-    appending::appnd::appnd(image, first, second, caller)
+    answers::code(appending::appnd::appnd(image, first, second, caller))
 }
 
 #[unsafe(no_mangle)]
@@ -142,5 +132,6 @@ pub extern "C" fn abz_look(
 ) -> LookAnswer
     ensures { look_outcome image.now result ≡ look image.now (key_of caller name1 name2 extension uic) }
 {
-    directory::look::look(image, asking::key_of(caller, name1, name2, extension, uic))
+    let key = asking::key_of(caller, name1, name2, extension, uic);
+    LookAnswer::from(directory::look::look(image, key))
 }

@@ -8,5 +8,5 @@ pub extern "C" fn abz_many(image: &mut [u8], records: &[u8], answers: &mut [u8])
     ensures image_after { image.new ≡ (many image.old records.now answers.old).image }
     ensures answers_after { answers.new ≡ (many image.old records.now answers.old).buffer }
 {
-    many::serve(image, records, answers)
+    answers::code(many::serve(image, records, answers))
 }

@@ -8,7 +8,7 @@ pub extern "C" fn abz_to_form2(source: &[u8], target: &mut [u8]) -> usize
     ensures moving { Moving Up source.now target.old result target.new }
     ensures bytes { Bytes source.now × Bytes target.new }
 {
-    moving::to_form2(source, target)
+    answers::code(moving::to_form2(source, target))
 }
 
 #[unsafe(no_mangle)]
@@ -16,5 +16,5 @@ pub extern "C" fn abz_to_form1(source: &[u8], target: &mut [u8]) -> usize
     ensures moving { Moving Down source.now target.old result target.new }
     ensures bytes { Bytes source.now × Bytes target.new }
 {
-    moving::to_form1(source, target)
+    answers::code(moving::to_form1(source, target))
 }

@@ -21,12 +21,12 @@ pub extern "C" fn abz_openo(
     ensures value { result ≡ (openo image.old (key_of caller name1 name2 extension uic) caller protect).code }
     ensures image_after { image.new ≡ (openo image.old (key_of caller name1 name2 extension uic) caller protect).image }
 {
-    creation::openo::openo(
+    answers::code(creation::openo::openo(
         image,
         asking::key_of(caller, name1, name2, extension, uic),
         caller,
         protect,
-    )
+    ))
 }
 
 #[unsafe(no_mangle)]
@@ -41,12 +41,12 @@ pub extern "C" fn abz_openi(
     ensures value { result ≡ (opened Input image.old (key_of caller name1 name2 extension uic) caller).code }
     ensures image_after { image.new ≡ (opened Input image.old (key_of caller name1 name2 extension uic) caller).image }
 {
-    opening::opens::open(
+    answers::code(opening::opens::open(
         image,
         Opening::Input,
         asking::key_of(caller, name1, name2, extension, uic),
         caller,
-    )
+    ))
 }
 
 #[unsafe(no_mangle)]
@@ -61,12 +61,12 @@ pub extern "C" fn abz_openu(
     ensures value { result ≡ (opened Update image.old (key_of caller name1 name2 extension uic) caller).code }
     ensures image_after { image.new ≡ (opened Update image.old (key_of caller name1 name2 extension uic) caller).image }
 {
-    opening::opens::open(
+    answers::code(opening::opens::open(
         image,
         Opening::Update,
         asking::key_of(caller, name1, name2, extension, uic),
         caller,
-    )
+    ))
 }
 
 #[unsafe(no_mangle)]
@@ -81,12 +81,12 @@ pub extern "C" fn abz_opene(
     ensures value { result ≡ (opened Extension image.old (key_of caller name1 name2 extension uic) caller).code }
     ensures image_after { image.new ≡ (opened Extension image.old (key_of caller name1 name2 extension uic) caller).image }
 {
-    opening::opens::open(
+    answers::code(opening::opens::open(
         image,
         Opening::Extension,
         asking::key_of(caller, name1, name2, extension, uic),
         caller,
-    )
+    ))
 }
 
 #[unsafe(no_mangle)]
@@ -102,9 +102,9 @@ pub extern "C" fn abz_close(
     ensures value { result ≡ (close image.old (key_of caller name1 name2 extension uic) mode).code }
     ensures image_after { image.new ≡ (close image.old (key_of caller name1 name2 extension uic) mode).image }
 {
-    opening::close::close(
+    answers::code(opening::close::close(
         image,
         asking::key_of(caller, name1, name2, extension, uic),
         mode,
-    )
+    ))
 }

@@ -7,5 +7,5 @@ use faults::ReportAnswer;
 pub extern "C" fn abz_report(image: &[u8]) -> ReportAnswer
     ensures { Report image.now result }
 {
-    faults::report(image)
+    faults::report(image).into()
 }

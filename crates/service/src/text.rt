@@ -25,7 +25,7 @@ pub extern "C" fn abz_line_read(
     ensures buffer_after { buffer.new ≡ (line_read image.now (key_of caller name1 name2 extension uic) caller mode position buffer.old).buffer }
 {
     let key = asking::key_of(caller, name1, name2, extension, uic);
-    lines::line_read::line_read(image, key, caller, mode, position, buffer)
+    ReadAnswer::from(lines::line_read::line_read(image, key, caller, mode, position, buffer))
 }
 
 #[unsafe(no_mangle)]
@@ -48,7 +48,7 @@ pub extern "C" fn abz_line_write(
     ensures gather_after { gather.new ≡ (line_write image.old (key_of caller name1 name2 extension uic) caller mode text.now gather.old filled).buffer }
 {
     let key = asking::key_of(caller, name1, name2, extension, uic);
-    lines::line_write::line_write(image, key, caller, mode, text, gather, filled)
+    WriteAnswer::from(lines::line_write::line_write(image, key, caller, mode, text, gather, filled))
 }
 
 #[unsafe(no_mangle)]
@@ -67,5 +67,5 @@ pub extern "C" fn abz_line_end(
     ensures gather_after { gather.new ≡ (line_end image.old (key_of caller name1 name2 extension uic) caller gather.old filled).buffer }
 {
     let key = asking::key_of(caller, name1, name2, extension, uic);
-    lines::line_write::line_end(image, key, caller, gather, filled)
+    answers::code(lines::line_write::line_end(image, key, caller, gather, filled))
 }

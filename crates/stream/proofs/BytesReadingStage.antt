@@ -17,7 +17,7 @@ use Rattle.pack.specs.Geometry.{geometry_of, segment_bytes, payload_bytes}
 use Rattle.pack.specs.GeometrySized.{most_segments, Sized}
 use Rattle.pack.specs.File.{blocks_of, count}
 use Rattle.asking.specs.declared.Right.TheVariants.{Read}
-use Rattle.asking.specs.declared.Asked.TheVariants.{Refused}
+use Rattle.asking.specs.AskedStage.{Refused}
 use Rattle.asking.specs.Outcome.{Outcome, zeroed, settled}
 use Rattle.asking.specs.AskedStage.{file_rows}
 use Rattle.asking.specs.Asked.{entry_no, file_of}
@@ -25,8 +25,7 @@ use Rattle.asking.specs.Access.{access_rows}
 use Rattle.asking.specs.AccessStage.{accessed_of}
 use Rattle.asking.proofs.AccessStage.{Reached, reached_clear, outcome_unreached, outcome_stopped, outcome_passed}
 use Rattle.bodies.specs.Payloads.{payloads_of}
-use Rattle.stream.specs.declared.Spot.{Spot}
-use Rattle.stream.specs.Spot.{bytes_from, most_bytes}
+use Rattle.stream.specs.Spot.{most_bytes}
 use Rattle.stream.specs.BytesReading.{bytes_behind}
 use Rattle.stream.specs.BytesReadingRows.{reading_rows}
 use Rattle.stream.proofs.SpotSteps.{linked_length}
@@ -114,10 +113,10 @@ module _ {img : List ℕ} {key : Key} {wrong : Bool} {caller : ℕ} {g : Geometr
           × ((x.kind ≡ 2) × (position ≤ x.length * payload_bytes g)))
       reading_located = asked_locate reached.file reached.access.kind position inside
 
-    -- what stands at the spot that it finds
-    module _ (spot : Spot) (stands : bytes_from img g spot ≡ drop position (payloads_of img g (blocks_of img g x))) where
-      pub bytes_here : bytes_from img g spot ≡ bytes_behind img key position
+    -- what is still to be read from there on
+    module _ (here : List ℕ) (stands : here ≡ drop position (payloads_of img g (blocks_of img g x))) where
+      pub bytes_here : here ≡ bytes_behind img key position
       bytes_here = stands ∙ bytes_read
 
-      pub bytes_few : length (bytes_from img g spot) ≤ most_bytes
+      pub bytes_few : length (here) ≤ most_bytes
       bytes_few = omega (arith, ap (λ (s : List ℕ). length s) bytes_here, bytes_left, few_bytes)

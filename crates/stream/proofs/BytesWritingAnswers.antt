@@ -10,8 +10,7 @@ use Rattle.pack.specs.declared.Entry.{Entry}
 use Rattle.pack.specs.declared.Key.{Key}
 use Rattle.pack.specs.Geometry.{geometry_of, payload_bytes}
 use Rattle.consistency.specs.Mapped.{Mapped, MappedIf}
-use Rattle.asking.specs.declared.Asked.{Asked}
-use Rattle.asking.specs.declared.Asked.TheVariants.{File, Refused}
+use Rattle.asking.specs.AskedStage.{Asked, File, Refused}
 use Rattle.asking.specs.Outcome.{Outcome, zeroed}
 use Rattle.asking.specs.AskedStage.{stage_of}
 use Rattle.asking.proofs.Outcome.{settled_refused, settled_success}

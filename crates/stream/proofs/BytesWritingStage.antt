@@ -1,9 +1,8 @@
--- The stage of a request that writes bytes: how many blocks become full, and what each answer of linked add's stage comes to.
-use Prim.Native.Nat.{ℕ, ◌+◌, ◌-◌, ◌*◌, ◌/◌, ◌≤◌, ◌<◌}
+-- The stage of a request that writes bytes: what each answer of linked add's stage comes to.
+use Prim.Native.Nat.{ℕ, ◌+◌, ◌/◌, ◌<◌}
 use mathlib.Core.Path.{◌≡◌, refl, sym, ap, ◌∙◌}
 use mathlib.Core.Bool.{Bool, true, false, not, ◌||◌, false≢true}
 use mathlib.Core.List.{List}
-use native.Mathlib.Nat.{mul-add-div_right, div-eq_of_lt, div-le_self}
 use native.Mathlib.Omega.{arith}
 use lib.Dec.{eqb, leb}
 use lib.ListN.{length}
@@ -12,29 +11,13 @@ use Rattle.answers.specs.Refusals.{first_of}
 use Rattle.pack.specs.declared.Key.{Key}
 use Rattle.pack.specs.Geometry.{geometry_of, payload_bytes}
 use Rattle.consistency.specs.ConsistentTest.{consistent}
-use Rattle.asking.specs.declared.Asked.{Asked}
+use Rattle.asking.specs.AskedStage.{Asked}
 use Rattle.asking.specs.KeysTest.{legal_key}
 use Rattle.asking.specs.AskedStage.{file_rows, stage_of}
 use Rattle.adding.specs.LinkedAddRows.{linked_add_rows}
 use Rattle.stream.specs.Gather.{gathered}
 use Rattle.stream.proofs.Gather.{gathered_count}
 use Rattle.stream.specs.BytesWriting.{wrong_gather, gathered_in, writing_rows}
-
--- the bytes that fill the first block taken off
-module _ (size filled bytes : ℕ) (some : filled < size) where
-  pub full_none : bytes < size - filled → 0 ≡ (filled + bytes) / size
-  full_none short = sym (div-eq_of_lt (omega (arith, short, some)))
-
-  module _ (enough : size - filled ≤ bytes) where
-    pub full_fits : (bytes - (size - filled)) / size + 1 ≤ bytes
-    full_fits = omega (arith, div-le_self (bytes - (size - filled)) size, enough, some)
-
-    pub full_more : (bytes - (size - filled)) / size + 1 ≡ (filled + bytes) / size
-    full_more =
-        let sum : 1 * size + (bytes - (size - filled)) ≡ filled + bytes = omega (arith, enough, some) in
-        let quotient : (1 * size + (bytes - (size - filled))) / size ≡ 1 + (bytes - (size - filled)) / size =
-        mul-add-div_right (omega (arith, some)) 1 (bytes - (size - filled)) in
-        omega (arith, ap (λ (n : ℕ). n / size) sum, quotient)
 
 -- neither the gather buffer nor another argument is wrong
 pub record Fitting (img : List ℕ) (wrong : Bool) (gather : List ℕ) (filled : ℕ) : Type 0 where
@@ -52,11 +35,6 @@ pub argument_fits : (img : List ℕ) (wrong : Bool) (gather : List ℕ) (filled 
 argument_fits img wrong gather filled argument =
     let a = fits_by (eqb (length gather) (payload_bytes (geometry_of img))) (leb (payload_bytes (geometry_of img)) filled) wrong argument in
     record { whole = eqb-true _ _ a.0; room = leb-false _ _ a.1; other = a.2 }
-
--- the code's test of the gather buffer and the filled count
-pub gather_judged : (img gather : List ℕ) (filled : ℕ) {size : ℕ} → size ≡ payload_bytes (geometry_of img)
-    → (not (eqb (length gather) size) || leb size filled) ≡ wrong_gather img gather filled
-gather_judged img gather filled stated = ap (λ (n : ℕ). not (eqb (length gather) n) || leb n filled) stated
 
 module _ (img : List ℕ) (key : Key) (caller : ℕ) where
   -- where an argument is wrong nobody looks at how many blocks are needed

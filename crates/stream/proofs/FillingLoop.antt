@@ -1,13 +1,16 @@
 -- Bytes laid in a loop, and bytes behind bytes: each can be laid, and what was to lay at the start comes down to what is left.
-use Prim.Native.Nat.{ℕ, ◌+◌, ◌≤◌, ◌<◌}
+use Prim.Native.Nat.{ℕ, ◌+◌, ◌-◌, ◌≤◌, ◌<◌}
 use mathlib.Core.Path.{◌≡◌, refl, sym, ap, subst, ◌∙◌}
 use mathlib.Core.List.{List, [], ◌∷◌, ◌++◌, append_assoc, append-nil}
 use native.Mathlib.Numerals.{add-one}
 use native.Mathlib.Omega.{arith}
-use lib.ListN.{length, get_or, set, drop, drop_of_length-le, length-set}
-use lib.Seq.{drop-cons}
+use lib.ListN.{length, get_or, set, take, drop, length-set, take-append-drop}
+use lib.Seq.{drop-cons, take-suc-set, drop-set-lt}
+use borrow.Rule.Slice.PartMut.{put_mid}
+use Rattle.words.proofs.WordSlices.{part_back}
 use Rattle.pack.specs.declared.Geometry.{Geometry}
 use Rattle.pack.specs.declared.Key.{Key}
+use Rattle.pack.specs.declared.BlockNo.{BlockNo}
 use Rattle.pack.specs.Geometry.{payload_bytes}
 use Rattle.consistency.specs.Mapped.{Mapped}
 use Rattle.stream.specs.declared.Filling.{Filling}
@@ -50,22 +53,40 @@ module _ {g : Geometry} {e : ℕ} {img₀ map₀ gather₀ : List ℕ} {start : 
         → LaidByte img map g e at gather' img' map' r → Laying g e img₀ map₀ gather₀ start bytes img' map' gather' r (drop (i + 1) bytes)
     index_next inside laid one = laying_next (at_index inside) laid one
 
-    pub index_end : length bytes ≤ i → Laying g e img₀ map₀ gather₀ start bytes img map gather at []
-    index_end over = rw (← drop_of_length-le bytes over) laying
+-- bytes laid in the buffer alone, all at once, with room behind them
+within_from : {g : Geometry} {e : ℕ} {img map gather₀ : List ℕ} {start : Filling} {bytes : List ℕ} {from : BlockNo} (left gather : List ℕ) (filled : ℕ)
+    → filled + length left < length gather
+    → Laying g e img map gather₀ start bytes img map gather (record { filled = filled; from = from }) left
+    → Laying g e img map gather₀ start bytes img map (take filled gather ++ (left ++ drop (filled + length left) gather))
+    (record { filled = filled + length left; from = from }) []
+within_from {g} {e} {img} {map} {gather₀} {start} {bytes} {from} [] gather filled room laying =
+    let count : filled ≡ filled + 0 = omega arith in
+    let buffer : gather ≡ take filled gather ++ drop (filled + 0) gather =
+    sym (take-append-drop filled gather) ∙ ap (λ (k : ℕ). take filled gather ++ drop k gather) count in
+    subst (λ (k : ℕ). Laying g e img map gather₀ start bytes img map (take filled gather ++ drop (filled + 0) gather) (record { filled = k; from = from }) []) count
+    (subst (λ (s : List ℕ). Laying g e img map gather₀ start bytes img map s (record { filled = filled; from = from }) []) buffer laying)
+within_from {g} {e} {img} {map} {gather₀} {start} {bytes} {from} (b ∷ left) gather filled room laying =
+    let other : filled + 1 ≡ length (set gather filled b) → ⊥ = λ full. omega (arith, room, full, length-set gather filled b) in
+    let count : filled + 1 + length left ≡ filled + length (b ∷ left) = omega arith in
+    let front : take (filled + 1) (set gather filled b) ≡ take filled gather ++ (b ∷ []) =
+    ap (λ (k : ℕ). take k (set gather filled b)) (add-one filled) ∙ take-suc-set gather filled b (omega (arith, room)) in
+    let back : drop (filled + 1 + length left) (set gather filled b) ≡ drop (filled + length (b ∷ left)) gather =
+    drop-set-lt (filled + 1 + length left) gather filled b (omega arith) ∙ ap (λ (k : ℕ). drop k gather) count in
+    let buffer : take (filled + 1) (set gather filled b) ++ (left ++ drop (filled + 1 + length left) (set gather filled b))
+    ≡ take filled gather ++ (b ∷ (left ++ drop (filled + length (b ∷ left)) gather)) =
+    (λ i. front i ++ (left ++ back i)) ∙ append_assoc (take filled gather) (b ∷ []) (left ++ drop (filled + length (b ∷ left)) gather) in
+    subst (λ (k : ℕ). Laying g e img map gather₀ start bytes img map (take filled gather ++ (b ∷ (left ++ drop (filled + length (b ∷ left)) gather)))
+    (record { filled = k; from = from }) []) count
+    (subst (λ (s : List ℕ). Laying g e img map gather₀ start bytes img map s (record { filled = filled + 1 + length left; from = from }) []) buffer
+    (within_from left (set gather filled b) (filled + 1) (omega (arith, room, length-set gather filled b)) (laying_next laying refl (within other))))
 
--- a loop that lays them in the buffer alone, with room behind each
-pub within_start : {gather : List ℕ} {filled first : ℕ} {bytes : List ℕ} → first ≡ filled → LaidWithin gather filled bytes gather first bytes
-within_start is = record { laying = λ g e img map from. rw is laying_start }
-
-module _ {gather₀ : List ℕ} {filled₀ : ℕ} {bytes gather : List ℕ} {filled i : ℕ} (laid : LaidWithin gather₀ filled₀ bytes gather filled (drop i bytes)) where
-  pub within_next : {next : ℕ} → i < length bytes → filled + 1 < length gather → next ≡ filled + 1
-      → LaidWithin gather₀ filled₀ bytes (set gather filled (get_or bytes i 0)) next (drop (i + 1) bytes)
-  within_next inside room is =
-      let other : filled + 1 ≡ length (set gather filled (get_or bytes i 0)) → ⊥ = λ full. omega (arith, full, length-set gather filled (get_or bytes i 0)) in
-      record { laying = λ g e img map from. rw is (index_next (laid.laying g e img map from) inside refl (within other)) }
-
-  pub within_end : {end : ℕ} → length bytes ≤ i → end ≡ filled → LaidWithin gather₀ filled₀ bytes gather end []
-  within_end over is = record { laying = λ g e img map from. rw is (index_end (laid.laying g e img map from) over) }
+pub within_whole : (gather : List ℕ) (filled : ℕ) (bytes : List ℕ) → filled + length bytes < length gather
+    → LaidWithin gather filled bytes (put_mid filled (filled + length bytes - filled) gather bytes) (filled + length bytes) []
+within_whole gather filled bytes room =
+    record {
+      laying = λ g e img map from.
+          rw (part_back gather bytes filled (filled + length bytes) (omega arith)) (within_from bytes gather filled room laying_start);
+    }
 
 -- all bytes are laid
 pub laying_done : {key : Key} {caller : ℕ} {g : Geometry} {e : ℕ} {img map gather : List ℕ} {at : Filling} {bytes img' map' gather' : List ℕ} {at' : Filling}

@@ -64,9 +64,6 @@ module _ {img map : List ℕ} {g : Geometry} {e : ℕ} {gather : List ℕ} {at :
   laid_within short = within (λ is. omega arith)
 
   module _ (end : length (set gather at.filled byte) ≤ at.filled + 1) where
-    pub laid_ready : Ready img map g e (set gather at.filled byte) × NoneFrom map g at.from.0
-    laid_ready = layable.ready (omega (arith, layable.room, length-set gather at.filled byte))
-
     pub laid_full : {img' map' : List ℕ} {b : BlockNo} → b.0 ≡ added_block img
         → img' ≡ enlarged_by img g e (entry_of img g e) (added_block img) (set gather at.filled byte) → length map' ≡ length map → Says map' img'
         → NoneFrom map' g b.0 → LaidByte img map g e at (set gather at.filled byte) img' map' (record { filled = 0; from = b })

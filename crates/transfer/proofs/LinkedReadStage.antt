@@ -15,8 +15,7 @@ use Rattle.pack.specs.GeometrySized.{Sized}
 use Rattle.pack.specs.File.{blocks_of, count}
 use Rattle.owners.proofs.OwnerSearch.{measured_sized, measured_blocks}
 use Rattle.asking.specs.declared.Right.TheVariants.{Read}
-use Rattle.asking.specs.declared.Asked.{Asked}
-use Rattle.asking.specs.declared.Asked.TheVariants.{File, Refused}
+use Rattle.asking.specs.AskedStage.{Asked, File, Refused}
 use Rattle.asking.specs.Outcome.{Outcome, Unchanged}
 use Rattle.asking.specs.AskedStage.{file_rows}
 use Rattle.asking.specs.Asked.{file_of}

@@ -1,4 +1,4 @@
--- What the loop of `find` keeps from turn to turn, and what falls in each.
+-- What the loop of `find` keeps from turn to turn.
 use Prim.Native.Nat.{◌-◌, ◌%◌}
 use mathlib.Core.Path.{◌≡◌}
 use Rattle.pack.specs.Geometry.{slots}
@@ -6,7 +6,4 @@ use Rattle.asking.specs.KeysTest.{find_from}
 use Rattle.asking.proofs.find.Given as goal
 
 abbrev pub invariant-loop-e : goal.invariant-loop-e
-invariant-loop-e l = (l.total ≡ slots l.g) × (l.e % 2 ≡ 0) × (find_from l.img l.g l.key 0 (slots l.g) ≡ find_from l.img l.g l.key l.e (slots l.g - l.e))
-
-abbrev pub decreases-loop-e : goal.decreases-loop-e
-decreases-loop-e l = slots l.g - l.e
+invariant-loop-e l = (l.e % 2 ≡ 0) × (find_from l.view.img.now l.view.g l.key 0 (slots l.view.g) ≡ find_from l.view.img.now l.view.g l.key l.e (slots l.view.g - l.e))

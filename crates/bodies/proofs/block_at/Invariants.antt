@@ -1,10 +1,6 @@
--- What the loop of `block_at` keeps from turn to turn, and what falls in each.
-use Prim.Native.Nat.{◌-◌}
+-- What the loop of `block_at` keeps from turn to turn.
 use Rattle.bodies.specs.BlockWalk.{BlockWalk}
 use Rattle.bodies.proofs.block_at.Given as goal
 
-abbrev pub invariant-loop-passed : goal.invariant-loop-passed
-invariant-loop-passed l = BlockWalk l.img l.g l.kind l.initial.at.0 l.end l.passed l.at.0
-
-abbrev pub decreases-loop-passed : goal.decreases-loop-passed
-decreases-loop-passed l = l.end - l.passed
+abbrev pub invariant-loop : goal.invariant-loop
+invariant-loop l = BlockWalk l.view.img.now l.view.g l.fn.x.kind l.fn.x.first.0 l.fn.place.0 l.counter l.at.0

@@ -1,14 +1,12 @@
--- Rests on `stands_at` alone: nothing stands behind the end, and before it what is read.
-use mathlib.Core.Path.{refl}
+-- Rests on `stands_at` alone: before the end stands what is read, and behind it nothing.
 use borrow.Author.Tests.{lt-ltb, le-ltb}
-use Rattle.answers.proofs.RefusalsTests.{go_on, stop}
 use Rattle.command_cursor.specs.CursorAt.{stands_at}
 use Rattle.command_cursor.proofs.stands.Goals as goal
 
-pub returns-then-line-place : goal.returns-then-line-place
+pub returns-then-place-line : goal.returns-then-place-line
 unfolding stands_at
-returns-then-line-place c = stop _ _ (le-ltb _ _ c.if-line-place.true)
+returns-then-place-line c = rw (lt-ltb _ _ c.if-place-line.true)
 
-pub returns : goal.returns
+pub returns-else-place-line : goal.returns-else-place-line
 unfolding stands_at
-returns c = go_on (lt-ltb _ _ c.if-line-place.false) refl
+returns-else-place-line c = rw (le-ltb _ _ c.if-place-line.false)

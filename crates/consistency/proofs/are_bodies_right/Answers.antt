@@ -1,22 +1,11 @@
 -- Rests on `ConsistentTestScan`: the entries that are left decide for all, on the map that those before them left, and mark what all mark.
 use Prim.Native.Nat.{◌<◌}
 use native.Mathlib.Omega.{arith}
-use mathlib.Core.Path.{refl, sym, ◌∙◌}
+use mathlib.Core.Path.{sym, ◌∙◌}
 use Rattle.pack.specs.Geometry.{slots}
 use Rattle.consistency.proofs.WalkSystem.{taken_mark}
-use Rattle.consistency.proofs.ConsistentTestScan.{bodies_start, marks_start, bodies_step, marks_step, bodies_not, bodies_end, marks_end}
+use Rattle.consistency.proofs.ConsistentTestScan.{bodies_step, marks_step, bodies_not, bodies_end, marks_end}
 use Rattle.consistency.proofs.are_bodies_right.Goals as goal
-
-pub loop-e-init : goal.loop-e-init
-loop-e-init c = (refl, c.requires.blocks_in_bounds.1, bodies_start _ _ _ _, marks_start _ _ _ _)
-
-pub is_placed_right-requires : goal.is_placed_right-requires
-is_placed_right-requires c = record {
-  sized = c.requires.sized;
-  e_bound = omega (arith, c.loop-e-test.true, c.requires.used_end.most);
-  blocks_in_bounds =
-      (omega (arith, c.requires.blocks_in_bounds.0, c.loop-e.invariant.0), c.loop-e.invariant.1);
-}
 
 pub returns-then-not-is_placed_right : goal.returns-then-not-is_placed_right
 returns-then-not-is_placed_right c = record {
@@ -28,7 +17,7 @@ returns-then-not-is_placed_right c = record {
 pub loop-e-preserved : goal.loop-e-preserved
 loop-e-preserved c = let right = c.if-not-is_placed_right.false in
     let marked = c.is_placed_right.ensures.map_after right in
-    let below : c.loop-e.e < slots c.args.g = omega (arith, c.loop-e-test.true, c.requires.used_end.most) in (
+    let below : c.loop-e.e < slots c.args.view.g = omega (arith, c.loop-e-test.true, c.requires.used_end.most) in (
       c.is_placed_right.auto.map ∙ c.loop-e.invariant.0,
       taken_mark _ _ marked c.loop-e.invariant.1,
       c.loop-e.invariant.2 ∙ bodies_step _ _ _ _ _ below (sym c.is_placed_right.ensures.value ∙ right) _ marked,

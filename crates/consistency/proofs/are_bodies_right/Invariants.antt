@@ -1,4 +1,4 @@
--- What the loop of `are_bodies_right` keeps from turn to turn, and what falls in each.
+-- What the loop of `are_bodies_right` keeps from turn to turn.
 use Prim.Native.Nat.{◌-◌}
 use mathlib.Core.Path.{◌≡◌}
 use lib.ListN.{length}
@@ -9,9 +9,6 @@ use Rattle.consistency.proofs.are_bodies_right.Given as goal
 
 abbrev pub invariant-loop-e : goal.invariant-loop-e
 invariant-loop-e l = (length l.map ≡ length l.initial.map)
-    × SystemTaken l.map l.g
-    × (bodies_test l.img l.g l.initial.map 0 (slots l.g) ≡ bodies_test l.img l.g l.map l.e (slots l.g - l.e))
-    × (mark_all l.img l.g l.initial.map 0 (slots l.g) ≡ mark_all l.img l.g l.map l.e (slots l.g - l.e))
-
-abbrev pub decreases-loop-e : goal.decreases-loop-e
-decreases-loop-e l = l.end - l.e
+    × SystemTaken l.map l.view.g
+    × (bodies_test l.view.img.now l.view.g l.initial.map 0 (slots l.view.g) ≡ bodies_test l.view.img.now l.view.g l.map l.e (slots l.view.g - l.e))
+    × (mark_all l.view.img.now l.view.g l.initial.map 0 (slots l.view.g) ≡ mark_all l.view.img.now l.view.g l.map l.e (slots l.view.g - l.e))

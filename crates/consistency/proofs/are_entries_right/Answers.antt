@@ -4,14 +4,8 @@ use Rattle.answers.proofs.RefusalsTests.{go_on, stop}
 use Rattle.consistency.proofs.ConsistentTestScan.{parted}
 use Rattle.consistency.proofs.are_entries_right.Goals as goal
 
-pub are_bodies_right-requires : goal.are_bodies_right-requires
-are_bodies_right-requires c = record { sized = c.requires.sized; used_end = c.used_end-end.ensures; blocks_in_bounds = c.requires.blocks_in_bounds }
-
 pub returns-then-not-are_bodies_right : goal.returns-then-not-are_bodies_right
 returns-then-not-are_bodies_right c = record { value = stop _ _ (sym c.are_bodies_right.ensures.value ∙ c.if-not-are_bodies_right.true) ∙ parted _ _ _ _ _; map_after = λ e. cc }
-
-pub are_names_right-requires : goal.are_names_right-requires
-are_names_right-requires c = record { sized = c.requires.sized; right_header = (c.requires.right_header.0, c.used_end-end.ensures, c.requires.right_header.1) }
 
 pub returns : goal.returns
 returns c = let right = c.if-not-are_bodies_right.false in

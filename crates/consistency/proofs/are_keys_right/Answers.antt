@@ -1,42 +1,18 @@
 -- Rests on `ConsistentTestScan`: the entries that are left decide for all; the files before them stand in their lists.
 use Prim.Native.Nat.{◌<◌}
 use native.Mathlib.Omega.{arith}
-use mathlib.Core.Path.{refl, sym, ◌∙◌}
+use mathlib.Core.Path.{sym, ◌∙◌}
 use Rattle.pack.specs.Geometry.{slots}
-use Rattle.pack.proofs.HeaderRules.{uics_room}
-use Rattle.consistency.proofs.ConsistentTestScan.{names_start, names_step, names_not, names_end}
+use Rattle.consistency.proofs.ConsistentTestScan.{names_step, names_not, names_end}
 use Rattle.consistency.proofs.are_keys_right.Goals as goal
 
-pub word_at-uics-requires : goal.word_at-uics-requires
-word_at-uics-requires c = omega (arith, uics_room _ c.requires.right_header.0)
-
-pub loop-e-init : goal.loop-e-init
-loop-e-init c = (c.requires.right_header.2, names_start _ _ _, refl, refl)
-
-pub is_named_right-requires : goal.is_named_right-requires
-is_named_right-requires c = record {
-  sized = c.requires.sized;
-  right_header = (
-    c.requires.right_header.0,
-    omega (arith, c.loop-e-test.true, c.requires.right_header.1.most),
-    c.loop-e.invariant.0,
-  );
-  e_in_bounds = (
-    omega (arith, c.loop-e-test.true, c.requires.end_in_bounds.0, c.loop-e.invariant.2),
-    omega
-        (arith, c.requires.end_in_bounds.1, c.loop-e.invariant.2),
-    c.requires.end_in_bounds.2,
-    c.word_at-uics.ensures.value,
-  );
-}
-
 pub returns-then-not-is_named_right : goal.returns-then-not-is_named_right
-returns-then-not-is_named_right c = let below : c.loop-e.e < slots c.args.g = omega (arith, c.loop-e-test.true, c.requires.right_header.1.most) in
+returns-then-not-is_named_right c = let below : c.loop-e.e < slots c.args.view.g = omega (arith, c.loop-e-test.true, c.requires.right_header.1.most) in
     sym (c.loop-e.invariant.1 ∙ names_not _ _ _ _ below (sym c.is_named_right.ensures.value ∙ c.if-not-is_named_right.true))
 
 pub loop-e-preserved : goal.loop-e-preserved
 loop-e-preserved c = let right = c.if-not-is_named_right.false in
-    let below : c.loop-e.e < slots c.args.g = omega (arith, c.loop-e-test.true, c.requires.right_header.1.most) in (
+    let below : c.loop-e.e < slots c.args.view.g = omega (arith, c.loop-e-test.true, c.requires.right_header.1.most) in (
       c.is_named_right.ensures.listing right,
       c.loop-e.invariant.1 ∙ names_step _ _ _ _ below (sym c.is_named_right.ensures.value ∙ right),
       c.is_named_right.auto.links ∙ c.loop-e.invariant.2,

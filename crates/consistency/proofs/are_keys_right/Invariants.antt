@@ -1,4 +1,4 @@
--- What the loop of `are_keys_right` keeps from turn to turn, and what falls in each.
+-- What the loop of `are_keys_right` keeps from turn to turn.
 use Prim.Native.Nat.{◌-◌}
 use mathlib.Core.Path.{◌≡◌}
 use lib.ListN.{length}
@@ -8,10 +8,7 @@ use Rattle.consistency.specs.ConsistentTest.{names_test}
 use Rattle.consistency.proofs.are_keys_right.Given as goal
 
 abbrev pub invariant-loop-e : goal.invariant-loop-e
-invariant-loop-e l = Listing l.img l.g l.heads l.links l.e
-    × (names_test l.img l.g 0 (slots l.g) ≡ names_test l.img l.g l.e (slots l.g - l.e))
+invariant-loop-e l = Listing l.view.img.now l.view.g l.heads l.links l.e
+    × (names_test l.view.img.now l.view.g 0 (slots l.view.g) ≡ names_test l.view.img.now l.view.g l.e (slots l.view.g - l.e))
     × (length l.links ≡ length l.initial.links)
     × (length l.heads ≡ length l.initial.heads)
-
-abbrev pub decreases-loop-e : goal.decreases-loop-e
-decreases-loop-e l = l.end - l.e

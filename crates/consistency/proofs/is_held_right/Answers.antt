@@ -1,6 +1,5 @@
 -- Rests on `EntryTestAnswers`: what each test of the entry answers where those before it passed; the blocks by the kind.
 use mathlib.Core.Path.{sym, ◌∙◌}
-use borrow.Author.Tests.{not-false}
 use Rattle.consistency.proofs.EntryTestAnswers.{held_protect, held_open, held_run, held_chain, run_mark, chain_mark}
 use Rattle.consistency.proofs.is_held_right.Goals as goal
 
@@ -14,19 +13,8 @@ returns-then-not-is_open_right c = record {
   map_after = λ e. cc;
 }
 
-pub is_run_right-requires : goal.is_run_right-requires
-is_run_right-requires c = record {
-  blocks_in_bounds = c.requires.blocks_in_bounds;
-  first_bound = (
-    c.entry_word-2.ensures.upper_bound,
-    c.entry_word-count.ensures.upper_bound,
-    c.entry_word-3.ensures.upper_bound,
-  );
-}
-
 pub returns-then-kind-eq1 : goal.returns-then-kind-eq1
-returns-then-kind-eq1 c = let opened = sym c.is_open_right.ensures ∙ not-false _
-    c.if-not-is_open_right.false-raw in
+returns-then-kind-eq1 c = let opened = sym c.is_open_right.ensures ∙ c.if-not-is_open_right.false in
     record {
       value = held_run _ _ _ _ c.entry_word.ensures.value c.if-entry_word-gt255.false c.entry_word-kind.ensures.value opened c.entry_word-2.ensures.value
           c.entry_word-count.ensures.value c.entry_word-3.ensures.value c.if-kind-eq1.true _ (c.is_run_right.ensures.by_index _);
@@ -35,12 +23,8 @@ returns-then-kind-eq1 c = let opened = sym c.is_open_right.ensures ∙ not-false
           c.entry_word-3.ensures.value c.if-kind-eq1.true (c.is_run_right.ensures.by_index_2 _ right);
     }
 
-pub is_chain_right-requires : goal.is_chain_right-requires
-is_chain_right-requires c = record { sized = c.requires.sized; blocks_in_bounds = c.requires.blocks_in_bounds }
-
 pub returns : goal.returns
-returns c = let opened = sym c.is_open_right.ensures ∙ not-false _
-    c.if-not-is_open_right.false-raw in
+returns c = let opened = sym c.is_open_right.ensures ∙ c.if-not-is_open_right.false in
     record {
       value = held_chain _ _ _ _ c.entry_word.ensures.value c.if-entry_word-gt255.false c.entry_word-kind.ensures.value opened c.entry_word-2.ensures.value
           c.entry_word-count.ensures.value c.entry_word-3.ensures.value c.if-kind-eq1.false _ c.is_chain_right.ensures.value;

@@ -1,12 +1,8 @@
 -- Rests on `EntryTestAnswers`: what name, extension and UIC answer, each where those before it passed; on `DifferTest`: the words of the key's number.
 use mathlib.Core.Path.{sym, ◌∙◌}
-use native.Mathlib.Omega.{arith}
 use Rattle.consistency.proofs.DifferTest.{number_words}
 use Rattle.consistency.proofs.EntryTestAnswers.{key_name, key_extension, key_uic}
 use Rattle.consistency.proofs.is_key_right.Goals as goal
-
-pub key_number-key-requires : goal.key_number-key-requires
-key_number-key-requires c = record { sized = c.requires.sized; e_bound = c.requires.right_header.1 }
 
 pub returns-then-not-is_name_right : goal.returns-then-not-is_name_right
 returns-then-not-is_name_right c = let words = number_words _ _ _ c.key_number-key.ensures.value c.key_number-key.ensures.small_key in
@@ -16,13 +12,6 @@ pub returns-then-not-is_legal_extension : goal.returns-then-not-is_legal_extensi
 returns-then-not-is_legal_extension c = let words = number_words _ _ _ c.key_number-key.ensures.value c.key_number-key.ensures.small_key in
     key_extension _ _ _ words.0 words.1 (sym c.is_name_right.ensures ∙ c.if-not-is_name_right.false)
     words.2 (sym c.is_legal_extension.ensures ∙ c.if-not-is_legal_extension.true)
-
-pub is_listed-requires : goal.is_listed-requires
-is_listed-requires c = record {
-  right_header = c.requires.right_header.0;
-  hints_len =
-      (c.requires.hints_len.0, c.requires.hints_len.1, omega (arith, (number_words _ _ _ c.key_number-key.ensures.value c.key_number-key.ensures.small_key).3, c.key_number-key.ensures.small_key.uic));
-}
 
 pub returns : goal.returns
 returns c = let words = number_words _ _ _ c.key_number-key.ensures.value c.key_number-key.ensures.small_key in

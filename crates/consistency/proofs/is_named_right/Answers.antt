@@ -5,15 +5,9 @@ use Rattle.consistency.proofs.DifferTest.{number_used, number_words, listing_emp
 use Rattle.consistency.proofs.ConsistentTestScan.{named_empty, named_wrong, named_new}
 use Rattle.consistency.proofs.is_named_right.Goals as goal
 
-pub key_number-requires : goal.key_number-requires
-key_number-requires c = record { sized = c.requires.sized; e_bound = c.requires.right_header.1 }
-
 pub returns-then-key_number-eq0 : goal.returns-then-key_number-eq0
 returns-then-key_number-eq0 c = let none = sym (number_words _ _ _ c.key_number.ensures.value c.key_number.ensures.small_key).0 ∙ c.if-key_number-eq0.true in
     record { value = named_empty _ _ _ none; listing = λ _. listing_empty _ _ _ _ _ none c.requires.right_header.2 }
-
-pub is_key_right-requires : goal.is_key_right-requires
-is_key_right-requires c = record { sized = c.requires.sized; right_header = (c.requires.right_header.0, c.requires.right_header.1); hints_len = (c.requires.e_in_bounds.2, c.requires.e_in_bounds.3) }
 
 pub returns-then-not-is_key_right : goal.returns-then-not-is_key_right
 returns-then-not-is_key_right c = record {
@@ -24,7 +18,6 @@ returns-then-not-is_key_right c = record {
 
 pub does_differ-requires : goal.does_differ-requires
 does_differ-requires c = record {
-  sized = c.requires.sized;
   e_bound = (
     c.requires.right_header.1,
     number_used _ _ _ c.key_number.ensures.value c.key_number.ensures.small_key

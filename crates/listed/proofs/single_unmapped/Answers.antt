@@ -1,4 +1,5 @@
 -- Rests on `RecordMade`: each of the eight, and none, is what the record names by its number (`RecordNames`).
+use Rattle.answers.specs.Refusals.{code_in, code_of}
 use Rattle.listed.proofs.RecordNames.{names_other}
 use Rattle.listed.proofs.RecordMade.{renam_made, appnd_made, keep_made, openo_made, openi_made, openu_made, opene_made, close_made, none_made}
 use Rattle.listed.proofs.single_unmapped.Goals as goal
@@ -44,6 +45,7 @@ returns-in-10 c =
     record { served = done.0; by_index = done.1 }
 
 pub returns-in_default : goal.returns-in_default
+unfolding code_in code_of
 returns-in_default c =
     let names = names_other c.args.r c.requires.fact (assumption) (assumption) in
     let done = none_made c.args.img.now c.args.r {opened = c.args.opened} names in

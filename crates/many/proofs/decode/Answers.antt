@@ -7,21 +7,6 @@ use Rattle.many.proofs.decode.Goals as goal
 pub loop-i-init : goal.loop-i-init
 loop-i-init c = (omega arith, (c.blank-list.ensures, none_read _))
 
-pub record_at-r-requires : goal.record_at-r-requires
-record_at-r-requires c = omega arith
-
-pub offset_bounds-list-i : goal.offset_bounds-list-i
-offset_bounds-list-i c = omega arith
-
-pub bounds-list-i : goal.bounds-list-i
-bounds-list-i c = omega arith
-
-pub overflow_add-i : goal.overflow_add-i
-overflow_add-i c = omega arith
-
-pub loop-i-smaller : goal.loop-i-smaller
-loop-i-smaller c = omega arith
-
 pub loop-i-preserved : goal.loop-i-preserved
 loop-i-preserved c = (omega arith, (simp length-set c.loop-i.invariant.1.0, one_more_read _ _ _ _ (omega arith) c.loop-i.invariant.1.1 c.record_at-r.ensures))
 

@@ -2,12 +2,6 @@
 use Rattle.moving.proofs.MovedWhole.{partly_sized, places_enough, moved_whole}
 use Rattle.moving.proofs.write_target.Goals as goal
 
-pub copy_pack-requires : goal.copy_pack-requires
-copy_pack-requires c = c.requires.source
-
-pub move_entries-requires : goal.move_entries-requires
-move_entries-requires c = record { source = c.requires.source.0; partly = c.copy_pack.ensures }
-
 pub make_map-requires : goal.make_map-requires
 make_map-requires c = record {
   sized = partly_sized c.requires.source.0 c.requires.source.1 c.move_entries.ensures;

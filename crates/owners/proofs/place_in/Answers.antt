@@ -11,7 +11,7 @@ unfolding blocks_of
 returns-then-b-at c = left_here c.loop-place.invariant c.loop-place-test.true c.if-b-at.true
 
 pub next_block-at-requires : goal.next_block-at-requires
-next_block-at-requires c = record { sized = c.requires.sized; b_lt_blocks = left_block c.loop-place.invariant c.loop-place-test.true }
+next_block-at-requires c = record { b_lt_blocks = left_block c.loop-place.invariant c.loop-place-test.true }
 
 pub loop-place-preserved : goal.loop-place-preserved
 loop-place-preserved c = left_next c.loop-place.invariant c.loop-place-test.true c.if-b-at.false _ c.next_block-at.ensures.result_value

@@ -5,9 +5,6 @@ use Rattle.room.proofs.RoomMapCount.{free_step_to, free_pass_to, free_end_at, fr
 use Rattle.room.proofs.free_count.Goals as goal
 use Rattle.room.proofs.free_count.Goals.{then-map-b-eq0, else-map-b-eq0}
 
-pub loop-b-init : goal.loop-b-init
-loop-b-init c = omega arith
-
 pub overflow_add-free : goal.overflow_add-free
 overflow_add-free c = omega (
   arith,

@@ -5,17 +5,8 @@ use native.Mathlib.Omega.{arith}
 use Rattle.room.proofs.RoomMapRun.{from_most, from_held, from_down, after_short, run_here, run_next, run_end, run_held}
 use Rattle.room.proofs.highest_run.Goals as goal
 
-pub skip_held-b-requires : goal.skip_held-b-requires
-skip_held-b-requires c = omega arith
-
 pub loop-b-init : goal.loop-b-init
 loop-b-init c = (omega arith, c.requires.2, λ end held. (from_held _ _ _ held, run_held _ _ _ _ held c.requires.2))
-
-pub overflow_sub-b : goal.overflow_sub-b
-overflow_sub-b c = omega arith
-
-pub bounds-map-b : goal.bounds-map-b
-bounds-map-b c = omega (arith, c.loop-b.invariant.0, c.skip_held-b.ensures.within, c.requires.0, c.requires.1)
 
 pub free_after-free-requires : goal.free_after-free-requires
 free_after-free-requires c = omega (
@@ -30,9 +21,6 @@ returns-then-free-count c = let so_far = c.loop-b.invariant.2 _ c.skip_held-b.en
     sym (so_far.1 ∙ run_here _ _ _ _ _ _ c.loop-b-test.true
     (from_down _ _ _ _ _ (omega (arith, c.loop-b-test.true)) (omega (arith, c.loop-b.invariant.0, c.skip_held-b.ensures.within)) so_far.0 c.free_after-free.ensures)
     c.if-free-count.true)
-
-pub loop-b-smaller : goal.loop-b-smaller
-loop-b-smaller c = omega (arith, c.loop-b-test.true)
 
 pub loop-b-preserved : goal.loop-b-preserved
 loop-b-preserved c = let short = after_short _ _ _ _ c.free_after-free.ensures c.loop-b.invariant.1 c.if-free-count.false in (

@@ -1,18 +1,12 @@
 -- Rests on `RoomMapCount`: whether what is left is free among the blocks from here on decides whether all that is needed is free.
-use mathlib.Core.Path.{refl, sym, ◌∙◌}
-use native.Mathlib.Omega.{arith}
+use mathlib.Core.Path.{sym, ◌∙◌}
+use Rattle.answers.specs.Refusals.{code_of}
 use Rattle.room.proofs.RoomMapCount.{enough_seen, enough_step, enough_pass, enough_never, judged_enough, judged_short}
 use Rattle.room.proofs.judge_room.Goals as goal
 use Rattle.room.proofs.judge_room.Goals.{then-map-b-eq0, else-map-b-eq0}
 
-pub loop-b-init : goal.loop-b-init
-loop-b-init c = refl
-
 pub returns-then-left-eq0 : goal.returns-then-left-eq0
 returns-then-left-eq0 c = judged_enough c.args.needed.0 _ (c.loop-b.invariant ∙ sym (enough_seen _ _ _ _ c.if-left-eq0.true))
-
-pub overflow_sub-left : goal.overflow_sub-left
-overflow_sub-left c = omega (arith, c.if-left-eq0.false)
 
 pub loop-b-preserved : goal.loop-b-preserved
 loop-b-preserved c = c.loop-b.invariant
@@ -25,4 +19,5 @@ pub returns-then-left-eq0-2 : goal.returns-then-left-eq0-2
 returns-then-left-eq0-2 c = judged_enough c.args.needed.0 _ (c.loop-b.invariant ∙ sym (enough_seen _ _ _ _ c.if-left-eq0-2.true))
 
 pub returns : goal.returns
+unfolding code_of
 returns c = judged_short c.args.needed.0 _ (c.loop-b.invariant ∙ sym (enough_never _ _ _ _ c.loop-b-test.false c.if-left-eq0-2.false))

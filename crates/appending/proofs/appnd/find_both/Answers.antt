@@ -1,25 +1,11 @@
--- Rests on `AppndStage`: both files are found, or one is missing, as `find` says of each.
+-- Rests on `Keys`: an entry that was found is one of the pack's.
+use mathlib.Core.Path.{sym}
 use native.Mathlib.Omega.{arith}
-use mathlib.Core.Path.{sym, ap, ◌∙◌}
-use Rattle.asking.specs.AskedStage.{found_in}
 use Rattle.asking.proofs.Keys.{found_keyed}
-use Rattle.appending.proofs.AppndStage.{both_first, both_second, both_files}
 use Rattle.appending.proofs.appnd.find_both.Goals as goal
 
-pub returns-in_default : goal.returns-in_default
-returns-in_default c = both_first _ _ _ _ (sym c.find.ensures ∙ ap found_in c.in_default.is)
+pub read_entry-requires : goal.read_entry-requires
+read_entry-requires c = record { e_bound = omega (arith, (found_keyed _ _ _ _ _ _ (sym c.in_ok-e.ensures)).high) }
 
-pub returns-in_default-find : goal.returns-in_default-find
-returns-in_default-find c = both_second _ _ _ _ _ (sym c.find.ensures ∙ ap found_in c.in-At.is) (sym c.find-2.ensures ∙ ap found_in c.in_default-find.is)
-
-pub read_entry-x-requires : goal.read_entry-x-requires
-read_entry-x-requires c = let f = found_keyed _ _ _ _ _ _ (sym c.find.ensures ∙ ap found_in c.in-At.is) in
-    record { sized = c.requires; e_bound = omega (arith, f.high) }
-
-pub read_entry-y-requires : goal.read_entry-y-requires
-read_entry-y-requires c = let f = found_keyed _ _ _ _ _ _ (sym c.find-2.ensures ∙ ap found_in c.in-At-find.is) in
-    record { sized = c.requires; e_bound = omega (arith, f.high) }
-
-pub returns : goal.returns
-returns c = both_files _ _ _ _ _ (sym c.find.ensures ∙ ap found_in c.in-At.is) _ _ _ (sym c.find-2.ensures ∙ ap found_in c.in-At-find.is)
-    c.read_entry-x.ensures.value c.read_entry-y.ensures.value
+pub read_entry-requires-2 : goal.read_entry-requires-2
+read_entry-requires-2 c = record { e_bound = omega (arith, (found_keyed _ _ _ _ _ _ (sym c.in_ok-f.ensures)).high) }

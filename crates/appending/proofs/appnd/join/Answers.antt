@@ -1,7 +1,5 @@
 -- Rests on `AppndWrites`: no block, no first block and two chains are the three cases of `chain_joined`.
-use native.Mathlib.Omega.{arith}
 use mathlib.Core.Path.{◌∙◌}
-use Prim.Native.Nat.{◌<◌}
 use Rattle.appending.proofs.AppndWrites.{joined_nothing, joined_whole, joined_by}
 use Rattle.appending.proofs.appnd.join.Goals as goal
 
@@ -10,10 +8,6 @@ returns-then-y-eq0 c = joined_nothing _ _ _ _ _ c.if-y-eq0.true
 
 pub returns-then-x-eq0 : goal.returns-then-x-eq0
 returns-then-x-eq0 c = c.resize.ensures ∙ joined_whole _ _ _ _ _ c.if-y-eq0.false c.if-x-eq0.true
-
-pub set_link-requires : goal.set_link-requires
-set_link-requires c = let some : 0 < c.args.x.length = omega (arith, c.if-x-eq0.false) in
-    record { sized = c.requires.sized; bodies_le_b = ((c.requires.last some).0, (c.requires.last some).1, c.requires.begin) }
 
 pub returns : goal.returns
 returns c = joined_by _ _ _ _ _ c.if-y-eq0.false c.if-x-eq0.false _ _ c.set_link.ensures c.resize-2.ensures

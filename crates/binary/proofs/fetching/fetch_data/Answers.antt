@@ -1,68 +1,65 @@
 -- Rests on `DataFetched`: a part more is laid and added, as long as there are bytes and more may be taken.
 use native.Mathlib.Omega.{arith}
+use Rattle.stream.proofs.SpotPayload.{payload_small}
 use Rattle.binary.proofs.DataFetched.{fetch_start, fetch_all, fetch_end, part_room, part_short, fetch_next}
 use Rattle.binary.proofs.fetching.fetch_data.Goals as goal
 
 pub loop-count-init : goal.loop-count-init
-loop-count-init c = fetch_start c.requires.standing
+loop-count-init c = fetch_start
 
-pub shape_of-buffer-then-spot-eq0 : goal.shape_of-buffer-then-spot-eq0
-shape_of-buffer-then-spot-eq0 c = c.loop-count.invariant.long
+pub shape_of-buffer-then-behind-eq0 : goal.shape_of-buffer-then-behind-eq0
+shape_of-buffer-then-behind-eq0 c = c.loop-count.invariant.long
 
-pub returns-then-spot-eq0 : goal.returns-then-spot-eq0
-returns-then-spot-eq0 c = fetch_end c.loop-count.invariant c.if-spot-eq0.true
+pub returns-then-behind-eq0 : goal.returns-then-behind-eq0
+returns-then-behind-eq0 c = fetch_end c.loop-count.invariant c.if-behind-eq0.true
 
-pub overflow_sub-spot : goal.overflow_sub-spot
-overflow_sub-spot c = omega (arith, c.loop-count.invariant.standing.before (omega (arith, c.if-spot-eq0.false)))
+pub overflow_sub-behind : goal.overflow_sub-behind
+overflow_sub-behind c = omega (arith, c.loop-count.behind.standing.before (omega (arith, c.if-behind-eq0.false)))
 
 pub overflow_sub-limit : goal.overflow_sub-limit
 overflow_sub-limit c = omega (arith, c.loop-count-test.true)
 
 pub overflow_add-at : goal.overflow_add-at
-overflow_add-at c = omega (arith, part_room c.loop-count.invariant (omega (arith, c.if-spot-eq0.false)) c.lesser-here.ensures)
-
-pub slice_bounds-lay_part-count : goal.slice_bounds-lay_part-count
-slice_bounds-lay_part-count c = omega (arith)
-
-pub slice_bounds-lay_part-start : goal.slice_bounds-lay_part-start
-slice_bounds-lay_part-start c = omega arith
+overflow_add-at c = omega (
+  arith,
+  part_room c.loop-count.invariant (omega (arith, c.if-behind-eq0.false)) c.min-here.ensures,
+  payload_small c.loop-count.behind.standing (omega (arith, c.if-behind-eq0.false)),
+)
 
 pub slice_bounds-lay_part-end : goal.slice_bounds-lay_part-end
-slice_bounds-lay_part-end c = omega (arith, part_room c.loop-count.invariant (omega (arith, c.if-spot-eq0.false)) c.lesser-here.ensures)
+slice_bounds-lay_part-end c = omega (arith, part_room c.loop-count.invariant (omega (arith, c.if-behind-eq0.false)) c.min-here.ensures)
 
 pub lay_part-requires : goal.lay_part-requires
-lay_part-requires c = let short = part_short c.loop-count.invariant (omega (arith, c.if-spot-eq0.false)) c.lesser-here.ensures c.requires.buffer_nonzero.1 in
-    (omega (arith, c.loop-count.invariant.long, c.requires.buffer_nonzero.0), omega (arith, c.loop-count.invariant.few, c.requires.buffer_nonzero.1), short)
+lay_part-requires c = let short = part_short c.loop-count.invariant (omega (arith, c.if-behind-eq0.false)) c.min-here.ensures c.requires.1 in
+    (omega (arith, c.loop-count.invariant.long, c.requires.0), omega (arith, c.loop-count.invariant.few, c.requires.1), short)
 
 pub overflow_add-at-in-loop-count : goal.overflow_add-at-in-loop-count
-overflow_add-at-in-loop-count c = omega (arith, part_room c.loop-count.invariant (omega (arith, c.if-spot-eq0.false)) c.lesser-here.ensures)
-
-pub slice_bounds-sum_of-count : goal.slice_bounds-sum_of-count
-slice_bounds-sum_of-count c = omega (arith)
-
-pub slice_bounds-sum_of-start : goal.slice_bounds-sum_of-start
-slice_bounds-sum_of-start c = omega arith
+overflow_add-at-in-loop-count c = omega (
+  arith,
+  part_room c.loop-count.invariant (omega (arith, c.if-behind-eq0.false)) c.min-here.ensures,
+  payload_small c.loop-count.behind.standing (omega (arith, c.if-behind-eq0.false)),
+)
 
 pub slice_bounds-sum_of-end : goal.slice_bounds-sum_of-end
-slice_bounds-sum_of-end c = omega (arith, part_room c.loop-count.invariant (omega (arith, c.if-spot-eq0.false)) c.lesser-here.ensures)
+slice_bounds-sum_of-end c = omega (arith, part_room c.loop-count.invariant (omega (arith, c.if-behind-eq0.false)) c.min-here.ensures)
 
 pub sum_of-sum-requires : goal.sum_of-sum-requires
 sum_of-sum-requires c = part_short c.loop-count.invariant (omega (
   arith,
-  c.if-spot-eq0.false,
-)) c.lesser-here.ensures c.requires.buffer_nonzero.1
+  c.if-behind-eq0.false,
+)) c.min-here.ensures c.requires.1
 
 pub overflow_add-sum : goal.overflow_add-sum
 overflow_add-sum c = omega (
   arith,
   c.loop-count.invariant.small,
   c.loop-count.invariant.few,
-  c.requires.buffer_nonzero.1,
+  c.requires.1,
   c.sum_of-sum.ensures.upper_bound,
   part_short c.loop-count.invariant (omega (
     arith,
-    c.if-spot-eq0.false,
-  )) c.lesser-here.ensures c.requires.buffer_nonzero.1,
+    c.if-behind-eq0.false,
+  )) c.min-here.ensures c.requires.1,
 )
 
 pub overflow_add-count : goal.overflow_add-count
@@ -70,29 +67,29 @@ overflow_add-count c = omega (
   arith,
   part_room c.loop-count.invariant (omega (
     arith,
-    c.if-spot-eq0.false,
-  )) c.lesser-here.ensures,
-  c.requires.buffer_nonzero.1,
+    c.if-behind-eq0.false,
+  )) c.min-here.ensures,
+  c.requires.1,
 )
 
-pub go_on-spot-requires : goal.go_on-spot-requires
-go_on-spot-requires c = let room = part_room c.loop-count.invariant (omega (
+pub go_on-behind-requires : goal.go_on-behind-requires
+go_on-behind-requires c = let room = part_room c.loop-count.invariant (omega (
   arith,
-  c.if-spot-eq0.false,
-)) c.lesser-here.ensures in
-    record { standing = c.loop-count.invariant.standing; left_nonzero = (omega (arith, c.if-spot-eq0.false), room.1) }
+  c.if-behind-eq0.false,
+)) c.min-here.ensures in
+    (omega (arith, c.if-behind-eq0.false), room.1)
 
 pub loop-count-smaller : goal.loop-count-smaller
 loop-count-smaller c = omega (
   arith,
   c.loop-count-test.true,
-  (part_room c.loop-count.invariant (omega (arith, c.if-spot-eq0.false)) c.lesser-here.ensures).4 c.loop-count-test.true,
+  (part_room c.loop-count.invariant (omega (arith, c.if-behind-eq0.false)) c.min-here.ensures).4 c.loop-count-test.true,
 )
 
 pub loop-count-preserved : goal.loop-count-preserved
-loop-count-preserved c = let room = part_room c.loop-count.invariant (omega (arith, c.if-spot-eq0.false)) c.lesser-here.ensures in
-    fetch_next c.loop-count.invariant (omega (arith, c.if-spot-eq0.false)) _ room.1 (omega (arith, room.2)) room.3 _ c.lay_part.auto.buffer c.lay_part.ensures
-    c.sum_of-sum.ensures.value c.sum_of-sum.ensures.upper_bound c.go_on-spot.ensures.result_value c.go_on-spot.ensures.standing_2
+loop-count-preserved c = let room = part_room c.loop-count.invariant (omega (arith, c.if-behind-eq0.false)) c.min-here.ensures in
+    fetch_next c.loop-count.invariant (omega (arith, c.if-behind-eq0.false)) _ room.1 (omega (arith, room.2)) room.3 c.go_on-behind.result c.lay_part.auto.buffer c.lay_part.ensures
+    c.sum_of-sum.ensures.value c.sum_of-sum.ensures.upper_bound c.go_on-behind.ensures
 
 pub shape_of-buffer : goal.shape_of-buffer
 shape_of-buffer c = c.loop-count.invariant.long

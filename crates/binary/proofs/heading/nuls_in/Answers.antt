@@ -1,25 +1,19 @@
--- Rests on `NulsSkipped`: so many NULs are passed, and there are as many more.
+-- Rests on `NulsSkipped`: before the place of the first other byte there are NULs alone, or in all the part.
+use mathlib.Core.Path.{◌≡◌, ◌∙◌}
+use mathlib.Core.Bool.{not}
 use native.Mathlib.Omega.{arith}
-use Rattle.binary.proofs.NulsSkipped.{nuls_here, nuls_next, nuls_all}
+use borrow.Author.Tests.{tests}
+use lib.Dec.{eqb}
+use Rattle.std.proofs.Common.{rules}
+use Rattle.std.proofs.lemmas.Iterator.{YieldsList-from_slice}
+use Rattle.std.proofs.lemmas.Iterator.Search.{position_from_yields_List}
+use Rattle.binary.specs.BinaryRead.{nuls_before}
+use Rattle.binary.proofs.BinaryProgress.{nuls_most}
+use Rattle.binary.proofs.NulsSkipped.{nuls_found}
 use Rattle.binary.proofs.heading.nuls_in.Goals as goal
 
-pub loop-i-init : goal.loop-i-init
-loop-i-init c = (omega arith, omega arith)
-
-pub bounds-part-i : goal.bounds-part-i
-bounds-part-i c = omega arith
-
-pub returns-then-part-i-ne0 : goal.returns-then-part-i-ne0
-returns-then-part-i-ne0 c = record { value = nuls_here _ _ c.loop-i.invariant.1 c.loop-i-test.true c.if-part-i-ne0.true; upper_bound = c.loop-i.invariant.0 }
-
-pub overflow_add-i : goal.overflow_add-i
-overflow_add-i c = omega arith
-
-pub loop-i-smaller : goal.loop-i-smaller
-loop-i-smaller c = omega arith
-
-pub loop-i-preserved : goal.loop-i-preserved
-loop-i-preserved c = (omega arith, nuls_next _ _ c.loop-i.invariant.1 c.loop-i-test.true c.if-part-i-ne0.false)
-
 pub returns : goal.returns
-returns c = record { value = nuls_all _ _ c.loop-i.invariant.1 c.loop-i-test.false; upper_bound = c.loop-i.invariant.0 }
+returns c =
+    let found = position_from_yields_List (λ x. not (eqb x 0)) _ _ _ c.position.ensures.ran (YieldsList-from_slice c.args.part.now cc) (λ x b q k. search (rules, tests)) in
+    let value : c.unwrap_or.result ≡ nuls_before c.args.part.now = c.unwrap_or.ensures ∙ nuls_found c.args.part.now found in
+    record { value = value; upper_bound = omega (arith, value, nuls_most c.args.part.now) }

@@ -1,16 +1,24 @@
 -- Rests on `HeadingRead`: the word is cut, out of range, or tells how many data bytes there are.
 use mathlib.Core.Path.{refl}
-use Rattle.binary.proofs.HeadingRead.{count_low, count_high, count_cut, count_told}
+use native.Mathlib.Omega.{arith}
+use Rattle.std.proofs.lemmas.Result.{err_from_is_err_and}
+use Rattle.binary.proofs.HeadingRead.{two_read, count_low, count_high, count_cut, count_told}
 use Rattle.binary.proofs.heading.read_count.Goals as goal
 
-pub returns-then-word-lt4 : goal.returns-then-word-lt4
-returns-then-word-lt4 c = count_low c.read_word.ensures c.in-Bytes.is refl c.if-word-lt4.true
+pub returns-in_err-word : goal.returns-in_err-word
+returns-in_err-word c = let p = err_from_is_err_and c.from_residual.result c.from_residual.ensures.1 in rw (p.1, p.2) (count_cut c.in_err-word.ensures refl)
 
-pub returns-then-word-gt516 : goal.returns-then-word-gt516
-returns-then-word-gt516 c = count_high c.read_word.ensures c.in-Bytes.is refl c.if-word-gt516.true
+pub overflow_mul-count : goal.overflow_mul-count
+overflow_mul-count c = omega (arith, (two_read c.in_ok-word.ensures refl).1)
 
-pub returns-in-Cut : goal.returns-in-Cut
-returns-in-Cut c = count_cut c.read_word.ensures c.in-Cut.is
+pub overflow_add-count : goal.overflow_add-count
+overflow_add-count c = omega (arith, (two_read c.in_ok-word.ensures refl).0, (two_read c.in_ok-word.ensures refl).1)
 
-pub returns-else-word-gt516 : goal.returns-else-word-gt516
-returns-else-word-gt516 c = count_told c.read_word.ensures c.in-Bytes.is refl c.if-word-lt4.false c.if-word-gt516.false refl refl
+pub returns-then-count-lt4 : goal.returns-then-count-lt4
+returns-then-count-lt4 c = count_low c.in_ok-word.ensures refl refl c.if-count-lt4.true
+
+pub returns-then-count-gt516 : goal.returns-then-count-gt516
+returns-then-count-gt516 c = count_high c.in_ok-word.ensures refl refl c.if-count-gt516.true
+
+pub returns : goal.returns
+returns c = count_told c.in_ok-word.ensures refl refl c.if-count-lt4.false c.if-count-gt516.false refl refl

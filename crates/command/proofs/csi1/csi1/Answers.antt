@@ -1,6 +1,5 @@
 -- Rests on `Csi1Stage`: a law for each return, from what `condense` laid and what `write_line` did, with the tests before it against it.
-use mathlib.Core.Path.{sym}
-use Rattle.command.proofs.Csi1Stage.{start_long, start_fits, raw_long, condensed_long, no_room, line_written}
+use Rattle.command.proofs.Csi1Stage.{raw_long, condensed_long, no_room, line_written}
 use Rattle.command.proofs.csi1.csi1.Goals as goal
 
 pub returns-then-line-gt-RAW_LIMIT : goal.returns-then-line-gt-RAW_LIMIT
@@ -11,12 +10,6 @@ returns-then-end-gt-LINE_LIMIT c = condensed_long _ c.condense-end.ensures c.if-
 
 pub returns-then-buffer-end : goal.returns-then-buffer-end
 returns-then-buffer-end c = no_room _ c.condense-end.ensures c.if-line-gt-RAW_LIMIT.false c.if-end-gt-LINE_LIMIT.false c.if-buffer-end.true
-
-pub slice_bounds-write_line-end : goal.slice_bounds-write_line-end
-slice_bounds-write_line-end c = sym (start_long c.condense-end.ensures)
-
-pub write_line-requires : goal.write_line-requires
-write_line-requires c = start_fits c.condense-end.ensures c.if-buffer-end.false
 
 pub returns : goal.returns
 returns c = line_written _ c.condense-end.ensures c.if-line-gt-RAW_LIMIT.false c.if-end-gt-LINE_LIMIT.false c.if-buffer-end.false

@@ -1,20 +1,18 @@
--- Rests on `CursorAtSteps`: the run from here ends where the run from the start does; each letter takes it one on, any other character ends it.
-use mathlib.Core.Path.{refl, sym, ◌∙◌}
-use Rattle.command_cursor.proofs.CursorAtSteps.{span_end, span_halt, span_zero, span_on}
+-- Rests on `CursorAtSteps`: each letter takes the run one on, any other character ends it.
+use mathlib.Core.Path.{sym, ◌∙◌}
+use Rattle.command_cursor.proofs.CursorAtSteps.{runs_over, runs_halt, runs_on, runs_end}
+use Rattle.command_cursor.proofs.Cursor.letters.Goals.{then-line-here-via-then-line-here, then-line-here-via-else-line-here+then-not-is_ascii_uppercase}
 use Rattle.command_cursor.proofs.Cursor.letters.Goals as goal
 
-pub loop-left-init : goal.loop-left-init
-loop-left-init c = refl
+pub returns-then-line-here : goal.returns-then-line-here
+returns-then-line-here c = elim c.then-line-here.branch [
+  | then-line-here-via-then-line-here w ↦ runs_over _ _ _ _ c.loop.invariant w.if-line-here.true
+  | then-line-here-via-else-line-here+then-not-is_ascii_uppercase w ↦
+      runs_halt _ _ _ _ c.loop.invariant w.if-line-here.false (sym w.is_ascii_uppercase.ensures.value ∙ w.if-not-is_ascii_uppercase.true)
+]
 
-pub returns-then-line-i : goal.returns-then-line-i
-returns-then-line-i c = sym (c.loop-left.invariant ∙ span_end _ _ _ _ c.if-line-i.true)
-
-pub returns-then-not-is_letter : goal.returns-then-not-is_letter
-returns-then-not-is_letter c = sym (c.loop-left.invariant ∙ span_halt _ _ _ _ c.if-line-i.false (sym c.is_letter.ensures ∙ c.if-not-is_letter.true))
-
-pub loop-left-preserved : goal.loop-left-preserved
-loop-left-preserved c = c.loop-left.invariant
-    ∙ span_on _ _ _ _ c.loop-left-test.true c.if-line-i.false (sym c.is_letter.ensures ∙ c.if-not-is_letter.false)
+pub loop-preserved : goal.loop-preserved
+loop-preserved c = runs_on _ _ _ _ c.loop.invariant c.loop-test.true c.if-line-here.false (sym c.is_ascii_uppercase.ensures.value ∙ c.if-not-is_ascii_uppercase.false)
 
 pub returns : goal.returns
-returns c = sym (c.loop-left.invariant ∙ span_zero _ _ _ _ c.loop-left-test.false)
+returns c = runs_end _ _ _ _ c.loop.invariant c.loop-test.false

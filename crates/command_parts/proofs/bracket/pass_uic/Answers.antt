@@ -3,11 +3,11 @@ use mathlib.Core.Path.{sym, ◌∙◌}
 use Rattle.command_parts.proofs.PassedUic.{pass_no_uic, pass_no_group, pass_uic}
 use Rattle.command_parts.proofs.bracket.pass_uic.Goals as goal
 
-pub returns-then-end-start : goal.returns-then-end-start
-returns-then-end-start c = pass_no_group _ _ _ (sym c.one-p.ensures ∙ c.in-Read.is) c.number-group.ensures c.if-end-start.true
+pub returns-in_default : goal.returns-in_default
+returns-in_default c = pass_no_uic _ _ _ (sym c.in_default.ensures)
 
-pub returns-in-Refused : goal.returns-in-Refused
-returns-in-Refused c = pass_no_uic _ _ _ (sym c.one-p.ensures ∙ c.in-Refused.is)
+pub returns-then-digits-start : goal.returns-then-digits-start
+returns-then-digits-start c = pass_no_group _ _ _ (sym c.in-Ok.ensures) c.number-group.ensures c.if-digits-start.true
 
-pub returns-else-end-start : goal.returns-else-end-start
-returns-else-end-start c = c.pass_user.ensures ∙ pass_uic _ _ _ (sym c.one-p.ensures ∙ c.in-Read.is) c.number-group.ensures c.if-end-start.false
+pub returns : goal.returns
+returns c = c.pass_user.ensures ∙ pass_uic _ _ _ (sym c.in-Ok.ensures) c.number-group.ensures c.if-digits-start.false

@@ -1,13 +1,14 @@
 -- Rests on `PassedUic`: no comma, no digit behind it, or the closing bracket behind the digits; and whether they are at most 377.
 use mathlib.Core.Path.{sym, ◌∙◌}
+use Rattle.command_cursor.proofs.Carried.{carried}
 use Rattle.command_parts.proofs.PassedUic.{pass_no_comma, pass_no_user, pass_closing}
 use Rattle.command_parts.proofs.bracket.pass_user.Goals as goal
 
-pub returns-then-end-start : goal.returns-then-end-start
-returns-then-end-start c = pass_no_user _ _ _ _ (sym c.one-p.ensures ∙ c.in-Read.is) c.number-user.ensures c.if-end-start.true
+pub returns-in_err-start : goal.returns-in_err-start
+returns-in_err-start c = rw (carried c.from_residual.ensures.1) (pass_no_comma _ _ _ _ (sym c.in_err-start.ensures))
 
-pub returns-in-Refused : goal.returns-in-Refused
-returns-in-Refused c = pass_no_comma _ _ _ _ (sym c.one-p.ensures ∙ c.in-Refused.is)
+pub returns-then-digits-start : goal.returns-then-digits-start
+returns-then-digits-start c = pass_no_user _ _ _ _ (sym c.in_ok-start.ensures) c.number-user.ensures c.if-digits-start.true
 
-pub returns-else-end-start : goal.returns-else-end-start
-returns-else-end-start c = c.pass_one.ensures ∙ pass_closing _ _ _ _ (sym c.one-p.ensures ∙ c.in-Read.is) c.number-user.ensures c.if-end-start.false
+pub returns : goal.returns
+returns c = c.pass_one.ensures ∙ pass_closing _ _ _ _ (sym c.in_ok-start.ensures) c.number-user.ensures c.if-digits-start.false

@@ -1,10 +1,11 @@
 -- Rests on `Passed`: the character stands there or it does not; what is known of the numbers is handed on.
-use mathlib.Core.Path.{sym, ◌∙◌}
+use mathlib.Core.Path.{sym}
+use Rattle.command_cursor.proofs.Carried.{carried}
 use Rattle.command_parts.proofs.Passed.{one_found, one_missed}
 use Rattle.command_parts.proofs.passing.pass_one.Goals as goal
 
-pub returns-in-Refused : goal.returns-in-Refused
-returns-in-Refused c = one_missed _ _ _ _ _ (sym c.one.ensures ∙ c.in-Refused.is)
+pub returns-in_err-next : goal.returns-in_err-next
+returns-in_err-next c = rw (carried c.from_residual.ensures.1) (one_missed _ _ _ _ _ (sym c.in_err-next.ensures))
 
-pub returns-in-Read : goal.returns-in-Read
-returns-in-Read c = one_found _ _ _ _ _ (sym c.one.ensures ∙ c.in-Read.is)
+pub returns : goal.returns
+returns c = one_found _ _ _ _ _ (sym c.in_ok-next.ensures)

@@ -1,6 +1,6 @@
 -- Rests on `PartsLaid`: an absent device has two zeros; one that is there has letters and a unit up to 7, and shows them.
 use Rattle.command_writing.specs.LaidText.{wrong}
-use Rattle.command_writing.proofs.NameTests.{decided, refuted}
+use Rattle.command_writing.proofs.NameTests.{refuted}
 use Rattle.command_writing.proofs.PartsLaid.{device_word_law, device_unit, device_large, device_other, device_absent, device_laid}
 use Rattle.command_writing.proofs.parts.write_device.Goals as goal
 
@@ -20,5 +20,5 @@ pub returns-then-not-is_device : goal.returns-then-not-is_device
 returns-then-not-is_device c = wrong (device_other c.if-not-present.false (refuted c.is_device.ensures c.if-not-is_device.true))
 
 pub returns : goal.returns
-returns c = let k = decided c.is_device.ensures c.if-not-is_device.false in
+returns c = let k = c.is_device.ensures.0 c.if-not-is_device.false in
     device_laid c.if-not-present.false k c.if-unit-gt-LAST_UNIT.false c.put_word-letters.ensures c.put_unit-digits.ensures c.put.ensures

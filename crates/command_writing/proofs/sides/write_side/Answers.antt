@@ -7,11 +7,8 @@ use Rattle.command_writing.proofs.sides.write_side.Goals as goal
 pub returns-then-specifications-eq0 : goal.returns-then-specifications-eq0
 returns-then-specifications-eq0 c = wrong (side_empty c.if-specifications-eq0.true)
 
-pub returns-in_default : goal.returns-in_default
-returns-in_default c = wrong (side_stuck c.if-specifications-eq0.false (stuck c.write_specification.ensures c.in_default.is))
-
-pub write_more-requires : goal.write_more-requires
-write_more-requires c = (went c.write_specification.ensures c.in-To.is).taken.within
+pub returns-in_err-next : goal.returns-in_err-next
+returns-in_err-next c = rw c.from_residual.ensures (wrong (side_stuck c.if-specifications-eq0.false (stuck c.write_specification.ensures c.in_err-next.was)))
 
 pub returns : goal.returns
-returns c = side_laid c.if-specifications-eq0.false (went c.write_specification.ensures c.in-To.is) c.write_more.ensures
+returns c = side_laid c.if-specifications-eq0.false (went c.write_specification.ensures c.in_ok-next.was) c.write_repeated.ensures

@@ -1,11 +1,7 @@
 -- Rests on `DifferTest`: the list is one of as many as there are, few or many.
 use mathlib.Core.Path.{refl}
-use native.Mathlib.Omega.{arith}
 use Rattle.consistency.proofs.DifferTest.{slot_few, slot_many}
 use Rattle.consistency.proofs.differing.slot_of.Goals as goal
-
-pub overflow_mul-mixed : goal.overflow_mul-mixed
-overflow_mul-mixed c = omega (arith, c.ranges.key)
 
 pub returns-then-long-eq-FEW_LISTS : goal.returns-then-long-eq-FEW_LISTS
 returns-then-long-eq-FEW_LISTS c = let both = slot_few _ _ c.requires refl c.if-long-eq-FEW_LISTS.true in

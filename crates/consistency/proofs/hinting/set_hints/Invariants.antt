@@ -1,4 +1,4 @@
--- What the loop of `set_hints` keeps from turn to turn, and what falls in each.
+-- What the loop of `set_hints` keeps from turn to turn.
 use Prim.Native.Nat.{◌-◌}
 use mathlib.Core.Path.{◌≡◌}
 use lib.ListN.{length}
@@ -6,6 +6,3 @@ use Rattle.consistency.proofs.hinting.set_hints.Given as goal
 
 abbrev pub invariant-loop-i : goal.invariant-loop-i
 invariant-loop-i l = length l.hints ≡ length l.initial.hints
-
-abbrev pub decreases-loop-i : goal.decreases-loop-i
-decreases-loop-i l = l.uics - l.i

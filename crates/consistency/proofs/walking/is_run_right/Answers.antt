@@ -1,6 +1,5 @@
 -- Rests on `WalkSteps`: a run that is empty, ends behind the pack or at another block is wrong; else its blocks decide.
 use mathlib.Core.Path.{◌∙◌}
-use native.Mathlib.Omega.{arith}
 use Rattle.consistency.proofs.WalkSteps.{run_none, run_high, run_other, run_whole, run_again, marks_again}
 use Rattle.consistency.proofs.walking.is_run_right.Goals as goal
 
@@ -12,9 +11,6 @@ returns-then-g-behind c = record { by_index = λ img. run_high _ _ _ _ _ _ c.if-
 
 pub returns-then-behind-stored : goal.returns-then-behind-stored
 returns-then-behind-stored c = record { by_index = λ img. run_other _ _ _ _ _ _ c.if-count-lt1.false c.if-behind-stored.true; by_index_2 = λ img e. cc }
-
-pub take_run-requires : goal.take_run-requires
-take_run-requires c = omega (arith, c.if-g-behind.false, c.requires.blocks_in_bounds.0)
 
 pub returns : goal.returns
 returns c = record {

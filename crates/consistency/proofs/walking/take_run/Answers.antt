@@ -1,9 +1,6 @@
 -- Rests on `WalkSteps`: the blocks that are left of a run decide.
-use Rattle.consistency.proofs.WalkSteps.{running_starts, running_on, running_stops, running_ends}
+use Rattle.consistency.proofs.WalkSteps.{running_on, running_stops, running_ends}
 use Rattle.consistency.proofs.walking.take_run.Goals as goal
-
-pub loop-b-init : goal.loop-b-init
-loop-b-init c = running_starts _ _ _
 
 pub returns-then-map-b-ne0 : goal.returns-then-map-b-ne0
 returns-then-map-b-ne0 c = running_stops c.loop-b.invariant c.loop-b-test.true c.if-map-b-ne0.true

@@ -17,8 +17,8 @@ set_word-requires-3 c = (omega (arith, header_long c.requires, c.set_word.auto.b
 pub set_word-requires-4 : goal.set_word-requires-4
 set_word-requires-4 c = (omega (arith, header_long c.requires, c.set_word.auto.bytes, c.set_word-2.auto.bytes, c.set_word-3.auto.bytes), uics_small c.requires)
 
-pub slice_bounds-fill-end : goal.slice_bounds-fill-end
-slice_bounds-fill-end c = omega (
+pub slice_bounds-copy_from_slice-end : goal.slice_bounds-copy_from_slice-end
+slice_bounds-copy_from_slice-end c = omega (
   arith,
   header_long c.requires,
   c.set_word.auto.bytes,
@@ -29,4 +29,4 @@ slice_bounds-fill-end c = omega (
 
 pub returns : goal.returns
 returns c = headed_is _ _ _ _ _ (header_long c.requires) c.set_word.ensures c.set_word-2.ensures c.set_word-3.ensures
-    c.set_word-4.ensures c.fill.ensures
+    c.set_word-4.ensures c.copy_from_slice.ensures.after

@@ -1,14 +1,15 @@
 -- Rests on `RenamStage`: the stage before refuses, or what is asked of the file does, or nothing.
+use mathlib.Core.Path.{refl}
+use Rattle.asking.proofs.Verdicts.{carried}
 use Rattle.directory.proofs.RenamStage.{decide_refused, decide_stopped, decide_passed}
 use Rattle.directory.proofs.renam.decide_renam.Goals as goal
 
-pub returns-in_default : goal.returns-in_default
-returns-in_default c = decide_refused _ _ _ _ _ _ c.ask_old-asked.ensures _ c.in_default.is
+pub returns-in_err-found : goal.returns-in_err-found
+returns-in_err-found c = rw (carried c.from_residual.ensures.1) (decide_refused _ _ _ _ _ _ c.in_err-found.ensures _ refl)
 
-pub returns-in-Refused : goal.returns-in-Refused
-returns-in-Refused c = decide_stopped _ _ _ _ _ _ c.ask_old-asked.ensures _ _ _
-    c.in-File.is _ c.judge_permit.ensures _ c.in-Refused.is
+pub returns-in_err-judge_permit : goal.returns-in_err-judge_permit
+returns-in_err-judge_permit c = rw (carried c.from_residual-in_err-judge_permit.ensures.1)
+    (decide_stopped _ _ _ _ _ _ c.in_ok-found.ensures _ _ _ refl _ c.in_err-judge_permit.ensures _ refl)
 
 pub returns : goal.returns
-returns c = decide_passed _ _ _ _ _ _ c.ask_old-asked.ensures _ _ _
-    c.in-File.is _ c.judge_permit.ensures c.in_default-judge_permit.is
+returns c = decide_passed _ _ _ _ _ _ c.in_ok-found.ensures _ _ _ refl _ c.in_ok-judge_permit.ensures refl

@@ -1,19 +1,11 @@
--- Rests on `ReportedParts`: the second stage is asked where the first says 0.
-use native.Mathlib.Omega.{arith}
+-- Rests on `ReportedParts`: the second stage is asked where the first finds no fault.
+use mathlib.Core.Path.{refl}
+use Rattle.faults.proofs.FaultNamed.{carried, fault_some}
 use Rattle.faults.proofs.ReportedParts.{reported_front, reported_then}
 use Rattle.faults.proofs.blocks.look_counted.Goals as goal
 
-pub count_files-requires : goal.count_files-requires
-count_files-requires c = record { all_right = c.requires.all_right; counts_value = c.requires.counts_value }
-
-pub look_shared-told-requires : goal.look_shared-told-requires
-look_shared-told-requires c = record { all_right = c.requires.all_right; counted = (c.count_files.ensures, omega (arith, c.count_files.auto.counts, c.requires.counts_value.1)) }
-
-pub returns-then-told-ne0 : goal.returns-then-told-ne0
-returns-then-told-ne0 c = reported_front _ c.look_shared-told.ensures c.if-told-ne0.true
-
-pub look_map-requires : goal.look_map-requires
-look_map-requires c = record { all_right = c.requires.all_right; counted = (c.count_files.ensures, omega (arith, c.count_files.auto.counts, c.requires.counts_value.1)) }
+pub returns-in_err-look_shared : goal.returns-in_err-look_shared
+returns-in_err-look_shared c = rw (carried c.from_residual.ensures.1) (reported_front _ c.in_err-look_shared.ensures (fault_some _))
 
 pub returns : goal.returns
-returns c = reported_then c.look_shared-told.ensures c.if-told-ne0.false c.look_map.ensures
+returns c = reported_then c.in_ok-look_shared.ensures refl c.look_map.ensures

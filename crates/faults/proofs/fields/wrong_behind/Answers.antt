@@ -3,8 +3,8 @@ use native.Mathlib.Omega.{arith}
 use Rattle.faults.proofs.FirstSought.{sought_short, sought_then}
 use Rattle.faults.proofs.fields.wrong_behind.Goals as goal
 
-pub returns-then-opens-lt11 : goal.returns-then-opens-lt11
-returns-then-opens-lt11 c = sought_short (c.wrong_opens-opens.ensures _ _) c.if-opens-lt11.true (omega arith)
+pub returns-in-Some : goal.returns-in-Some
+returns-in-Some c = sought_short (c.in-Some.ensures _ _) (omega arith)
 
 pub returns : goal.returns
-returns c = sought_then (c.wrong_opens-opens.ensures _ _) c.if-opens-lt11.false (c.wrong_zero.ensures _)
+returns c = sought_then _ _ (c.in_default.ensures _ _) (c.wrong_zero.ensures _)

@@ -1,33 +1,21 @@
--- Rests on `FirstSought` and `LookedFields`: the words so far are 0.
+-- Rests on `sought_find` and `LookedFields`: the first word that is not 0.
+use borrow.Author.Rules.{rules}
+use mathlib.Core.Path.{◌≡◌, refl}
 use native.Mathlib.Omega.{arith}
-use Rattle.faults.proofs.FirstSought.{sought_none, sought_on, sought_here, sought_all}
+use Rattle.std.proofs.Common.{tests}
+use Rattle.std.proofs.lemmas.Iterator.{serves_from_Range}
+use Rattle.pack.specs.Entry.{entry_word}
+use Rattle.faults.specs.Looking.{FieldRight}
+use Rattle.faults.proofs.FirstSought.{sought_find}
 use Rattle.faults.proofs.LookedFields.{zero_wrong, zero_right}
-use Rattle.faults.proofs.LookedEntry.{measures_sized}
 use Rattle.faults.proofs.fields.wrong_zero.Goals as goal
 
-pub loop-w-init : goal.loop-w-init
-loop-w-init c = (omega arith, λ x. sought_none, omega arith)
-
-pub entry_word-requires : goal.entry_word-requires
-entry_word-requires c = record { sized = measures_sized c.requires.0; e_bound = (c.requires.1, c.loop-w-test.true) }
-
-pub returns-then-entry_word-ne0 : goal.returns-then-entry_word-ne0
-returns-then-entry_word-ne0 c = λ x. sought_here (c.loop-w.invariant.1 x) c.loop-w-test.true
-    (zero_wrong _ c.requires.0.is x _ c.loop-w.invariant.2 c.entry_word.ensures.value c.if-entry_word-ne0.true)
-
-pub overflow_add-w : goal.overflow_add-w
-overflow_add-w c = omega (arith, c.loop-w-test.true)
-
-pub loop-w-smaller : goal.loop-w-smaller
-loop-w-smaller c = omega (arith, c.loop-w-test.true)
-
-pub loop-w-preserved : goal.loop-w-preserved
-loop-w-preserved c = (
-  omega (arith, c.loop-w-test.true),
-  λ x. sought_on (c.loop-w.invariant.1 x)
-      (zero_right _ c.requires.0.is x _ c.loop-w.invariant.2 c.entry_word.ensures.value c.if-entry_word-ne0.false),
-  omega (arith, c.loop-w.invariant.2),
-)
+pub find-requires : goal.find-requires
+find-requires c = record { can = tt; finite = tt; callable = serves_from_Range (λ w q k. search (rules, tests)) (λ w low high. search rules) }
 
 pub returns : goal.returns
-returns c = λ x. sought_all (c.loop-w.invariant.1 x) c.loop-w.invariant.0 c.loop-w-test.false
+returns c = λ x.
+    let word = entry_word c.args.view.img.now c.args.view.g c.args.e in
+    sought_find (FieldRight c.args.view.img.now c.args.e x) (omega arith) _ _ c.find.ensures.ran
+    (λ w q k low. let some : word w ≡ 0 → ⊥ = grind (arith, tests) in zero_wrong _ c.requires.0.is x _ low refl some)
+    (λ w q k. (search rules, λ low. let nil : word w ≡ 0 = grind (arith, tests) in zero_right _ c.requires.0.is x _ low refl nil))

@@ -1,13 +1,9 @@
 -- Rests on `LookedFile`: the last block by word 8, then its link.
-use Rattle.faults.proofs.LookedEntry.{measures_sized}
 use Rattle.faults.proofs.LookedFile.{told_last, told_end, fine_end}
 use Rattle.faults.proofs.files.look_end.Goals as goal
 
 pub returns-then-b-last : goal.returns-then-b-last
 returns-then-b-last c = told_last c.requires.0 c.requires.1 c.if-b-last.true
-
-pub next_block-behind-requires : goal.next_block-behind-requires
-next_block-behind-requires c = record { sized = measures_sized c.requires.0.measures; b_lt_blocks = c.requires.1.body.1 }
 
 pub returns-then-behind-ne0 : goal.returns-then-behind-ne0
 returns-then-behind-ne0 c = told_end c.requires.0 c.requires.1

@@ -4,25 +4,20 @@ use Rattle.pack.specs.File.{blocks_of}
 use Rattle.faults.proofs.LookedShared.{seeking_start, seeking_block, seeking_found, seeking_next, seeking_end}
 use Rattle.faults.proofs.shared.reaches.Goals as goal
 
-pub loop-left-init : goal.loop-left-init
-loop-left-init c = seeking_start _ _ c.args.x _ c.requires.by_index
+pub loop-init : goal.loop-init
+loop-init c = seeking_start _ _ c.args.x _ c.requires.by_index
 
 pub returns-then-b-sought : goal.returns-then-b-sought
 unfolding blocks_of
-returns-then-b-sought c = seeking_found c.loop-left.invariant c.loop-left-test.true c.if-b-sought.true
+returns-then-b-sought c = seeking_found c.loop.invariant (omega (arith, c.loop-test.true)) c.if-b-sought.true
 
 pub next_block-b-requires : goal.next_block-b-requires
-next_block-b-requires c = record { sized = c.requires.sized; b_lt_blocks = seeking_block c.loop-left.invariant c.loop-left-test.true }
+next_block-b-requires c = record { b_lt_blocks = seeking_block c.loop.invariant (omega (arith, c.loop-test.true)) }
 
-pub overflow_sub-left : goal.overflow_sub-left
-overflow_sub-left c = omega (arith, c.loop-left-test.true)
-
-pub loop-left-smaller : goal.loop-left-smaller
-loop-left-smaller c = omega (arith, c.loop-left-test.true)
-
-pub loop-left-preserved : goal.loop-left-preserved
-loop-left-preserved c = seeking_next c.loop-left.invariant c.loop-left-test.true c.if-b-sought.false c.next_block-b.ensures.result_value
+pub loop-preserved : goal.loop-preserved
+loop-preserved c = seeking_next c.loop.invariant (omega (arith, c.loop-test.true)) c.if-b-sought.false c.next_block-b.ensures.result_value
+    (omega (arith, c.loop-test.true))
 
 pub returns : goal.returns
 unfolding blocks_of
-returns c = seeking_end c.loop-left.invariant (omega (arith, c.loop-left-test.false))
+returns c = seeking_end c.loop.invariant (omega (arith, c.loop-test.false))

@@ -1,9 +1,7 @@
--- What the loop of `reaches` keeps from turn to turn, and what falls in each.
+-- What the loop of `reaches` keeps from turn to turn.
+use Prim.Native.Nat.{◌-◌}
 use Rattle.faults.proofs.LookedShared.{Seeking}
 use Rattle.faults.proofs.shared.reaches.Given as goal
 
-abbrev pub invariant-loop-left : goal.invariant-loop-left
-invariant-loop-left l = Seeking l.img l.g l.kind l.sought l.initial.left l.initial.b.0 l.left l.b.0
-
-abbrev pub decreases-loop-left : goal.decreases-loop-left
-decreases-loop-left l = l.left
+abbrev pub invariant-loop : goal.invariant-loop
+invariant-loop l = Seeking l.view.img.now l.view.g l.x.kind l.sought l.x.length l.x.first.0 (l.x.length - l.counter) l.b.0

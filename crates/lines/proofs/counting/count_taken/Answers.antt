@@ -1,31 +1,24 @@
--- Rests on `LineWriteCounted`: in special mode there is no terminator before the index, and what is left decides the whole.
-use native.Mathlib.Omega.{arith}
-use Rattle.lines.proofs.LineWriteCounted.{taken_whole, seeking_start, seeking_finished, seeking_stopped, seeking_next}
+-- Rests on `LineWriteCounted`: in special mode the first terminator is the last that is taken, if there is one.
+use mathlib.Core.Path.{sym}
+use Rattle.std.proofs.Common.{rules}
+use borrow.Author.Tests.{tests}
+use Rattle.std.proofs.lemmas.Iterator.{YieldsList-from_slice}
+use Rattle.std.proofs.lemmas.Iterator.Search.{position_from_yields_List}
+use Rattle.lines.specs.TextBytes.{is_terminator}
+use Rattle.lines.proofs.LineWriteCounted.{taken_whole, taken_to, taken_all}
 use Rattle.lines.proofs.counting.count_taken.Goals as goal
 
-pub returns-then-not-special : goal.returns-then-not-special
-returns-then-not-special c = taken_whole c.args.text.now c.if-not-special.true
+pub returns-in-Some : goal.returns-in-Some
+returns-in-Some c =
+    taken_to c.args.text.now
+    (position_from_yields_List is_terminator _ _ _ c.position-end.ensures.ran (YieldsList-from_slice c.args.text.now cc) (λ x b q k. search (rules, tests)))
+    c.args.mode c.is_special.ensures c.if-is_special.true c.in-Some.is
 
-pub loop-i-init : goal.loop-i-init
-loop-i-init c = seeking_start c.if-not-special.false
+pub returns-in_default : goal.returns-in_default
+returns-in_default c =
+    taken_all c.args.text.now
+    (position_from_yields_List is_terminator _ _ _ c.position-end.ensures.ran (YieldsList-from_slice c.args.text.now cc) (λ x b q k. search (rules, tests)))
+    c.args.mode c.is_special.ensures c.if-is_special.true c.in_default.is
 
-pub bounds-text-i : goal.bounds-text-i
-bounds-text-i c = omega arith
-
-pub overflow_add-result : goal.overflow_add-result
-overflow_add-result c = omega arith
-
-pub returns-then-is_terminator : goal.returns-then-is_terminator
-returns-then-is_terminator c = seeking_stopped c.loop-i.invariant c.loop-i-test.true c.is_terminator.ensures c.if-is_terminator.true
-
-pub overflow_add-i : goal.overflow_add-i
-overflow_add-i c = omega arith
-
-pub loop-i-smaller : goal.loop-i-smaller
-loop-i-smaller c = omega arith
-
-pub loop-i-preserved : goal.loop-i-preserved
-loop-i-preserved c = seeking_next c.loop-i.invariant c.loop-i-test.true c.is_terminator.ensures c.if-is_terminator.false
-
-pub returns : goal.returns
-returns c = seeking_finished c.loop-i.invariant c.loop-i-test.false
+pub returns-else-is_special : goal.returns-else-is_special
+returns-else-is_special c = taken_whole c.args.mode c.args.text.now c.is_special.ensures c.if-is_special.false

@@ -9,21 +9,6 @@ use Rattle.lines.proofs.line_read.read_payload.Goals.{in-Discarded, in-Plain+els
 pub loop-i-init : goal.loop-i-init
 loop-i-init c = part_start refl
 
-pub bounds-part-i : goal.bounds-part-i
-bounds-part-i c = omega arith
-
-pub bounds-buffer-place : goal.bounds-buffer-place
-bounds-buffer-place c = omega arith
-
-pub overflow_add-count : goal.overflow_add-count
-overflow_add-count c = omega arith
-
-pub overflow_add-result : goal.overflow_add-result
-overflow_add-result c = omega arith
-
-pub overflow_add-result-in-Terminator : goal.overflow_add-result-in-Terminator
-overflow_add-result-in-Terminator c = omega arith
-
 pub shape_of-buffer-in-Terminator : goal.shape_of-buffer-in-Terminator
 shape_of-buffer-in-Terminator c = simp length-set c.loop-i.invariant.long
 
@@ -33,18 +18,6 @@ returns-in-Terminator c = record {
       c.bit_0.ensures.value;
   count_le_passed = omega arith;
 }
-
-pub bounds-buffer-place-in-Plain : goal.bounds-buffer-place-in-Plain
-bounds-buffer-place-in-Plain c = omega arith
-
-pub overflow_add-count-in-Plain : goal.overflow_add-count-in-Plain
-overflow_add-count-in-Plain c = omega arith
-
-pub overflow_add-result-then-is_special-most : goal.overflow_add-result-then-is_special-most
-overflow_add-result-then-is_special-most c = omega arith
-
-pub overflow_add-result-then-is_special-most-2 : goal.overflow_add-result-then-is_special-most-2
-overflow_add-result-then-is_special-most-2 c = omega arith
 
 pub shape_of-buffer-then-is_special-most : goal.shape_of-buffer-then-is_special-most
 shape_of-buffer-then-is_special-most c = simp length-set c.loop-i.invariant.long
@@ -56,21 +29,12 @@ returns-then-is_special-most c = record {
   count_le_passed = omega arith;
 }
 
-pub overflow_add-i : goal.overflow_add-i
-overflow_add-i c = omega arith
-
-pub loop-i-smaller : goal.loop-i-smaller
-loop-i-smaller c = omega arith
-
 pub loop-i-preserved : goal.loop-i-preserved
 loop-i-preserved c = elim c.match-role.branch [
   | in-Discarded w ↦ part_discarded c.loop-i.invariant c.loop-i-test.true c.role_of-role.ensures w.in-Discarded.is w.buffer-is w.count-is
   | in-Plain+else-is_special-most w ↦ part_plain c.loop-i.invariant c.loop-i-test.true c.role_of-role.ensures w.place_in-place-in-Plain.ensures w.in-Plain.is
       w.is_special.ensures w.if-is_special-most.false w.buffer-is w.count-is
 ]
-
-pub overflow_add-result-2 : goal.overflow_add-result-2
-overflow_add-result-2 c = omega arith
 
 pub shape_of-buffer : goal.shape_of-buffer
 shape_of-buffer c = c.loop-i.invariant.long

@@ -1,19 +1,9 @@
 -- Rests on `EntryMoved`: only a linked file has links.
-use native.Mathlib.Omega.{arith}
-use Rattle.moving.proofs.EntryMoved.{sized, chain_other, chain_linked}
+use Rattle.moving.proofs.EntryMoved.{chain_other, chain_linked}
 use Rattle.moving.proofs.chains.move_chain.Goals as goal
-
-pub entry_word-kind-requires : goal.entry_word-kind-requires
-entry_word-kind-requires c = record { sized = sized c.requires.source.0; e_bound = (c.requires.source.1, omega arith) }
 
 pub returns-then-kind-ne2 : goal.returns-then-kind-ne2
 returns-then-kind-ne2 c = chain_other c.requires.source.0 c.requires.source.1 c.entry_word-kind.ensures.value c.if-kind-ne2.true c.requires.partly
-
-pub entry_word-first-requires : goal.entry_word-first-requires
-entry_word-first-requires c = record { sized = sized c.requires.source.0; e_bound = (c.requires.source.1, omega arith) }
-
-pub entry_word-count-requires : goal.entry_word-count-requires
-entry_word-count-requires c = record { sized = sized c.requires.source.0; e_bound = (c.requires.source.1, omega arith) }
 
 pub move_links-requires : goal.move_links-requires
 move_links-requires c = record {

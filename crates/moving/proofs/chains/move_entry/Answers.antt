@@ -3,26 +3,8 @@ use mathlib.Core.Path.{ap, ◌∙◌}
 use native.Mathlib.Omega.{arith}
 use lib.ListN.{length}
 use Rattle.words.proofs.Word.{length_set_word}
-use Rattle.moving.proofs.EntryMoved.{sized, first_small, last_small, entry_few, entry_inside, entry_inside₂, entry_done}
+use Rattle.moving.proofs.EntryMoved.{first_small, last_small, entry_inside, entry_inside₂, entry_done}
 use Rattle.moving.proofs.chains.move_entry.Goals as goal
-
-pub entry_word-requires : goal.entry_word-requires
-entry_word-requires c = record { sized = sized c.requires.source.0; e_bound = (c.requires.source.1, omega arith) }
-
-pub entry_word-requires-2 : goal.entry_word-requires-2
-entry_word-requires-2 c = record { sized = sized c.requires.source.0; e_bound = (c.requires.source.1, omega arith) }
-
-pub words-requires : goal.words-requires
-words-requires c = (sized c.requires.source.0).few
-
-pub overflow_mul-at : goal.overflow_mul-at
-overflow_mul-at c = omega (arith, entry_few c.requires.source.0 c.requires.source.1 c.words.ensures)
-
-pub overflow_add-at : goal.overflow_add-at
-overflow_add-at c = omega (arith, entry_few c.requires.source.0 c.requires.source.1 c.words.ensures)
-
-pub overflow_add-at-2 : goal.overflow_add-at-2
-overflow_add-at-2 c = omega (arith, entry_few c.requires.source.0 c.requires.source.1 c.words.ensures)
 
 pub set_word-requires : goal.set_word-requires
 set_word-requires c = (
@@ -30,9 +12,6 @@ set_word-requires c = (
   first_small c.requires.source.0 c.requires.source.1
       c.renumber-first.ensures c.entry_word.ensures.value,
 )
-
-pub overflow_add-at-3 : goal.overflow_add-at-3
-overflow_add-at-3 c = omega (arith, entry_few c.requires.source.0 c.requires.source.1 c.words.ensures)
 
 pub set_word-requires-2 : goal.set_word-requires-2
 set_word-requires-2 c = (

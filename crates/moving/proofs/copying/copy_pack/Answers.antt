@@ -1,32 +1,13 @@
 -- Rests on `PackCopied`: two runs of bytes, then the new form and n.
 use native.Mathlib.Omega.{arith}
-use Rattle.moving.proofs.MovedMeasures.{source_sized}
-use Rattle.moving.proofs.PackCopied.{contents_counted, bodies_counted, bodies_low, contents_inside, bodies_inside, header_inside, blocks_word, pack_copied, form_word}
+use Rattle.moving.proofs.PackCopied.{bodies_counted, contents_inside, bodies_inside, header_inside, blocks_word, pack_copied, form_word}
 use Rattle.moving.proofs.copying.copy_pack.Goals as goal
-
-pub bytes-bytes-requires : goal.bytes-bytes-requires
-bytes-bytes-requires c = (source_sized c.requires.0.stated c.requires.0.movable).few
-
-pub overflow_add-g : goal.overflow_add-g
-overflow_add-g c = omega (arith, (contents_counted c.requires.0 c.requires.1 c.bytes-bytes.ensures).0)
-
-pub overflow_mul-g : goal.overflow_mul-g
-overflow_mul-g c = omega (arith, (contents_counted c.requires.0 c.requires.1 c.bytes-bytes.ensures).1)
 
 pub copy_run-requires : goal.copy_run-requires
 copy_run-requires c = contents_inside c.requires.0 c.requires.1 c.bytes-bytes.ensures c.requires.2
 
-pub overflow_mul-from : goal.overflow_mul-from
-overflow_mul-from c = omega (arith, (bodies_counted c.requires.0 c.requires.1 c.bytes-bytes.ensures).0)
-
 pub overflow_mul-to : goal.overflow_mul-to
-overflow_mul-to c = omega (arith, (bodies_counted c.requires.0 c.requires.1 c.bytes-bytes.ensures).1)
-
-pub overflow_sub-g : goal.overflow_sub-g
-overflow_sub-g c = bodies_low c.requires.0 c.requires.1 c.bytes-bytes.ensures
-
-pub overflow_mul-g-2 : goal.overflow_mul-g-2
-overflow_mul-g-2 c = omega (arith, (bodies_counted c.requires.0 c.requires.1 c.bytes-bytes.ensures).2)
+overflow_mul-to c = omega (arith, bodies_counted c.requires.0 c.requires.1 c.bytes-bytes.ensures)
 
 pub copy_run-requires-2 : goal.copy_run-requires-2
 copy_run-requires-2 c = bodies_inside c.requires.0 c.requires.1 c.bytes-bytes.ensures c.requires.2 c.copy_run.ensures.long

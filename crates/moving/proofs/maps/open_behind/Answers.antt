@@ -1,11 +1,7 @@
 -- Rests on `MarkedBehind`: a part of the marks is lent to the check, and comes back one place on.
-use native.Mathlib.Omega.{arith}
 use mathlib.Core.Path.{◌∙◌}
-use Rattle.moving.proofs.MarkedBehind.{behind_lent, behind_room, behind_long, behind_marked}
+use Rattle.moving.proofs.MarkedBehind.{behind_lent, behind_long, behind_marked}
 use Rattle.moving.proofs.maps.open_behind.Goals as goal
-
-pub slice_bounds-open_mapped-end : goal.slice_bounds-open_mapped-end
-slice_bounds-open_mapped-end c = omega (arith, behind_room c.requires)
 
 pub open_mapped-requires : goal.open_mapped-requires
 open_mapped-requires c = behind_lent c.requires

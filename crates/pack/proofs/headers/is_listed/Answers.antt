@@ -4,9 +4,6 @@ use Rattle.pack.proofs.HeaderRules.{uics_room}
 use Rattle.pack.proofs.HeaderTestWords.{listed_is}
 use Rattle.pack.proofs.headers.is_listed.Goals as goal
 
-pub word_at-requires : goal.word_at-requires
-word_at-requires c = omega (arith, uics_room _ c.requires)
-
 pub is_among-requires : goal.is_among-requires
 is_among-requires c = omega (arith, uics_room _ c.requires, c.word_at.ensures.value)
 

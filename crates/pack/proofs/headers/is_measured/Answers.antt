@@ -27,9 +27,6 @@ returns-then-most_contents-contents c = much_contents _ _ _ _ _ c.segments_of-se
     c.most_blocks.ensures c.if-most_blocks-blocks.false c.if-contents-lt1.false c.most_contents.ensures
     c.if-most_contents-contents.true
 
-pub bodies_of-bodies-requires : goal.bodies_of-bodies-requires
-bodies_of-bodies-requires c = omega (arith, c.most_contents.ensures)
-
 pub returns-then-blocks-bodies : goal.returns-then-blocks-bodies
 returns-then-blocks-bodies c = no_room _ _ _ _ _ c.segments_of-segments.ensures
     c.if-segments-lt1.false c.if-blocks-lt16.false

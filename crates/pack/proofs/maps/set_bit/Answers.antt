@@ -1,17 +1,8 @@
 -- Rests on `MapSet`: the word of the bit stands in the image, and it alone is written.
 use mathlib.Core.Path.{sym, ◌∙◌}
-use native.Mathlib.Omega.{arith}
 use borrow.Author.Tests.{ltb-true}
-use Rattle.pack.proofs.MapSet.{bit_set_none, map_counted, map_inside, map_written}
+use Rattle.pack.proofs.MapSet.{bit_set_none, map_inside, map_written}
 use Rattle.pack.proofs.maps.set_bit.Goals as goal
-
-pub overflow_mul-at : goal.overflow_mul-at
-overflow_mul-at c = let there = ltb-true _ _ (sym c.has_map.ensures ∙ c.if-has_map.true) in
-    omega (arith, map_counted c.requires.sized there c.words.ensures)
-
-pub overflow_add-at-then-has_map : goal.overflow_add-at-then-has_map
-overflow_add-at-then-has_map c = let there = ltb-true _ _ (sym c.has_map.ensures ∙ c.if-has_map.true) in
-    omega (arith, map_counted c.requires.sized there c.words.ensures, c.requires.b_lt_blocks.0, c.requires.sized.most)
 
 pub word_at-word-requires : goal.word_at-word-requires
 word_at-word-requires c = let there = ltb-true _ _ (sym c.has_map.ensures ∙ c.if-has_map.true) in

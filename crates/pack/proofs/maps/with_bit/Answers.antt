@@ -1,18 +1,7 @@
 -- Rests on `MapBits`: shifted a bit is a power of 2 or nothing, it is in the word, and the word stays one.
-use mathlib.Core.Path.{refl}
 use native.Mathlib.Omega.{arith}
-use Rattle.pack.proofs.MapBits.{shift_within, shift_with, shift_word}
+use Rattle.pack.proofs.MapBits.{shift_with, shift_word}
 use Rattle.pack.proofs.maps.with_bit.Goals as goal
-
-pub overflow_sub-result : goal.overflow_sub-result
-overflow_sub-result c = shift_within c.args.place _ c.requires.1 (omega arith) c.args.word refl
-
-pub overflow_add-result : goal.overflow_add-result
-overflow_add-result c = omega (
-  arith,
-  shift_with c.args.word c.args.place c.args.bit c.requires.1 c.requires.0 c.requires.2,
-  shift_word c.args.word c.args.place c.args.bit c.requires.1 c.requires.0 c.requires.2,
-)
 
 pub returns : goal.returns
 returns c = let is = shift_with c.args.word c.args.place c.args.bit c.requires.1 c.requires.0 c.requires.2 in

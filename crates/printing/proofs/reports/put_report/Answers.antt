@@ -1,10 +1,11 @@
--- Rests on `put_consistent` and `put_faulty`: which line, by the rule.
-use native.Mathlib.Omega.{arith}
-use Rattle.printing.proofs.ReportText.{put_consistent, put_faulty}
+-- Rests on `put_faulty`: which line, by what is told.
+use Rattle.printing.specs.ReportText.{report_text}
+use Rattle.printing.proofs.ReportText.{put_faulty}
 use Rattle.printing.proofs.reports.put_report.Goals as goal
 
-pub returns-then-answer-eq0 : goal.returns-then-answer-eq0
-returns-then-answer-eq0 c = record { put = put_consistent _ c.if-answer-eq0.true c.put_bytes.ensures; upper_bound = omega (arith, c.put_bytes.ensures.behind) }
+pub returns-in-Ok-clause-put : goal.returns-in-Ok-clause-put
+unfolding report_text
+returns-in-Ok-clause-put c = rw c.in-Ok.is c.put_bytes.ensures
 
-pub returns : goal.returns
-returns c = record { put = put_faulty _ c.if-answer-eq0.false c.put_fault.ensures.put; upper_bound = c.put_fault.ensures.upper_bound }
+pub returns-in-Err-clause-put : goal.returns-in-Err-clause-put
+returns-in-Err-clause-put c = rw c.in-Err.is (put_faulty _ c.put_fault.ensures.put)

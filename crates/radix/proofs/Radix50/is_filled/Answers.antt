@@ -4,8 +4,8 @@ use native.Mathlib.Omega.{arith}
 use Rattle.radix.proofs.NamesTestFilled.{filled_not, filled_pair}
 use Rattle.radix.proofs.Radix50.is_filled.Goals as goal
 
-pub returns-then-not-are_named : goal.returns-then-not-are_named
-returns-then-not-are_named c = filled_not _ refl refl (sym c.are_named.ensures ∙ c.if-not-are_named.true)
+pub returns-then-are_named : goal.returns-then-are_named
+returns-then-are_named c = c.is_named.ensures ∙ filled_pair _ refl (omega arith) (sym c.are_named.ensures ∙ c.if-are_named.true)
 
-pub returns : goal.returns
-returns c = c.is_named.ensures ∙ filled_pair _ refl (omega arith) (sym c.are_named.ensures ∙ c.if-not-are_named.false)
+pub returns-else-are_named : goal.returns-else-are_named
+returns-else-are_named c = c.if-are_named.false ∙ filled_not _ refl refl (sym c.are_named.ensures ∙ c.if-are_named.false)

@@ -4,8 +4,7 @@ use Rattle.stream.proofs.SpotSteps.{enter_none, enter_room, enter_some}
 use Rattle.stream.proofs.reading.enter.Goals as goal
 
 pub returns-then-left-eq0 : goal.returns-then-left-eq0
-returns-then-left-eq0 c = let both = enter_none c.requires.chained c.args.offset c.if-left-eq0.true in
-    record { result_value = both.0; standing = both.1 }
+returns-then-left-eq0 c = (enter_none c.requires.chained c.args.offset c.if-left-eq0.true).0
 
 pub overflow_mul-start : goal.overflow_mul-start
 overflow_mul-start c = omega (arith, enter_room c.requires.chained c.args.offset c.if-left-eq0.false c.bytes-bytes.ensures)
@@ -20,5 +19,4 @@ pub overflow_add-result-3 : goal.overflow_add-result-3
 overflow_add-result-3 c = omega (arith, enter_room c.requires.chained c.args.offset c.if-left-eq0.false c.bytes-bytes.ensures)
 
 pub returns : goal.returns
-returns c = let both = enter_some c.requires.chained _ c.if-left-eq0.false c.bytes-bytes.ensures c.requires.offset_bound in
-    record { result_value = both.0; standing = both.1 }
+returns c = (enter_some c.requires.chained _ c.if-left-eq0.false c.bytes-bytes.ensures c.requires.offset_bound).0

@@ -1,31 +1,19 @@
 -- Rests on `SpotSteps`: what is still to pass behind the blocks passed leads to the same bytes, and no more blocks are passed than there are.
 use Prim.Native.Nat.{ℕ, ◌-◌}
 use mathlib.Core.Path.{ap}
-use native.Mathlib.Omega.{arith}
-use Rattle.stream.proofs.SpotSteps.{linked_chained, seek_start, seek_some, seek_below, seek_next, located}
+use Rattle.stream.proofs.SpotSteps.{linked_chained, seek_start, seek_below, seek_next, located}
 use Rattle.stream.proofs.reading.locate.Goals as goal
 
 pub loop-offset-init : goal.loop-offset-init
-loop-offset-init c = seek_start (linked_chained c.args.x c.requires.sized c.requires.by_index c.requires.kind_value.0) _ c.requires.kind_value.1
+loop-offset-init c = seek_start (linked_chained c.args.x c.args.view.sized c.requires.by_index c.requires.kind_value.0) _ c.requires.kind_value.1
 
 pub next_block-block-requires : goal.next_block-block-requires
 next_block-block-requires c = let read = ap (λ (n : ℕ). n - 2) c.bytes-payload.ensures in
-    record { sized = c.loop-offset.invariant.chained.sized; b_lt_blocks = seek_below c.loop-offset.invariant read c.loop-offset-test.true }
-
-pub overflow_sub-left : goal.overflow_sub-left
-overflow_sub-left c = let read = ap (λ (n : ℕ). n - 2) c.bytes-payload.ensures in
-    omega (arith, seek_some c.loop-offset.invariant read c.loop-offset-test.true)
-
-pub loop-offset-smaller : goal.loop-offset-smaller
-loop-offset-smaller c = let read = ap (λ (n : ℕ). n - 2) c.bytes-payload.ensures in
-    omega (arith, seek_some c.loop-offset.invariant read c.loop-offset-test.true)
+    record { b_lt_blocks = seek_below c.loop-offset.invariant read c.loop-offset-test.true }
 
 pub loop-offset-preserved : goal.loop-offset-preserved
 loop-offset-preserved c = let read = ap (λ (n : ℕ). n - 2) c.bytes-payload.ensures in
     seek_next c.loop-offset.invariant read c.loop-offset-test.true _ c.next_block-block.ensures.result_value
 
-pub enter-requires : goal.enter-requires
-enter-requires c = record { chained = c.loop-offset.invariant.chained; offset_bound = omega (arith, c.loop-offset-test.false, c.bytes-payload.ensures) }
-
 pub returns : goal.returns
-returns c = record { result_value = located c.args.x c.args.position c.requires.kind_value.0 c.loop-offset.invariant _ c.enter.ensures.result_value; standing = c.enter.ensures.standing }
+returns c = located c.args.x c.args.position c.requires.kind_value.0 c.loop-offset.invariant _ c.enter.ensures

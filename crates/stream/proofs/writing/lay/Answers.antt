@@ -1,14 +1,10 @@
 -- Rests on `FillingSteps`: the buffer has room behind the byte, or is full, and then a block can be added.
 use mathlib.Core.Path.{refl}
-use Rattle.stream.proofs.FillingSteps.{laid_within, laid_ready, laid_full}
+use Rattle.stream.proofs.FillingSteps.{laid_within, laid_full}
 use Rattle.stream.proofs.writing.lay.Goals as goal
 
 pub returns-then-filled-gather : goal.returns-then-filled-gather
 returns-then-filled-gather c = record { gather_after = refl; laid_byte = laid_within c.requires c.if-filled-gather.true }
-
-pub add_below-b-requires : goal.add_below-b-requires
-add_below-b-requires c = let both = laid_ready c.requires c.if-filled-gather.false in
-    record { ready = both.0; none_from = both.1 }
 
 pub returns : goal.returns
 returns c = record {

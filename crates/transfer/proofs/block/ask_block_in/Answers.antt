@@ -1,17 +1,20 @@
 -- Rests on `AccessStage`: what `ask_file` refuses is refused, and of a file that is found the rows of access decide.
-use mathlib.Core.Path.{ap}
+use mathlib.Core.Path.{refl, ap}
 use mathlib.Core.Bool.{not}
+use Rattle.std.proofs.lemmas.Result.{err_from_is_err_and}
 use Rattle.asking.proofs.AccessStage.{access_refused, access_stopped, access_passed}
 use Rattle.transfer.specs.BlockRows.{open_for_input}
 use Rattle.transfer.proofs.block.ask_block_in.Goals as goal
 
-pub returns-in_default : goal.returns-in_default
-returns-in_default c = access_refused _ _ _ _ _ _ (λ x. not (open_for_input x)) _ c.ask_file-asked.ensures _ c.in_default.is
+pub returns-in_err-found : goal.returns-in_err-found
+returns-in_err-found c = let p = err_from_is_err_and c.from_residual.result c.from_residual.ensures.1 in
+    rw (p.1, p.2) (access_refused _ _ _ _ _ _ (λ x. not (open_for_input x)) _ c.in_err-found.ensures _ refl)
 
-pub returns-in-Refused : goal.returns-in-Refused
-returns-in-Refused c = access_stopped _ _ _ _ _ _ (λ x. not (open_for_input x)) _ c.ask_file-asked.ensures _ _ _ c.in-File.is _ (ap not c.is_open_for_input.ensures) _
-    c.judge_access-verdict.ensures _ c.in-Refused.is
+pub returns-in_err-judge_access : goal.returns-in_err-judge_access
+returns-in_err-judge_access c = let p = err_from_is_err_and c.from_residual-in_err-judge_access.result c.from_residual-in_err-judge_access.ensures.1 in
+    rw (p.1, p.2) (access_stopped _ _ _ _ _ _ (λ x. not (open_for_input x)) _ c.in_ok-found.ensures _ _ _ refl _ (ap not c.is_open_for_input.ensures) _
+    c.in_err-judge_access.ensures _ refl)
 
 pub returns : goal.returns
-returns c = access_passed _ _ _ _ _ _ (λ x. not (open_for_input x)) _ c.ask_file-asked.ensures _ _ _ c.in-File.is _ (ap not c.is_open_for_input.ensures) _
-    c.judge_access-verdict.ensures c.in_default-verdict.is
+returns c = access_passed _ _ _ _ _ _ (λ x. not (open_for_input x)) _ c.in_ok-found.ensures _ _ _ refl _ (ap not c.is_open_for_input.ensures) _
+    c.in_ok-judge_access.ensures refl
