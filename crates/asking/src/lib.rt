@@ -125,7 +125,8 @@ pub fn ask_right(right: Right, caller: usize, x: Entry) -> Result<(), Refusal>
     Err(Refusal::RightLacking)
 }
 
-// In a pack that was opened: what else can refuse comes behind 40.
+// In a pack that was opened: what else can refuse comes behind 40. In line, so that no `Found` is cleared and copied where the request is refused.
+#[inline(always)]
 pub fn ask_file(img: &[u8], opened: Opened, key: Key, wrong: bool) -> Result<Found, Refusal>
     requires { opened ≡ opened_of img.now }
     ensures { asked_in result ≡ asked_of img.now key wrong }

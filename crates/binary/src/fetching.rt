@@ -1,6 +1,6 @@
 // The data bytes of a formatted binary line, laid in the buffer and added up, part by part.
 ghost use Rattle.std.specs.Prelude.{◌≡◌, ◌≤◌, ◌<◌, length};
-ghost use Rattle.stream.specs.Tail.{rest};
+ghost use Rattle.stream.specs.Tail.{rest, ReadFrom};
 ghost use Rattle.lines.specs.LineSteps.{laid_all};
 ghost use Rattle.binary.specs.Fetching.{Fetched};
 
@@ -44,7 +44,8 @@ fn lay_part(part: &[u8], buffer: &mut [u8], count: usize)
 // The data bytes, so many at most.
 pub fn fetch_data<'a>(start: Tail<'a>, limit: usize, buffer: &mut [u8]) -> Fetch<'a>
     requires { (0 < length buffer.old) × (limit ≤ 512) }
-    ensures { Fetched (rest start.entry) limit buffer.old buffer.new result }
+    ensures bytes { Fetched (rest start.entry) limit buffer.old buffer.new result }
+    ensures image { ReadFrom start.entry.img.now start.entry.g result.behind }
 {
     let mut behind = start;
     let mut count = 0;

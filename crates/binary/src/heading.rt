@@ -1,7 +1,7 @@
 // What stands before the data of a formatted binary line: NULs, which are skipped, and its header of two words.
-ghost use Rattle.std.specs.Prelude.{◌≡◌, ◌≤◌, length};
+ghost use Rattle.std.specs.Prelude.{IfOk, ◌≡◌, ◌≤◌, length};
 ghost use Rattle.stream.specs.Spot.{most_bytes};
-ghost use Rattle.stream.specs.Tail.{rest};
+ghost use Rattle.stream.specs.Tail.{rest, ReadFrom};
 ghost use Rattle.binary.specs.BinaryRead.{nuls_before, count_read, header_of};
 ghost use Rattle.binary.specs.Heading.{LineBegins, WordStands, HeadingStands};
 
@@ -50,7 +50,8 @@ fn nuls_in(part: &[u8]) -> usize
 // "NULs before a line are skipped."
 pub fn skip_nuls(start: Tail<'_>) -> Begin<'_>
     requires { length (rest start) ≤ most_bytes }
-    ensures { LineBegins (rest start.entry) result }
+    ensures bytes { LineBegins (rest start.entry) result }
+    ensures image { ReadFrom start.entry.img.now start.entry.g result.line }
 {
     let mut tail = start;
     let mut nuls = 0;
@@ -72,7 +73,8 @@ pub fn skip_nuls(start: Tail<'_>) -> Begin<'_>
 }
 
 fn read_word(start: Tail<'_>) -> Result<Word<'_>, HeadingFault>
-    ensures { WordStands (rest start.entry) result }
+    ensures bytes { WordStands (rest start.entry) result }
+    ensures image { IfOk result (λ word. ReadFrom start.entry.img.now start.entry.g word.behind) }
 {
     if start.spot.left == 0 {
         return Err(HeadingFault::Cut(0));
@@ -89,7 +91,8 @@ fn read_word(start: Tail<'_>) -> Result<Word<'_>, HeadingFault>
 
 // "a count word of 4 plus the data bytes, low byte first"; "a count not 4 to 516" is wrong.
 fn read_count(start: Tail<'_>) -> Result<Heading<'_>, HeadingFault>
-    ensures { HeadingStands (rest start.entry) (count_read (rest start.entry)) 2 result }
+    ensures bytes { HeadingStands (rest start.entry) (count_read (rest start.entry)) 2 result }
+    ensures image { IfOk result (λ heading. ReadFrom start.entry.img.now start.entry.g heading.behind) }
 {
     let word = read_word(start)?;
     let low = word.low as usize;
@@ -110,7 +113,8 @@ fn read_count(start: Tail<'_>) -> Result<Heading<'_>, HeadingFault>
 
 // The header, word by word: a first word that is there is judged though nothing follows.
 pub fn read_header(start: Tail<'_>) -> Result<Heading<'_>, HeadingFault>
-    ensures { HeadingStands (rest start.entry) (header_of (rest start.entry)) 4 result }
+    ensures bytes { HeadingStands (rest start.entry) (header_of (rest start.entry)) 4 result }
+    ensures image { IfOk result (λ heading. ReadFrom start.entry.img.now start.entry.g heading.behind) }
 {
     let word = read_word(start)?;
     if word.low != 1 {

@@ -315,7 +315,8 @@ pub fn open_mapped(img: &[u8], map: &mut [u8]) -> Opened
     Some(g)
 }
 
-// For a request that neither takes blocks nor gives any up, and so needs no map afterwards.
+// For a request that neither takes blocks nor gives any up, and so needs no map afterwards. In line as `read_header` is, for its answer's sake.
+#[inline(always)]
 pub fn open_pack(img: &[u8]) -> Opened
     ensures { result ≡ opened_of img.now }
 {

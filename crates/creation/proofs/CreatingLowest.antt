@@ -56,13 +56,13 @@ module _ (img : List ℕ) (g : Geometry) where
     empty_next never = ap (empty_from img g e) left ∙ rw (first_used e (λ zero_word. never (is ∙ zero_word)))
 
   -- two entries on
+  pub pair_next : (e t : ℕ) → empty_from img g (e + 1 + 1) (t - (e + 1 + 1)) ≡ empty_from img g (e + 2) (t - (e + 2))
+  pair_next e t = let two : e + 1 + 1 ≡ e + 2 = omega arith in (λ j. empty_from img g (two j) (t - two j))
+
   pub empty_both : (e t word word' : ℕ) → e + 1 < t → word ≡ entry_word img g e 0 → (word ≡ 0 → ⊥) → word' ≡ entry_word img g (e + 1) 0 → (word' ≡ 0 → ⊥)
       → empty_from img g e (t - e) ≡ empty_from img g (e + 2) (t - (e + 2))
   empty_both e t word word' less is never is' never' =
-      let two : e + 1 + 1 ≡ e + 2 = omega arith in
-      empty_next e t word (omega (arith, less)) is never
-      ∙ empty_next (e + 1) t word' less is' never'
-      ∙ (λ j. empty_from img g (two j) (t - two j))
+      empty_next e t word (omega (arith, less)) is never ∙ empty_next (e + 1) t word' less is' never' ∙ pair_next e t
 
   pub empty_end : (e t : ℕ) → t ≤ e → empty_from img g e (t - e) ≡ none
   unfolding empty_from

@@ -4,11 +4,16 @@ use mathlib.Core.Path.{◌≡◌, sym, subst, ◌∙◌}
 use mathlib.Core.List.{List}
 use native.Mathlib.Omega.{arith}
 use lib.ListN.{length}
+use Rattle.pack.specs.declared.Geometry.{Geometry}
+use Rattle.pack.specs.declared.Segments.{Segments}
+use Rattle.pack.specs.declared.BlockNo.{BlockNo}
 use Rattle.pack.specs.GeometrySized.{Sized}
-use Rattle.pack.specs.Form.{segments_of}
+use Rattle.pack.specs.Form.{segments_of, bodies_of}
 use Rattle.pack.specs.Geometry.{segment_bytes}
+use Rattle.pack.specs.Map.{bits_set}
 use Rattle.pack.proofs.FormBounds.{segments_few, blocks_most, contents_before, uics_fit, map_fits}
 use Rattle.pack.proofs.GeometryRoom.{block_room}
+use Rattle.room.specs.Room.{run_from}
 use Rattle.creation.specs.Formattable.{uics_in, Formattable}
 use Rattle.creation.specs.Format.{system_bytes, measures_of}
 
@@ -49,6 +54,18 @@ module _ {long form blocks contents : ℕ} {uics : List ℕ} (f : Formattable lo
         most = omega (arith, f.measured.blocks_most, blocks_most form);
         map = omega (arith, f.measured.blocks_most, map_fits form f.measured.known);
       }
+
+-- the measures, from the numbers as they were read: the blocks before the bodies are marked as they are to be
+module _ {segments : Segments} {bodies : BlockNo} (form blocks contents : ℕ) (per : segments.0 ≡ segments_of form) (first : bodies.0 ≡ bodies_of form contents) where
+  abbrev read : Geometry
+  read = record { segments = segments; blocks = blocks; contents = contents; bodies = bodies }
+
+  measures_are : read ≡ measures_of form blocks contents
+  measures_are = λ i. record { segments = record { 0 = per i }; blocks = blocks; contents = contents; bodies = record { 0 = first i } }
+
+  pub system_marked : (img : List ℕ) {img' : List ℕ} → img' ≡ bits_set img read (run_from 0 bodies.0) 1
+      → img' ≡ bits_set img (measures_of form blocks contents) (run_from 0 (bodies_of form contents)) 1
+  system_marked img marks = marks ∙ (λ i. bits_set img (measures_are i) (run_from 0 (first i)) 1)
 
 -- another list as long is formattable alike
 pub same_long : {long long' form blocks contents : ℕ} {uics : List ℕ} → Formattable long form blocks contents uics → long' ≡ long

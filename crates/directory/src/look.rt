@@ -1,5 +1,6 @@
 // LOOK.
-ghost use Rattle.std.specs.Prelude.{◌≡◌};
+ghost use Rattle.std.specs.Prelude.{IfOk, ◌≡◌};
+ghost use Rattle.asking.specs.Asked.{file_of};
 ghost use Rattle.consistency.specs.ConsistentTest.{opened_of};
 ghost use Rattle.directory.specs.Look.{look, look_answer, look_outcome};
 
@@ -49,7 +50,8 @@ impl From<Result<Entry, Refusal>> for LookAnswer {
 }
 
 pub fn look(img: &[u8], key: Key) -> Result<Entry, Refusal>
-    ensures { look_outcome img.now (look_answer result) ≡ look img.now key }
+    ensures outcome { look_outcome img.now (look_answer result) ≡ look img.now key }
+    ensures entry { IfOk result (λ x. x ≡ file_of img.now key) }
 {
     look_opened(img, consistency::open_pack(img), key)
 }
@@ -57,7 +59,8 @@ pub fn look(img: &[u8], key: Key) -> Result<Entry, Refusal>
 // In a pack that was opened.
 pub fn look_opened(img: &[u8], opened: Opened, key: Key) -> Result<Entry, Refusal>
     requires { opened ≡ opened_of img.now }
-    ensures { look_outcome img.now (look_answer result) ≡ look img.now key }
+    ensures outcome { look_outcome img.now (look_answer result) ≡ look img.now key }
+    ensures entry { IfOk result (λ x. x ≡ file_of img.now key) }
 {
     let found = asking::ask_file(img, opened, key, false)?;
     Ok(found.entry)

@@ -18,6 +18,9 @@ use Rattle.answers.proofs.RefusalsTests.{true_not_false}
 use Rattle.faults.specs.Looking.{FirstWrong, Sought}
 
 module _ {Right : ℕ → Type 0} where
+  pub sought_none : {from : ℕ} → FirstWrong Right from from from
+  sought_none = record { low = omega arith; high = omega arith; before = λ i low less. absurd (omega arith); wrong = λ less. absurd (omega arith) }
+
   pub sought_on : {from at : ℕ} → FirstWrong Right from at at → Right at → FirstWrong Right from (at + 1) (at + 1)
   sought_on {from} {at} so_far here =
       record {
@@ -32,6 +35,9 @@ module _ {Right : ℕ → Type 0} where
 
   pub sought_here : {from end at : ℕ} → FirstWrong Right from at at → at < end → (Right at → ⊥) → Sought Right from end (Some at)
   sought_here so_far inside wrong = (record { low = so_far.low; high = omega arith; before = so_far.before; wrong = λ less. wrong }, inside)
+
+  pub sought_all : {from end at : ℕ} → FirstWrong Right from at at → at ≤ end → end ≤ at → FirstWrong Right from end at
+  sought_all so_far most done = record { low = so_far.low; high = most; before = so_far.before; wrong = λ less. absurd (omega arith) }
 
   -- was one found?
   module _ {from end : ℕ} where

@@ -29,13 +29,18 @@ pub fn wrong_key(img: &[u8], x: Entry) -> Option<usize>
     None
 }
 
-// The first entry before entry e that has its name, extension and UIC.
+// The first entry before entry e that has its name, extension and UIC. In a loop: of most keys it reads the first word alone, where `find` reads them whole.
 pub fn same_before(view: View<'_>, e: usize) -> Option<usize>
     requires { e < slots view.g }
     ensures { Sought (OtherKey view.entry.img.now view.entry.g e) 0 e result }
 {
     let key = view.read_key(e);
-    (0..e).find(|f| pack::is_same_key(view.read_key(*f), key))
+    for f in 0..e {
+        if pack::is_same_key(view.read_key(f), key) {
+            return Some(f);
+        }
+    }
+    None
 }
 
 // The first wrong one of words 4 and 5.

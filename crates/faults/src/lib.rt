@@ -131,7 +131,9 @@ impl From<Result<(), Fault>> for ReportAnswer {
     }
 }
 
-// Where the image is not consistent: by its header, then its entries, then the blocks that they share, then the map.
+// Where the image is not consistent: by its header, then its entries, then the blocks that they share, then the map. Its counts lie in a frame of its
+// own, so that the stack never holds them beside the map of the check.
+#[inline(never)]
 fn look(img: &[u8]) -> Result<(), Fault>
     ensures { Report img.now (report_in result) }
 {

@@ -48,12 +48,17 @@ module _ {way : Way} {src : List ℕ} {g h : Geometry} {bytes : ℕ} (source : S
         moved_by way g.blocks (omega (arith, high, sized.bodies)),
       )
 
-  -- the place of the bodies there is small
-  pub bodies_counted : h.bodies.0 * bytes ≤ 4096 * 512
-  bodies_counted =
-      let low : h.bodies.0 ≤ 4096 = omega (arith, end_there, blocks_there, blocks_small source.stated source.movable) in
-      let short : bytes ≤ 512 = omega (arith, size, sized.few) in
-      mul-le-mul low short
+  -- all products are small
+  few : (n : ℕ) → n ≤ 4096 → n * bytes ≤ 4096 * 512
+  few n low = let short : bytes ≤ 512 = omega (arith, size, sized.few) in mul-le-mul low short
+
+  -- the places of the bodies, here and there, and their bytes
+  pub bodies_counted : (g.bodies.0 * bytes ≤ 4096 * 512) × (h.bodies.0 * bytes ≤ 4096 * 512) × ((g.blocks - g.bodies.0) * bytes ≤ 4096 * 512)
+  bodies_counted = (
+    few g.bodies.0 (omega (arith, sized.bodies, sized.most)),
+    few h.bodies.0 (omega (arith, end_there, blocks_there, blocks_small source.stated source.movable)),
+    few (g.blocks - g.bodies.0) (omega (arith, sized.most)),
+  )
 
   -- both runs stand in the source and in the target
   module _ {long : ℕ} (is : long ≡ h.blocks * block_bytes g) where

@@ -1,13 +1,13 @@
 -- The rows of an open behind those of the file: the verdict that each return gives, and what is known of a file that passes them all.
 use Prim.Native.Nat.{ℕ, ◌<◌}
 use mathlib.Core.Path.{◌≡◌, sym, ◌∙◌}
-use mathlib.Core.Bool.{true, false, not, ◌&&◌}
+use mathlib.Core.Bool.{Bool, true, false, not, ◌&&◌}
 use mathlib.Core.List.{[], ◌∷◌}
 use native.Mathlib.Omega.{arith}
-use lib.Dec.{eqb}
+use lib.Dec.{eqb, ltb}
 use borrow.Author.Tests.{eq-eqb, ne_eqb, leb-false}
 use Rattle.answers.specs.Stage.{Verdict}
-use Rattle.answers.specs.Stage.{Refused}
+use Rattle.answers.specs.Stage.{Clear, Refused}
 use Rattle.answers.specs.Refusals.{row, first_of, on_success}
 use Rattle.answers.specs.Stage.{verdict_of}
 use Rattle.answers.proofs.Refusals.{none_given, pass, behind_refused}
@@ -18,7 +18,32 @@ use Rattle.asking.specs.RightsTest.{may}
 use Rattle.asking.specs.Opens.{opens}
 use Rattle.asking.specs.OpensTest.{is_full}
 use Rattle.opening.specs.declared.Opening.{Opening}
-use Rattle.opening.specs.OpenRows.{right_for, is_update, is_extension, mode_rows, opening_rows}
+use Rattle.opening.specs.OpenRows.{right_for, is_update, is_extension, is_writing, mode_rows, opening_rows}
+
+-- can the file be open in this mode too? The tests are as the code made them, of what it was told of the mode.
+module _ (mode : Opening) (x : Entry) (extends : Bool) (is-extends : extends ≡ is_extension mode) where
+  pub mode_5 : (extends && eqb x.kind 1) ≡ true → Refused 0o5 ≡ verdict_of (mode_rows mode x)
+  unfolding verdict_of on_success first_of
+  mode_5 is = rw (sym is-extends, is)
+
+  module _ (first : (extends && eqb x.kind 1) ≡ false) (updates : Bool) (is-updates : updates ≡ is_update mode) where
+    pub mode_43 : (updates && eqb x.kind 2) ≡ true → Refused 0o43 ≡ verdict_of (mode_rows mode x)
+    unfolding verdict_of on_success first_of
+    mode_43 is = rw (sym is-extends, first, sym is-updates, is)
+
+    module _ (second : (updates && eqb x.kind 2) ≡ false) (writes : Bool) (is-writes : writes ≡ is_writing mode) where
+      pub mode_4 : (writes && ltb 0 x.writer) ≡ true → Refused 0o4 ≡ verdict_of (mode_rows mode x)
+      unfolding verdict_of on_success first_of
+      mode_4 is = rw (sym is-extends, first, sym is-updates, second, sym is-writes, is)
+
+      module _ (third : (writes && ltb 0 x.writer) ≡ false) (full : Bool) (is-full : full ≡ is_full x) where
+        pub mode_3 : full ≡ true → Refused 0o3 ≡ verdict_of (mode_rows mode x)
+        unfolding verdict_of on_success first_of
+        mode_3 is = rw (sym is-extends, first, sym is-updates, second, sym is-writes, third, sym is-full, is)
+
+        pub mode_clear : full ≡ false → Clear ≡ verdict_of (mode_rows mode x)
+        unfolding verdict_of on_success first_of
+        mode_clear is = rw (sym is-extends, first, sym is-updates, second, sym is-writes, third, sym is-full, is)
 
 -- is the file whole, and may the caller open it? Behind that the mode decides.
 module _ (mode : Opening) (caller : ℕ) (x : Entry) where

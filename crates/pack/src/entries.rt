@@ -10,6 +10,15 @@ ghost use Rattle.pack.specs.Key.{key_in};
 
 use crate::{BlockNo, Entry, Geometry, Key};
 
+// The number of entries, used or empty.
+pub fn slot_count(g: Geometry) -> usize
+    requires { (g.contents ≤ most_blocks) × (g.segments.0 ≤ most_segments) }
+    ensures value { result ≡ slots g }
+    ensures upper_bound { result ≤ most_blocks * (4 * most_segments) }
+{
+    g.contents * (4 * g.segments.0)
+}
+
 // An image that has all blocks of its measures.
 #[derive(Clone, Copy)]
 pub struct View<'a> {
@@ -19,12 +28,11 @@ pub struct View<'a> {
 }
 
 impl<'a> View<'a> {
-    // The number of entries, used or empty.
     pub fn slot_count(self) -> usize
         ensures value { result ≡ slots self.entry.g }
         ensures upper_bound { result ≤ most_blocks * (4 * most_segments) }
     {
-        self.g.contents * (4 * self.g.segments.0)
+        slot_count(self.g)
     }
 
     pub fn entry_word(self, e: usize, i: usize) -> usize

@@ -97,6 +97,8 @@ pub fn is_listed(img: &[u8], uic: usize) -> bool
     is_among(img, uic, 4, words::word_at(img, 3))
 }
 
+// The measures of a pack whose header is right. In line, so that they go to the check in registers: as an `Option` in memory they are read back before they have arrived.
+#[inline(always)]
 pub fn read_header(img: &[u8]) -> Option<Geometry>
     ensures { result ≡ header_of img.now }
 {

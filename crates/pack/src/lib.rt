@@ -12,7 +12,7 @@ ghost use Rattle.std.specs.Prelude.{◌≡◌, ◌≤◌};
 ghost use Rattle.pack.specs.GeometrySized.{most_segments};
 ghost use Rattle.pack.specs.Geometry.{segment_words, segment_bytes};
 
-pub use entries::{View, is_same_key};
+pub use entries::{View, is_same_key, slot_count};
 pub use forms::{bodies_of, most_blocks, most_contents, most_uics, segments_of};
 pub use headers::{
     are_words_zero, is_among, is_distinct, is_listed, is_measured, is_stretch_zero, read_header,

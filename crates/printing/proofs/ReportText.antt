@@ -7,9 +7,9 @@ use lib.ListN.{length}
 use borrow.Author.Tests.{ne_eqb}
 use Rattle.words.specs.Text.{bytes}
 use Rattle.faults.specs.declared.Fault.{Fault}
+use Rattle.faults.specs.declared.ReportAnswer.{ReportAnswer}
 use Rattle.faults.specs.declared.Fault.TheVariants.{Size, Header, Field, SameName, Extent, Link, Loop, End, Shared, Map}
 use Rattle.faults.specs.Named.{rule_of, entry_named, word_named, block_named, numbers_of}
-use Rattle.faults.proofs.FaultNamed.{fault_some}
 use Rattle.faults.proofs.ReportConsistent.{report_one}
 use Rattle.printing.specs.Listing.{newline}
 use Rattle.printing.specs.Put.{Put}
@@ -41,9 +41,9 @@ module _ (fault : Fault) {s t : List ℕ} {i j : ℕ} where
       → Put s t i j (fault_line (numbers_of fault))
   put_fault_line put = subst (Put s t i j) (fault_pieces fault) put
 
-  pub put_faulty : Put s t i j (fault_line (numbers_of fault)) → Put s t i j (report_text (numbers_of fault))
-  unfolding report_text
-  put_faulty put = rw (ne_eqb (numbers_of fault).rule 0 (fault_some fault)) put
+pub put_faulty : (answer : ReportAnswer) {s t : List ℕ} {i j : ℕ} → (answer.rule ≡ 0 → ⊥) → Put s t i j (fault_line answer) → Put s t i j (report_text answer)
+unfolding report_text
+put_faulty answer some put = rw (ne_eqb answer.rule 0 some) put
 
 -- a report put at the start of a buffer is all that it is to hold
 pub printed : {img s t text : List ℕ} {k : ℕ} → ReportPrints img text → Put s t 0 k text → k ≤ longest_report → longest_report ≤ length s → PrintedReport img s t k

@@ -83,3 +83,9 @@ module _ {img₀ : List ℕ} {g : Geometry} (start count : ℕ) (sized : Sized i
               },
             ),
           )
+
+    -- behind the run all of it is taken
+    pub taking_end : start + count ≤ at → (img ≡ cleared img₀ g start count) × (map ≡ marked_from map₀ start count)
+    taking_end over =
+        let whole : at - start ≡ count = omega (arith, over, t.from, t.most) in
+        (t.image ∙ ap (cleared img₀ g start) whole, t.marks ∙ ap (marked_from map₀ start) whole)

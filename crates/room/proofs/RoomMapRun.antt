@@ -33,7 +33,16 @@ after_most false free = omega arith
 pub after_short : (is_free : Bool) (free next length : ℕ) → next ≡ free_after is_free free → free < length → (next ≡ length → ⊥) → next < length
 after_short is_free free next length counted short other = omega (arith, counted, after_most is_free free, other)
 
--- blocks that are held, and so many more in front
+-- blocks that are held: one more, and so many more in front
+pub held_more : {map : List ℕ} {from end next : ℕ} → HeldFrom map from end → (get_or map end 0 ≡ 0 → ⊥) → next ≡ end + 1 → HeldFrom map from next
+held_more {map} {from} {end} held here is-next = record {
+  within = omega (arith, held.within);
+  never = λ b low high. elim (ℕ_discrete b end) [
+    | yes is ↦ subst (λ (x : ℕ). get_or map x 0 ≡ 0 → ⊥) (sym is) here
+    | no other ↦ held.never b low (omega (arith, other))
+  ];
+}
+
 pub held_front : {map : List ℕ} {from middle b end : ℕ} → HeldFrom map from middle → middle ≡ b → HeldFrom map b end → HeldFrom map from end
 held_front {map} {from} {middle} front is back = record {
   within = omega (arith, front.within, back.within);

@@ -7,7 +7,7 @@ mod writing;
 ghost use Rattle.stream.specs.Spot.{Standing};
 
 use pack::{BlockNo, Geometry};
-pub use reading::{bytes_in, locate};
+pub use reading::{byte_at, bytes_in, locate};
 pub use writing::{ask_write, full_blocks, lay, lay_all, lay_bytes, lay_within};
 
 // A place in the payloads: a block and how many blocks there are from this one on; and, where there are any, the place of a byte in the image,

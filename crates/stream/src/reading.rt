@@ -5,7 +5,7 @@ ghost use Rattle.pack.specs.Geometry.{payload_bytes};
 ghost use Rattle.pack.specs.File.{link_of, blocks_of, count};
 ghost use Rattle.bodies.specs.Payloads.{payloads_of};
 ghost use Rattle.stream.specs.Spot.{payloads_from, Chained};
-ghost use Rattle.stream.specs.Tail.{rest};
+ghost use Rattle.stream.specs.Tail.{rest, ReadFrom};
 
 use crate::{Spot, Tail};
 use pack::{BlockNo, Entry, Geometry, View};
@@ -23,7 +23,8 @@ pub fn bytes_in(g: Geometry, x: Entry) -> usize
 fn enter(view: View<'_>, block: BlockNo, left: usize, offset: usize) -> Tail<'_>
     requires chained { Chained view.img.now view.g left block.0 }
     requires offset_bound { offset < payload_bytes view.g }
-    ensures { rest result ≡ drop offset (payloads_from view.entry.img.now view.entry.g left block.0) }
+    ensures bytes { rest result ≡ drop offset (payloads_from view.entry.img.now view.entry.g left block.0) }
+    ensures image { ReadFrom view.entry.img.now view.entry.g result }
 {
     let img = view.img;
     let g = view.g;
@@ -58,7 +59,8 @@ fn enter(view: View<'_>, block: BlockNo, left: usize, offset: usize) -> Tail<'_>
 pub fn locate(view: View<'_>, x: Entry, position: usize) -> Tail<'_>
     requires by_index { (z : ℕ) → 0 < count z (blocks_of view.img.now view.g x) → z < view.g.blocks }
     requires kind_value { (x.kind ≡ 2) × (position ≤ x.length * payload_bytes view.g) }
-    ensures { rest result ≡ drop position (payloads_of view.entry.img.now view.entry.g (blocks_of view.entry.img.now view.entry.g x)) }
+    ensures bytes { rest result ≡ drop position (payloads_of view.entry.img.now view.entry.g (blocks_of view.entry.img.now view.entry.g x)) }
+    ensures image { ReadFrom view.entry.img.now view.entry.g result }
 {
     let segments = view.g.segments;
     let payload = segments.bytes() - bodies::PAYLOAD;
@@ -73,18 +75,26 @@ pub fn locate(view: View<'_>, x: Entry, position: usize) -> Tail<'_>
     enter(view, block, left, offset)
 }
 
+pub fn byte_at(img: &[u8], spot: Spot) -> u8
+    requires { spot.at < length img.now }
+    ensures { result ≡ get_or img.now spot.at 0 }
+{
+    img[spot.at]
+}
+
 impl<'a> Tail<'a> {
     pub fn byte_at(self) -> u8
         requires { 0 < self.spot.left }
         ensures { result ≡ get_or self.entry.img.now self.entry.spot.at 0 }
     {
-        self.img[self.spot.at]
+        byte_at(self.img, self.spot)
     }
 
     // One byte on.
     pub fn step(self) -> Self
         requires { 0 < self.spot.left }
-        ensures { rest self.entry ≡ get_or self.entry.img.now self.entry.spot.at 0 ∷ rest result }
+        ensures bytes { rest self.entry ≡ get_or self.entry.img.now self.entry.spot.at 0 ∷ rest result }
+        ensures image { ReadFrom self.entry.img.now self.entry.g result }
     {
         let img = self.img;
         let g = self.g;
@@ -104,7 +114,8 @@ impl<'a> Tail<'a> {
     // The start of the next block's payload: one byte on from the last of this one.
     pub fn next_payload(self) -> Self
         requires { 0 < self.spot.left }
-        ensures { rest result ≡ payloads_from self.entry.img.now self.entry.g (self.entry.spot.left - 1) (link_of self.entry.img.now self.entry.g self.entry.spot.block.0) }
+        ensures bytes { rest result ≡ payloads_from self.entry.img.now self.entry.g (self.entry.spot.left - 1) (link_of self.entry.img.now self.entry.g self.entry.spot.block.0) }
+        ensures image { ReadFrom self.entry.img.now self.entry.g result }
     {
         let img = self.img;
         let g = self.g;
@@ -123,7 +134,8 @@ impl<'a> Tail<'a> {
     // So many bytes on, of those that are left of the payload.
     pub fn go_on(self, count: usize) -> Self
         requires { (0 < self.spot.left) × (self.spot.at + count ≤ self.spot.end) }
-        ensures { rest result ≡ drop count (rest self.entry) }
+        ensures bytes { rest result ≡ drop count (rest self.entry) }
+        ensures image { ReadFrom self.entry.img.now self.entry.g result }
     {
         let img = self.img;
         let g = self.g;

@@ -14,7 +14,9 @@ use consistency::Opened;
 use pack::{Geometry, Key};
 use room::Blocks;
 
-// One byte more in the gather buffer; where that fills it, a block is added to the file of entry e.
+// One byte more in the gather buffer; where that fills it, a block is added to the file of entry e. In line, so that who lays many bytes
+// makes no call for each.
+#[inline(always)]
 pub fn lay(
     img: &mut [u8],
     map: &mut [u8],

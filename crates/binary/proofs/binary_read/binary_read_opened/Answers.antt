@@ -56,8 +56,8 @@ read_part-part-requires c = let file =
     c.is_given_wrong.ensures _
     c.in_ok-found.ensures _ _ _ refl in
     record {
-      buffer_nonzero = binary_ready file _ c.bytes_in.ensures c.if-bytes_in-position.false _ c.locate-tail.ensures;
-      coming_bound = binary_passed_in file _ c.bytes_in.ensures c.if-bytes_in-position.false _ c.locate-tail.ensures;
+      buffer_nonzero = binary_ready file _ c.bytes_in.ensures c.if-bytes_in-position.false _ c.locate-tail.ensures.bytes;
+      coming_bound = binary_passed_in file _ c.bytes_in.ensures c.if-bytes_in-position.false _ c.locate-tail.ensures.bytes;
     }
 
 pub overflow_add-result : goal.overflow_add-result
@@ -66,7 +66,7 @@ overflow_add-result c = let file =
     c.in_ok-found.ensures _ _ _ refl in
     omega (
       arith,
-      binary_fits file _ c.bytes_in.ensures c.if-bytes_in-position.false _ c.locate-tail.ensures
+      binary_fits file _ c.bytes_in.ensures c.if-bytes_in-position.false _ c.locate-tail.ensures.bytes
           (rw c.from.ensures at c.read_part-part.ensures),
     )
 
@@ -74,5 +74,5 @@ pub returns : goal.returns
 returns c = let file =
     binary_asked c.args.img.now c.args.key c.args.caller c.args.mode c.args.position c.args.coming c.args.sum c.args.buffer.now c.is_given_wrong.ensures _
     c.in_ok-found.ensures _ _ _ refl in
-    let all = binary_done file _ c.bytes_in.ensures c.if-bytes_in-position.false _ c.locate-tail.ensures (rw c.from.ensures at c.read_part-part.ensures) in
+    let all = binary_done file _ c.bytes_in.ensures c.if-bytes_in-position.false _ c.locate-tail.ensures.bytes (rw c.from.ensures at c.read_part-part.ensures) in
     record { code_value = all.0; sum_value = all.1.0; buffer_after = all.1.1 }

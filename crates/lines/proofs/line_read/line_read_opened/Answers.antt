@@ -32,13 +32,13 @@ locate-tail-requires c = let file = line_read_asked _ _ c.args.caller c.args.mod
 
 pub read_payloads-line-requires : goal.read_payloads-line-requires
 read_payloads-line-requires c = let file = line_read_asked _ _ c.args.caller c.args.mode c.args.position c.args.buffer.now _ c.in_ok-found.ensures _ _ _ refl in
-    line_ready file c.bytes_in.ensures c.if-bytes_in-position.false _ c.locate-tail.ensures
+    line_ready file c.bytes_in.ensures c.if-bytes_in-position.false _ c.locate-tail.ensures.bytes
 
 pub overflow_add-result : goal.overflow_add-result
 overflow_add-result c = let file = line_read_asked _ _ c.args.caller c.args.mode c.args.position c.args.buffer.now _ c.in_ok-found.ensures _ _ _ refl in
-    omega (arith, line_fits file c.bytes_in.ensures c.if-bytes_in-position.false _ c.locate-tail.ensures _ _ c.from.ensures c.read_payloads-line.ensures)
+    omega (arith, line_fits file c.bytes_in.ensures c.if-bytes_in-position.false _ c.locate-tail.ensures.bytes _ _ c.from.ensures c.read_payloads-line.ensures)
 
 pub returns : goal.returns
 returns c = let file = line_read_asked _ _ c.args.caller c.args.mode c.args.position c.args.buffer.now _ c.in_ok-found.ensures _ _ _ refl in
-    let all = line_done file c.bytes_in.ensures c.if-bytes_in-position.false _ c.locate-tail.ensures _ _ c.from.ensures c.read_payloads-line.ensures in
+    let all = line_done file c.bytes_in.ensures c.if-bytes_in-position.false _ c.locate-tail.ensures.bytes _ _ c.from.ensures c.read_payloads-line.ensures in
     record { code_value = all.0; position_value = all.1.0; buffer_after = all.1.1 }

@@ -27,11 +27,11 @@ pub returns-in-Some : goal.returns-in-Some
 returns-in-Some c = follow_ended c.loop-tail.invariant c.loop-tail-test.true _ c.read_payload-reader.ensures.result_after c.in-Some.is
 
 pub loop-tail-smaller : goal.loop-tail-smaller
-loop-tail-smaller c = follow_less c.loop-tail.invariant c.loop-tail-test.true c.next_payload-tail.result c.next_payload-tail.ensures
+loop-tail-smaller c = follow_less c.loop-tail.invariant c.loop-tail-test.true c.next_payload-tail.result c.next_payload-tail.ensures.bytes
 
 pub loop-tail-preserved : goal.loop-tail-preserved
 loop-tail-preserved c = follow_next c.loop-tail.invariant c.loop-tail-test.true _ c.read_payload-reader.ensures.result_after c.in_default.is c.read_payload-reader.auto.buffer
-    c.read_payload-reader.ensures.count_le_passed c.next_payload-tail.ensures
+    c.read_payload-reader.ensures.count_le_passed c.next_payload-tail.ensures.bytes
 
 pub shape_of-buffer : goal.shape_of-buffer
 shape_of-buffer c = c.loop-tail.invariant.long

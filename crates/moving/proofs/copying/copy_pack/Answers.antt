@@ -7,7 +7,7 @@ pub copy_run-requires : goal.copy_run-requires
 copy_run-requires c = contents_inside c.requires.0 c.requires.1 c.bytes-bytes.ensures c.requires.2
 
 pub overflow_mul-to : goal.overflow_mul-to
-overflow_mul-to c = omega (arith, bodies_counted c.requires.0 c.requires.1 c.bytes-bytes.ensures)
+overflow_mul-to c = omega (arith, (bodies_counted c.requires.0 c.requires.1 c.bytes-bytes.ensures).1)
 
 pub copy_run-requires-2 : goal.copy_run-requires-2
 copy_run-requires-2 c = bodies_inside c.requires.0 c.requires.1 c.bytes-bytes.ensures c.requires.2 c.copy_run.ensures.long

@@ -2,5 +2,5 @@
 use Rattle.stream.proofs.SpotSteps.{spot_inside}
 use Rattle.stream.proofs.Tail.byte_at.Goals as goal
 
-pub bounds-self-self : goal.bounds-self-self
-bounds-self-self c = spot_inside c.args.self.standing c.requires
+pub byte_at-requires : goal.byte_at-requires
+byte_at-requires c = spot_inside c.args.self.standing c.requires

@@ -3,8 +3,8 @@ use native.Mathlib.Omega.{arith}
 use Rattle.stream.proofs.SpotPayload.{on_within, on_over}
 use Rattle.stream.proofs.Tail.go_on.Goals as goal
 
-pub returns-then-at-spot : goal.returns-then-at-spot
-returns-then-at-spot c = (on_within c.args.self.standing c.requires.0 c.args.count c.if-at-spot.true).0
+pub returns-then-at-spot-clause-bytes : goal.returns-then-at-spot-clause-bytes
+returns-then-at-spot-clause-bytes c = (on_within c.args.self.standing c.requires.0 c.args.count c.if-at-spot.true).0
 
-pub returns : goal.returns
-returns c = on_over c.args.self.standing c.requires.0 c.args.count (omega (arith, c.if-at-spot.false, c.requires.1)) _ c.next_payload.ensures
+pub returns-clause-bytes : goal.returns-clause-bytes
+returns-clause-bytes c = on_over c.args.self.standing c.requires.0 c.args.count (omega (arith, c.if-at-spot.false, c.requires.1)) _ c.next_payload.ensures.bytes

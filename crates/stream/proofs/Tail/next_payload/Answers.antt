@@ -2,5 +2,5 @@
 use Rattle.stream.proofs.SpotPayload.{behind_last}
 use Rattle.stream.proofs.Tail.next_payload.Goals as goal
 
-pub returns : goal.returns
-returns c = behind_last c.args.self.standing c.requires _ c.step.ensures
+pub returns-clause-bytes : goal.returns-clause-bytes
+returns-clause-bytes c = behind_last c.args.self.standing c.requires _ c.step.ensures.bytes

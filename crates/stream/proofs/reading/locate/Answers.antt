@@ -15,5 +15,5 @@ pub loop-offset-preserved : goal.loop-offset-preserved
 loop-offset-preserved c = let read = ap (λ (n : ℕ). n - 2) c.bytes-payload.ensures in
     seek_next c.loop-offset.invariant read c.loop-offset-test.true _ c.next_block-block.ensures.result_value
 
-pub returns : goal.returns
-returns c = located c.args.x c.args.position c.requires.kind_value.0 c.loop-offset.invariant _ c.enter.ensures
+pub returns-clause-bytes : goal.returns-clause-bytes
+returns-clause-bytes c = located c.args.x c.args.position c.requires.kind_value.0 c.loop-offset.invariant _ c.enter.ensures.bytes
