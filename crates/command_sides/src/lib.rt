@@ -101,7 +101,8 @@ fn choose(side: usize, k: usize, output: SideFound, input: SideFound) -> Option<
 }
 
 // "Command: output side, or output side, `<`, input side." Both are read, whichever is asked for: the line is refused as a whole, and its numbers are
-// looked at behind the grammar, all of them. Where the specification begins, if the line has it.
+// looked at behind the grammar, all of them. Where the specification begins, if the line has it. In line, so that CSI1, which asks for none, does not choose.
+#[inline(always)]
 pub fn read_line(line: &[u8], side: usize, k: usize) -> Result<Option<Cursor>, LineFault>
     ensures { LocatedIn line.now side k (located_in result) }
 {
