@@ -10,5 +10,7 @@ pub returns-then-next-eq0-clause-bytes : goal.returns-then-next-eq0-clause-bytes
 returns-then-next-eq0-clause-bytes c = word_one c.args.start c.step-next.result c.step-next.ensures.bytes c.if-next-eq0.true
 
 pub returns-clause-bytes : goal.returns-clause-bytes
-returns-clause-bytes c = word_two c.args.start c.step-next.result c.step-behind.result (first_byte c.step-next.ensures.bytes c.byte_at-low.ensures) (first_byte c.step-behind.ensures.bytes c.byte_at-high.ensures)
-    (omega (arith, c.byte_at-low)) (omega (arith, c.byte_at-high))
+returns-clause-bytes c =
+    let low = first_byte c.step-next.ensures.bytes c.byte_at-low.ensures in
+    let high = first_byte c.step-behind.ensures.bytes c.byte_at-high.ensures in
+    word_two c.args.start c.step-next.result c.step-behind.result low high (omega (arith, c.byte_at-low)) (omega (arith, c.byte_at-high))
